@@ -1,9 +1,12 @@
 //! The shapes of `ref_bench` in plain Rust, to compare the compilers' code: nanoseconds, the least of nine runs.
 
+mod word_runs;
+mod words;
+
 use std::collections::{HashSet, VecDeque};
 use std::sync::{Condvar, Mutex};
 use std::thread;
-use std::time::Instant;
+use std::time::{Duration, Instant};
 
 const RUNS: usize = 9;
 const NOTICES: u32 = 100_000;
@@ -113,11 +116,16 @@ fn calls(threads: u32) {
 }
 
 fn least(name: &str, count: u32, run: impl Fn()) {
-    let time = |_| {
+    least_of(name, count, || {
         let begin = Instant::now();
         run();
-        begin.elapsed().as_nanos() as f64 / f64::from(count)
-    };
+        begin.elapsed()
+    });
+}
+
+/// Of runs that tell themselves how long so many calls took.
+fn least_of(name: &str, count: u32, mut run: impl FnMut() -> Duration) {
+    let time = |_| run().as_nanos() as f64 / f64::from(count);
     let least = (0..RUNS).map(time).fold(f64::INFINITY, f64::min);
     println!("{name:<54} {least:>8.1} ns");
 }
@@ -129,6 +137,7 @@ fn main() {
         let name = format!("rustc: lock, deque, set, {pairs} putting, {pairs} taking, a notice");
         least(&name, NOTICES, || among(pairs));
     }
+    word_runs::all();
     for threads in [1, 2, 4, 8] {
         least(&format!("rustc: slots under a lock, {threads} calling, a call"), CALLS, || calls(threads));
     }

@@ -15,9 +15,9 @@ use std::thread;
 use std::thread::Threads;
 use std::time::Clock;
 
-const MUTATOR: MutNo = MutNo(0);
+pub const MUTATOR: MutNo = MutNo(0);
 
-const WORKER: WorkerNo = WorkerNo(0);
+pub const WORKER: WorkerNo = WorkerNo(0);
 
 /// So many references to one dead object there are: as many as the heap has room for.
 const DEAD: u32 = CONFIG.cells - 1;

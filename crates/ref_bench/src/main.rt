@@ -6,6 +6,7 @@ mod cleaner_runs;
 mod crowds;
 mod heap_runs;
 mod letters;
+mod load_runs;
 mod measure;
 mod plain_queue;
 mod queue_runs;

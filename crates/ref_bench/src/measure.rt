@@ -3,6 +3,7 @@
 use crate::cleaner_runs::jobs_registered_and_run;
 use crate::crowds::{plain_queue, shared_queue};
 use crate::heap_runs::{dead_references, hands, heap_calls, looks, scans};
+use crate::load_runs::{Dead, Part, Read, Route, cycle_part, reads};
 use crate::queue_runs::{plain_queue_alone, queue_alone, shared_queue_alone};
 use crate::script_run::script_steps;
 use crate::timing::Sample;
@@ -33,6 +34,10 @@ pub enum Measure {
     Hand,
     /// What one reference to a dead object costs, from the mark's end until its notice was polled and given back.
     DeadReference,
+    /// Loads or gets by one mutator.
+    Read(Read, Route, Dead),
+    /// A part of a cycle.
+    Cycle(Part),
     /// Calls of a shared heap by so many threads.
     HeapCallAmong(u32),
     /// A job that is registered and run by hand, while so many others are registered.
@@ -42,7 +47,7 @@ pub enum Measure {
 }
 
 /// All measures, in the order in which they are printed.
-pub const ALL: [Measure; 20] = [
+pub const ALL: [Measure; 33] = [
     Measure::Queue,
     Measure::SharedQueue,
     Measure::PlainQueue,
@@ -56,6 +61,19 @@ pub const ALL: [Measure; 20] = [
     Measure::Look,
     Measure::Hand,
     Measure::DeadReference,
+    Measure::Read(Read::Load, Route::Same, Dead::None),
+    Measure::Read(Read::Load, Route::Along, Dead::None),
+    Measure::Read(Read::Load, Route::AlongInMark, Dead::None),
+    Measure::Read(Read::Load, Route::Same, Dead::Third),
+    Measure::Read(Read::Load, Route::Along, Dead::Third),
+    Measure::Read(Read::Get, Route::Same, Dead::None),
+    Measure::Read(Read::Get, Route::Along, Dead::None),
+    Measure::Read(Read::Get, Route::AlongInMark, Dead::None),
+    Measure::Read(Read::Get, Route::Same, Dead::Third),
+    Measure::Read(Read::Get, Route::Along, Dead::Third),
+    Measure::Cycle(Part::Begin),
+    Measure::Cycle(Part::EndClear),
+    Measure::Cycle(Part::Sweep),
     Measure::HeapCallAmong(1),
     Measure::HeapCallAmong(2),
     Measure::HeapCallAmong(4),
@@ -86,6 +104,10 @@ impl Measure {
             Measure::DeadReference => {
                 format!(in alloc; "a dead reference, mark's end to notice polled")
             }
+            Measure::Read(read, route, dead) => {
+                format!(in alloc; "a {}{}{}", read.word(), route.words(), dead.words())
+            }
+            Measure::Cycle(part) => format!(in alloc; "{}", part.words()),
             Measure::HeapCallAmong(n) => format!(in alloc; "shared heap, {n} calling, a call"),
             Measure::CleanedJob(n) => {
                 format!(in alloc; "a job registered and run, {n} others registered")
@@ -112,6 +134,8 @@ impl Measure {
             Measure::Look => looks(rt, alloc),
             Measure::Hand => hands(rt, alloc),
             Measure::DeadReference => dead_references(rt, alloc),
+            Measure::Read(read, route, dead) => reads(rt, alloc, (read, route, dead), size),
+            Measure::Cycle(part) => cycle_part(rt, alloc, part),
             Measure::HeapCallAmong(n) => heap_calls(rt, alloc, n, size.saturating_mul(2_000)),
             Measure::CleanedJob(n) => jobs_registered_and_run(rt, alloc, n),
             Measure::ScriptStep => script_steps(rt, alloc, size.saturating_mul(500)),

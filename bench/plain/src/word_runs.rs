@@ -1,0 +1,191 @@
+//! Scans and looks, loads and gets along a chain of objects, and the parts of a cycle that work on all cells.
+
+use crate::least_of;
+use crate::words::{Fault, Heap, Strength};
+use std::hint::black_box;
+use std::time::{Duration, Instant};
+
+const CELLS: u32 = 4_096;
+const TIMES: u32 = 100;
+
+const MUTATORS: usize = 8;
+const WORKERS: usize = 1;
+const MUTATOR: u32 = 0;
+const WORKER: usize = 0;
+
+/// The slot of the last of the chain.
+const LAST: u32 = 0;
+/// That of what was made last.
+const NEWEST: u32 = 1;
+/// That to which one after the other is loaded.
+const HERE: u32 = 2;
+
+/// Which of the objects that are made die before they are read.
+#[derive(Clone, Copy, PartialEq)]
+enum Dead {
+    None,
+    Third,
+    Half,
+}
+
+impl Dead {
+    fn takes(self, place: u32) -> bool {
+        match self {
+            Dead::None => false,
+            Dead::Third => place % 3 == 2,
+            Dead::Half => place % 2 == 1,
+        }
+    }
+}
+
+/// Which objects are read.
+#[derive(Clone, Copy, PartialEq)]
+enum Route {
+    Same,
+    Along,
+    AlongInMark,
+}
+
+/// Prints what each costs.
+pub fn all() {
+    least_of("rustc: a scan that finds a reference", CELLS - 1, || scans().unwrap());
+    least_of("rustc: a look that clears it", CELLS - 1, || looks().unwrap());
+    reads("load", |heap, from| heap.load(MUTATOR, HERE, from, 0));
+    reads("get", |heap, from| heap.get(MUTATOR, HERE, from));
+    least_of("rustc: a begin, of 4,096 objects", 1, || half_dead().begin);
+    least_of("rustc: an end of clearing, half of 4,096 dead", 1, || half_dead().end_clear);
+    least_of("rustc: a sweep, half of 4,096 dead, an object", CELLS / 2, || half_dead().sweeps);
+}
+
+fn reads(word: &str, read: impl Fn(&mut Heap, u32) -> Result<Option<u32>, Fault>) {
+    for (route, dead, name) in [
+        (Route::Same, Dead::None, " of one object"),
+        (Route::Along, Dead::None, ", one after the other"),
+        (Route::AlongInMark, Dead::None, ", one after the other, first in a mark"),
+        (Route::Same, Dead::Third, " of one object, a third dead"),
+        (Route::Along, Dead::Third, ", one after the other, a third dead"),
+    ] {
+        let times = if route == Route::AlongInMark { 1 } else { TIMES };
+        let links = (1..CELLS).filter(|place| !dead.takes(*place)).count() as u32;
+        let run = || {
+            let mut heap = filled(dead).unwrap();
+            cycle(&mut heap).unwrap();
+            read_all(black_box(&mut heap), route, times, links, &read).unwrap()
+        };
+        least_of(&format!("rustc: a {word}{name}"), times * links, run);
+    }
+}
+
+/// So many times as many reads as there are links.
+fn read_all(
+    heap: &mut Heap,
+    route: Route,
+    times: u32,
+    links: u32,
+    read: impl Fn(&mut Heap, u32) -> Result<Option<u32>, Fault>,
+) -> Result<Duration, Fault> {
+    let from = if route == Route::Same { LAST } else { HERE };
+    if route == Route::AlongInMark {
+        heap.begin(0)?;
+    }
+    let mut sum = 0u64;
+    let time = Instant::now();
+    for _ in 0..times {
+        heap.copy(MUTATOR, HERE, LAST)?;
+        for _ in 0..links {
+            sum += read(heap, from)?.map_or(0, u64::from);
+        }
+    }
+    let time = time.elapsed();
+    black_box(sum);
+    Ok(time)
+}
+
+/// Scans, each of which finds a reference to a dead object.
+fn scans() -> Result<Duration, Fault> {
+    let mut heap = begun()?;
+    let heap = black_box(&mut heap);
+    let time = Instant::now();
+    for _ in 1..CELLS {
+        black_box(heap.scan(WORKER)?);
+    }
+    Ok(time.elapsed())
+}
+
+/// Looks, each of which clears a reference.
+fn looks() -> Result<Duration, Fault> {
+    let mut heap = begun()?;
+    end_mark(&mut heap)?;
+    let heap = black_box(&mut heap);
+    let time = Instant::now();
+    for _ in 1..CELLS {
+        black_box(heap.clear_next(WORKER)?);
+    }
+    Ok(time.elapsed())
+}
+
+/// A heap in a mark, with weak references to a dead object, each of which has the one before in a field.
+fn begun() -> Result<Heap, Fault> {
+    let (target, last) = (LAST, HERE);
+    let mut heap = Heap::new(MUTATORS, WORKERS, CELLS as usize, 0);
+    heap.alloc_obj(MUTATOR, target, 0)?;
+    for _ in 1..CELLS {
+        heap.alloc_ref(MUTATOR, NEWEST, Strength::Weak, target, Some(0), 1)?;
+        heap.store(MUTATOR, NEWEST, 0, last)?;
+        heap.copy(MUTATOR, last, NEWEST)?;
+    }
+    heap.drop_slot(MUTATOR, target)?;
+    heap.begin(0)?;
+    Ok(heap)
+}
+
+/// A cycle of a full heap, half of whose objects are dead.
+fn half_dead() -> Parts {
+    let mut heap = filled(Dead::Half).unwrap();
+    cycle(black_box(&mut heap)).unwrap()
+}
+
+/// As many references as there are cells, but for one object that they begin with. Each has the one before it that
+/// isn't to die as its referent and in a field. Those that are to die are let go at once.
+fn filled(dead: Dead) -> Result<Heap, Fault> {
+    let mut heap = Heap::new(MUTATORS, WORKERS, CELLS as usize, 0);
+    heap.alloc_obj(MUTATOR, LAST, 1)?;
+    for place in 1..CELLS {
+        heap.alloc_ref(MUTATOR, NEWEST, Strength::Weak, LAST, None, 1)?;
+        if !dead.takes(place) {
+            heap.store(MUTATOR, NEWEST, 0, LAST)?;
+            heap.copy(MUTATOR, LAST, NEWEST)?;
+        }
+    }
+    heap.drop_slot(MUTATOR, NEWEST)?;
+    Ok(heap)
+}
+
+/// How long the parts of a cycle took: its begin, the end of the clearing, and all sweeps.
+struct Parts {
+    begin: Duration,
+    end_clear: Duration,
+    sweeps: Duration,
+}
+
+fn cycle(heap: &mut Heap) -> Result<Parts, Fault> {
+    let time = Instant::now();
+    heap.begin(0)?;
+    let begin = time.elapsed();
+    end_mark(heap)?;
+    let time = Instant::now();
+    heap.end_clear()?;
+    let end_clear = time.elapsed();
+    let time = Instant::now();
+    while heap.sweep(WORKER)?.is_some() {}
+    let sweeps = time.elapsed();
+    heap.end_sweep()?;
+    Ok(Parts { begin, end_clear, sweeps })
+}
+
+/// The scans of a mark, and its end.
+fn end_mark(heap: &mut Heap) -> Result<(), Fault> {
+    while heap.scan(WORKER)?.is_some() {}
+    heap.end_mark()?;
+    Ok(())
+}

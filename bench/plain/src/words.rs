@@ -1,0 +1,298 @@
+//! A heap by coloured words, as a user would write it: it checks what safe Rust checks, and proves nothing.
+//!
+//! A word is a colour, the address of a page from 1 on, and one of its 64 cells. What slots hold has the good colour.
+//! What a field or a reference holds in another is healed where it is read: written anew in the good colour, and in a
+//! mark what it leads to becomes grey.
+
+mod cycle;
+
+use std::collections::VecDeque;
+
+const SLOTS: u32 = 16;
+const FIELDS: usize = 8;
+const CELLS: usize = 64;
+
+#[derive(Clone, Copy, Debug, PartialEq, Eq)]
+pub enum Fault {
+    NoSuchActor,
+    EmptySlot,
+    BadField,
+    NotAReference,
+    NoCell,
+    WrongPhase,
+    ClockBack,
+    GreyLeft,
+    ClearingLeft,
+    SweepLeft,
+}
+
+#[derive(Clone, Copy, PartialEq, Eq)]
+enum Phase {
+    Idle,
+    Marking,
+    Clearing,
+    Sweeping,
+}
+
+/// The runs make weak references alone.
+#[allow(dead_code)]
+#[derive(Clone, Copy, PartialEq, Eq)]
+pub enum Strength {
+    Soft,
+    Weak,
+    Phantom,
+}
+
+#[derive(Clone, Copy, PartialEq, Eq)]
+#[repr(u64)]
+enum Colour {
+    A = 1,
+    B = 2,
+    R = 3,
+}
+
+/// Null, which is 0, or the word of a cell.
+#[derive(Clone, Copy, PartialEq, Eq)]
+struct Word(u64);
+
+impl Word {
+    const NULL: Word = Word(0);
+    const PLACE: u64 = (1 << 62) - 1;
+
+    /// The first page, at address 1, has the places 0 to 63.
+    fn of(colour: Colour, place: usize) -> Word {
+        Word((colour as u64) << 62 | (place + CELLS) as u64)
+    }
+
+    /// Behind all places for null.
+    fn place(self) -> usize {
+        (self.0 & Word::PLACE).wrapping_sub(CELLS as u64) as usize
+    }
+
+    fn has(self, colour: Colour) -> bool {
+        self == Word::NULL || self.0 >> 62 == colour as u64
+    }
+}
+
+#[derive(Clone, Copy)]
+struct Reference {
+    strength: Strength,
+    referent: Word,
+    stamp: u64,
+    _queue: Option<u32>,
+}
+
+/// As large as a cell of `ref_bench`'s heap.
+#[derive(Clone)]
+struct Cell {
+    /// The number of the object, or 0 where the cell is free.
+    no: u32,
+    count: u32,
+    fields: [Word; FIELDS],
+    reference: Option<Reference>,
+    /// Where the reference behind it lies that the same worker found.
+    link: Option<u32>,
+    _rest: [u64; 4],
+}
+
+const _: () = assert!(size_of::<Cell>() == 144);
+
+impl Cell {
+    const FREE: Cell =
+        Cell { no: 0, count: 0, fields: [Word::NULL; FIELDS], reference: None, link: None, _rest: [0; 4] };
+
+    fn field(&self, field: u32) -> Option<Word> {
+        let fields = self.fields.get(..self.count as usize)?;
+        fields.get(field as usize).copied()
+    }
+}
+
+/// Which of a page's cells are taken, and which of these are marked.
+#[derive(Clone, Default)]
+struct Page {
+    taken: u64,
+    marked: u64,
+}
+
+pub struct Heap {
+    cells: Vec<Cell>,
+    pages: Vec<Page>,
+    first_open: usize,
+    slots: Vec<Word>,
+    good: Colour,
+    phase: Phase,
+    cycle: u64,
+    clock: u64,
+    span: u64,
+    last: u32,
+    grey: VecDeque<u32>,
+    /// For each worker, the first of the references that it found.
+    found: Vec<Option<u32>>,
+    /// What is left to sweep, the least number last.
+    dead: Vec<u32>,
+}
+
+impl Heap {
+    pub fn new(mutators: usize, workers: usize, cells: usize, span: u64) -> Heap {
+        let pages = cells.div_ceil(CELLS);
+        Heap {
+            cells: vec![Cell::FREE; pages * CELLS],
+            pages: vec![Page::default(); pages],
+            first_open: 0,
+            slots: vec![Word::NULL; mutators * SLOTS as usize],
+            good: Colour::R,
+            phase: Phase::Idle,
+            cycle: 0,
+            clock: 0,
+            span,
+            last: 0,
+            grey: VecDeque::with_capacity(cells),
+            found: vec![None; workers],
+            dead: Vec::with_capacity(cells),
+        }
+    }
+
+    pub fn alloc_obj(&mut self, mutator: u32, into: u32, fields: u32) -> Result<u32, Fault> {
+        let into = self.slot(mutator, into)?;
+        self.alloc(into, fields, None)
+    }
+
+    pub fn alloc_ref(
+        &mut self,
+        mutator: u32,
+        into: u32,
+        strength: Strength,
+        from: u32,
+        queue: Option<u32>,
+        fields: u32,
+    ) -> Result<u32, Fault> {
+        let into = self.slot(mutator, into)?;
+        let referent = self.slots[self.slot(mutator, from)?];
+        if referent == Word::NULL {
+            return Err(Fault::EmptySlot);
+        }
+        self.alloc(into, fields, Some(Reference { strength, referent, stamp: self.clock, _queue: queue }))
+    }
+
+    pub fn copy(&mut self, mutator: u32, into: u32, from: u32) -> Result<Option<u32>, Fault> {
+        let into = self.slot(mutator, into)?;
+        let value = self.slots[self.slot(mutator, from)?];
+        self.slots[into] = value;
+        Ok(self.number(value))
+    }
+
+    pub fn drop_slot(&mut self, mutator: u32, slot: u32) -> Result<(), Fault> {
+        let slot = self.slot(mutator, slot)?;
+        self.slots[slot] = Word::NULL;
+        Ok(())
+    }
+
+    pub fn store(&mut self, mutator: u32, into: u32, field: u32, from: u32) -> Result<(), Fault> {
+        let holder = self.slots[self.slot(mutator, into)?].place();
+        let value = self.slots[self.slot(mutator, from)?];
+        let cell = self.cells.get_mut(holder).ok_or(Fault::EmptySlot)?;
+        cell.field(field).ok_or(Fault::BadField)?;
+        cell.fields[field as usize] = value;
+        Ok(())
+    }
+
+    #[inline(always)]
+    pub fn load(&mut self, mutator: u32, into: u32, from: u32, field: u32) -> Result<Option<u32>, Fault> {
+        let into = self.slot(mutator, into)?;
+        let holder = self.slots[self.slot(mutator, from)?].place();
+        let cell = self.cells.get(holder).ok_or(Fault::EmptySlot)?;
+        let mut value = cell.field(field).ok_or(Fault::BadField)?;
+        if !value.has(self.good) {
+            value = self.heal_field(holder, field as usize, value);
+        }
+        self.slots[into] = value;
+        Ok(self.number(value))
+    }
+
+    #[inline(always)]
+    pub fn get(&mut self, mutator: u32, into: u32, from: u32) -> Result<Option<u32>, Fault> {
+        let into = self.slot(mutator, into)?;
+        let holder = self.slots[self.slot(mutator, from)?].place();
+        let cell = self.cells.get(holder).ok_or(Fault::EmptySlot)?;
+        let reference = cell.reference.ok_or(Fault::NotAReference)?;
+        let mut value = match reference.strength {
+            Strength::Soft | Strength::Weak => reference.referent,
+            Strength::Phantom => Word::NULL,
+        };
+        if !value.has(self.good) {
+            value = self.heal_referent(holder, value);
+        }
+        if reference.strength == Strength::Soft && value != Word::NULL {
+            self.cells[holder].reference = Some(Reference { referent: value, stamp: self.clock, ..reference });
+        }
+        self.slots[into] = value;
+        Ok(self.number(value))
+    }
+
+    // ---- parts of calls
+
+    fn slot(&self, mutator: u32, slot: u32) -> Result<usize, Fault> {
+        let place = mutator as usize * SLOTS as usize + slot as usize;
+        if slot < SLOTS && place < self.slots.len() {
+            Ok(place)
+        } else {
+            Err(Fault::NoSuchActor)
+        }
+    }
+
+    fn number(&self, value: Word) -> Option<u32> {
+        self.cells.get(value.place()).map(|cell| cell.no)
+    }
+
+    /// A new object in the lowest free cell of the first page that has one; what is made in a cycle is marked.
+    fn alloc(&mut self, into: usize, fields: u32, reference: Option<Reference>) -> Result<u32, Fault> {
+        if fields as usize > FIELDS {
+            return Err(Fault::BadField);
+        }
+        while self.pages.get(self.first_open).is_some_and(|page| page.taken == u64::MAX) {
+            self.first_open += 1;
+        }
+        let page = self.pages.get_mut(self.first_open).ok_or(Fault::NoCell)?;
+        let cell = page.taken.trailing_ones();
+        page.taken |= 1 << cell;
+        if self.phase != Phase::Idle {
+            page.marked |= 1 << cell;
+        }
+        let place = self.first_open * CELLS + cell as usize;
+        self.last += 1;
+        self.cells[place] = Cell { no: self.last, count: fields, reference, ..Cell::FREE };
+        self.slots[into] = Word::of(self.good, place);
+        Ok(self.last)
+    }
+
+    fn heal_field(&mut self, holder: usize, field: usize, value: Word) -> Word {
+        let healed = self.heal(value);
+        self.cells[holder].fields[field] = healed;
+        healed
+    }
+
+    /// Once the mark has ended, a reference to a dead object is cleared.
+    fn heal_referent(&mut self, holder: usize, value: Word) -> Word {
+        let is_past_mark = matches!(self.phase, Phase::Clearing | Phase::Sweeping);
+        let is_dead = is_past_mark && !self.is_marked(value.place());
+        let healed = if is_dead { Word::NULL } else { self.heal(value) };
+        if let Some(reference) = &mut self.cells[holder].reference {
+            reference.referent = healed;
+        }
+        healed
+    }
+
+    /// The word in the good colour. In a mark what it leads to becomes grey, unless it is marked.
+    fn heal(&mut self, word: Word) -> Word {
+        let place = word.place();
+        if self.phase == Phase::Marking && !self.is_marked(place) {
+            self.pages[place / CELLS].marked |= 1 << (place % CELLS);
+            self.grey.push_back(place as u32);
+        }
+        Word::of(self.good, place)
+    }
+
+    fn is_marked(&self, place: usize) -> bool {
+        self.pages[place / CELLS].marked >> (place % CELLS) & 1 == 1
+    }
+}
