@@ -19,7 +19,8 @@ impl<A: Allocator + Copy> Heap<A> {
     /// Begins a cycle at this clock, and answers its number. All objects become white; then the roots become grey: what
     /// the slots hold, mutator by mutator, what is held, by number, and the pending references, worker by worker in
     /// list order. Tried in this order: `WrongPhase` where a cycle hasn't ended, `ClockBack` where the clock is later,
-    /// `NumbersSpent` after 2^64 - 1 cycles. In time of the cells.
+    /// `NumbersSpent` after 2^64 - 1 cycles. In time of the slots, of what is pending and, where something is
+    /// held, of the objects.
     pub fn begin(&mut self, now: u64, urgency: Urgency) -> Result<u64, Fault>
         ensures { HeapDoes self.old (Plain (Begin now urgency)) (reply_of Reply.Cycle result) self.new }
     {

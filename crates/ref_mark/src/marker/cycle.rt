@@ -26,7 +26,7 @@ impl<A: Allocator + Copy> Marker<A> {
     /// Begins a cycle at this clock, and answers its number. All objects become white; then what the slots hold
     /// becomes grey, mutator by mutator, and then what is held, by number. Tried in this order: `WrongPhase` where a
     /// cycle hasn't ended, `ClockBack` where the clock is later, `NumbersSpent` after 2^64 - 1 cycles. In time of the
-    /// cells.
+    /// slots and, where something is held, of the objects.
     pub fn begin(&mut self, now: u64, urgency: Urgency) -> Result<u64, Fault>
         ensures { MarkerDoes self.old (Plain (Begin now urgency)) (reply_of Reply.Cycle result) self.new }
     {
