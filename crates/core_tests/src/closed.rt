@@ -1,4 +1,4 @@
-//! Whether what isn't marked may be condemned.
+//! Whether what isn't marked may be condemned, and the call where it may.
 
 ghost use Rattle.std.specs.Prelude.{◌≡◌, ℕ, true, Some};
 ghost use Rattle.std.specs.Bool.{OnTrue};
@@ -9,7 +9,7 @@ ghost use Rattle.ref_space.specs.Tables.{fields_in};
 ghost use Rattle.ref_objects.specs.Grounds.{IsClosed, named_in};
 
 use ref_base::{MutNo, ObjNo, SlotNo};
-use ref_objects::{Fields, Objects};
+use ref_objects::{Fields, Objects, Worklist};
 use std::alloc::Allocator;
 
 /// Whether no slot, no hold and nothing that is marked refers to what isn't marked. In time of the slots and of the
@@ -18,6 +18,18 @@ pub fn is_closed<A: Allocator + Copy>(heap: &Objects<A>) -> bool
     ensures { OnTrue result (IsClosed heap.now.heap (has heap.now.marked)) }
 {
     are_slots_closed(heap) && are_objects_closed(heap)
+}
+
+/// Condemns what isn't marked, where that may be and the list has room. False else: then nothing changes.
+pub fn condemn_if_closed<A: Allocator + Copy>(
+    heap: &mut Objects<A>,
+    condemned: &mut Worklist<A>,
+) -> bool {
+    if condemned.room() < heap.object_count() || !is_closed(heap) {
+        return false;
+    }
+    heap.condemn(condemned);
+    true
 }
 
 // Whether what slots hold is marked.

@@ -7,12 +7,12 @@ mod refusals;
 use crate::closed::is_closed;
 use crate::hand::{adopted, leak, released, taken};
 use crate::told::{
-    Told, began, done, doomed, expect, found, is, is_or_fault, looked, made, scanned, value,
+    Told, began, done, doomed, expect, is, is_or_fault, looked, made, scanned, value,
     value_or_fault,
 };
 use ref_base::{Config, Fault, MutNo, ObjNo, QueueNo, SlotNo, Strength, Urgency, WorkerNo};
 use ref_mark::Marker;
-use ref_objects::{Hold, Look, Start};
+use ref_objects::{Entry, Hold, Look, Start, Worklist};
 use std::alloc::Global;
 use std::process::Abort;
 use std::test::Fail;
@@ -62,7 +62,10 @@ enum Collect {
     /// Of this worker.
     TakeFound(u32),
     GreyRoot(u32),
+    /// The object of this number, wherever it lies.
     Free(u32),
+    /// The next of the list of the condemned.
+    FreeNext,
     ToSweeping,
     ToIdle,
 }
@@ -73,7 +76,6 @@ enum Ask {
     InPhase,
     Cycle,
     IsDoomed(u32),
-    DoomedFrom(u32),
     HasFound,
     SlotOf(u32),
     ReferentOf(u32),
@@ -132,19 +134,34 @@ fn mutated(heap: &mut Marker, call: Mutate) -> Told {
     }
 }
 
-fn collected(heap: &mut Marker, call: Collect) -> Told {
+// Frees the next that is listed, and tells its number.
+fn freed_next(heap: &mut Marker, condemned: &mut Worklist) -> Told {
+    let Some(entry) = condemned.take_first() else {
+        return Told::Nothing;
+    };
+    let number = entry.no.0;
+    if heap.free(entry) {
+        Told::Found(number)
+    } else {
+        Told::No
+    }
+}
+
+fn collected(heap: &mut Marker, condemned: &mut Worklist, call: Collect) -> Told {
     match call {
         Collect::Begin(now, urgency) => return began(heap.begin(now, urgency)),
         Collect::Scan(worker) => return scanned(heap.scan(WorkerNo(worker))),
         Collect::EndMark => return doomed(heap.end_mark()),
         Collect::TakeFound(worker) => return found_or_fault(heap.take_found(WorkerNo(worker))),
-        Collect::Free(no) => return is(heap.free(ObjNo(no))),
+        Collect::Free(no) => return is(heap.free(Entry::of(ObjNo(no)))),
+        Collect::FreeNext => return freed_next(heap, condemned),
         Collect::GreyRoot(no) => heap.grey_root(ObjNo(no)),
         Collect::ToSweeping => {
-            if heap.has_found() || !is_closed(heap.objects()) {
+            let count = heap.objects().object_count();
+            if heap.has_found() || condemned.room() < count || !is_closed(heap.objects()) {
                 return Told::No;
             }
-            heap.to_sweeping();
+            heap.to_sweeping(condemned);
         }
         Collect::ToIdle => {
             if heap.has_doomed() {
@@ -161,7 +178,6 @@ fn asked(heap: &Marker, call: Ask) -> Told {
         Ask::InPhase => Told::In(heap.phase()),
         Ask::Cycle => Told::Count(heap.cycle()),
         Ask::IsDoomed(no) => is(heap.is_doomed(ObjNo(no))),
-        Ask::DoomedFrom(no) => found(heap.doomed_from(ObjNo(no))),
         Ask::HasFound => is(heap.has_found()),
         Ask::SlotOf(slot) => value_or_fault(heap.objects().slot_of(M, SlotNo(slot))),
         Ask::ReferentOf(no) => value(heap.objects().referent_of(ObjNo(no))),
@@ -193,10 +209,15 @@ fn kept(heap: &mut Marker, hand: &mut Option<Hold>, call: Keep) -> Told {
     }
 }
 
-fn answer(heap: &mut Marker, hand: &mut Option<Hold>, call: Call) -> Told {
+fn answer(
+    heap: &mut Marker,
+    condemned: &mut Worklist,
+    hand: &mut Option<Hold>,
+    call: Call,
+) -> Told {
     match call {
         Call::Mutate(call) => mutated(heap, call),
-        Call::Collect(call) => collected(heap, call),
+        Call::Collect(call) => collected(heap, condemned, call),
         Call::Ask(call) => asked(heap, call),
         Call::Keep(call) => kept(heap, hand, call),
     }
@@ -219,9 +240,11 @@ fn agree_from(
     story: &[(Call, Told)],
 ) -> Result<(), Fail> {
     let mut heap = Marker::starting(alloc, CONFIG, 1, start)?;
+    let mut condemned = Worklist::new(alloc, CONFIG.cells as usize)?;
     let mut hand = None;
     for (row, &(call, want)) in story.iter().enumerate() {
-        expect(rt, row, answer(&mut heap, &mut hand, call), want);
+        let told = answer(&mut heap, &mut condemned, &mut hand, call);
+        expect(rt, row, told, want);
     }
     leak(hand);
     Ok(())

@@ -4,13 +4,13 @@ mod cells;
 mod memory;
 mod stories;
 
-use crate::closed::is_closed;
+use crate::closed::condemn_if_closed;
 use crate::hand::{adopted, leak, released, shown, taken};
 use crate::told::{
     Told, done, expect, found, is, kind, looked, made, queue, value, value_or_fault,
 };
 use ref_base::{Config, Fault, MutNo, ObjNo, QueueNo, SlotNo, Strength};
-use ref_objects::{Colour, Hold, Objects, Reference, Start};
+use ref_objects::{Colour, Entry, Hold, Objects, Reference, Start, Worklist};
 use std::alloc::{Allocator, Global};
 use std::mem;
 use std::process::Abort;
@@ -54,7 +54,10 @@ enum Do {
     MarkSlotAt(usize),
     DropSlot(u32),
     SetSlot(u32, Option<u32>),
+    /// Frees the object of this number, wherever it lies.
     Free(u32),
+    /// Frees the next of the list of the condemned.
+    FreeNext,
     /// Frees the object of this number as a cycle does that reaches every other. No object is marked then.
     Sweep(u32),
     Mark(u32),
@@ -114,7 +117,6 @@ enum Ask {
     IsUnmarked(u32),
     IsCondemned(u32),
     UnmarkedCount,
-    UnmarkedFrom(u32),
 }
 
 /// A call that takes a hold or gives one back. A story has a hand, which holds one at most.
@@ -140,9 +142,16 @@ fn slot_at<A: Allocator + Copy>(heap: &Objects<A>, place: u32) -> Told {
     }
 }
 
-fn found_or_fault(answer: Result<Option<ObjNo>, Fault>) -> Told {
+fn listed(answer: Option<Entry>) -> Told {
     match answer {
-        Ok(answer) => found(answer),
+        Some(entry) => Told::Found(entry.no.0),
+        None => Told::Nothing,
+    }
+}
+
+fn listed_or_fault(answer: Result<Option<Entry>, Fault>) -> Told {
+    match answer {
+        Ok(answer) => listed(answer),
         Err(fault) => Told::Refused(fault),
     }
 }
@@ -176,19 +185,43 @@ fn mark_but<A: Allocator + Copy>(heap: &mut Objects<A>, no: ObjNo) {
 }
 
 // Frees an object as a cycle does that reaches every other: false where something else refers to it.
-fn swept<A: Allocator + Copy>(heap: &mut Objects<A>, no: ObjNo) -> bool {
+fn swept<A: Allocator + Copy>(
+    heap: &mut Objects<A>,
+    condemned: &mut Worklist<A>,
+    no: ObjNo,
+) -> bool {
     heap.begin_marks(Colour::A);
     mark_but(heap, no);
-    if is_closed(heap) {
-        heap.condemn();
-    }
-    let is_free = heap.free(no);
+    condemn_if_closed(heap, condemned);
+    let is_free = freed(heap, no);
     heap.end_cycle();
     heap.begin_marks(Colour::A);
     is_free
 }
 
-fn changed<A: Allocator + Copy>(heap: &mut Objects<A>, call: Do) -> Told {
+// Frees an object, of which only the number is known.
+fn freed<A: Allocator + Copy>(heap: &mut Objects<A>, no: ObjNo) -> bool {
+    heap.free(Entry::of(no))
+}
+
+// Frees the next that is listed, and tells its number.
+fn freed_next<A: Allocator + Copy>(heap: &mut Objects<A>, condemned: &mut Worklist<A>) -> Told {
+    let Some(entry) = condemned.take_first() else {
+        return Told::Nothing;
+    };
+    let number = entry.no.0;
+    if heap.free(entry) {
+        Told::Found(number)
+    } else {
+        Told::No
+    }
+}
+
+fn changed<A: Allocator + Copy>(
+    heap: &mut Objects<A>,
+    condemned: &mut Worklist<A>,
+    call: Do,
+) -> Told {
     match call {
         Do::New(slot, fields) => made(heap.alloc_obj(M, SlotNo(slot), fields)),
         Do::NewOf(m, slot, fields) => made(heap.alloc_obj(MutNo(m), SlotNo(slot), fields)),
@@ -205,23 +238,28 @@ fn changed<A: Allocator + Copy>(heap: &mut Objects<A>, call: Do) -> Told {
             value_or_fault(heap.get(M, SlotNo(slot), SlotNo(source), hides))
         }
         Do::CutIn(slot, spares) => done(heap.cut_in(M, SlotNo(slot), spares)),
-        Do::MarkSlot(slot) => found_or_fault(heap.mark_slot(M, SlotNo(slot))),
+        Do::MarkSlot(slot) => listed_or_fault(heap.mark_slot(M, SlotNo(slot))),
         Do::MarkSlotAt(place) => {
             if place >= heap.slot_count() {
                 return Told::Nothing;
             }
-            found(heap.mark_slot_at(place))
+            listed(heap.mark_slot_at(place))
         }
         Do::DropSlot(slot) => done(heap.drop_slot(M, SlotNo(slot))),
         Do::SetSlot(slot, no) => done(heap.set_slot(M, SlotNo(slot), no.map(|no| ObjNo(no)))),
-        Do::Free(no) => is(heap.free(ObjNo(no))),
-        Do::Sweep(no) => is(swept(heap, ObjNo(no))),
+        Do::Free(no) => is(freed(heap, ObjNo(no))),
+        Do::FreeNext => freed_next(heap, condemned),
+        Do::Sweep(no) => is(swept(heap, condemned, ObjNo(no))),
         Do::Mark(no) => is(heap.mark(ObjNo(no))),
         Do::LookAt(no, cycle) => looked(heap.look_at(ObjNo(no), cycle)),
     }
 }
 
-fn after_setting<A: Allocator + Copy>(heap: &mut Objects<A>, call: Set) -> Told {
+fn after_setting<A: Allocator + Copy>(
+    heap: &mut Objects<A>,
+    condemned: &mut Worklist<A>,
+    call: Set,
+) -> Told {
     match call {
         Set::ClockTo(now) => heap.set_clock(now),
         Set::Stamp(no, stamp) => heap.set_stamp(ObjNo(no), stamp),
@@ -230,10 +268,9 @@ fn after_setting<A: Allocator + Copy>(heap: &mut Objects<A>, call: Set) -> Told 
         Set::Link(no, to) => heap.set_link(ObjNo(no), to),
         Set::BeginMarks => heap.begin_marks(Colour::A),
         Set::Condemn => {
-            if !is_closed(heap) {
+            if !condemn_if_closed(heap, condemned) {
                 return Told::No;
             }
-            heap.condemn();
         }
         Set::EndCycle => heap.end_cycle(),
     }
@@ -275,7 +312,6 @@ fn asked<A: Allocator + Copy>(heap: &Objects<A>, call: Ask) -> Told {
         Ask::IsUnmarked(no) => is(heap.is_unmarked(ObjNo(no))),
         Ask::IsCondemned(no) => is(heap.is_condemned(ObjNo(no))),
         Ask::UnmarkedCount => Told::Count(heap.unmarked_count() as u64),
-        Ask::UnmarkedFrom(no) => found(heap.unmarked_from(ObjNo(no))),
     }
 }
 
@@ -303,17 +339,18 @@ fn kept<A: Allocator + Copy>(heap: &mut Objects<A>, hand: &mut Option<Hold>, cal
     }
 }
 
-/// The two heaps of a story, and its hand.
+/// The two heaps of a story, what was condemned last, and its hand.
 struct Bench<A: Allocator> {
     heap: Objects<A>,
     other: Objects<A>,
+    condemned: Worklist<A>,
     hand: Option<Hold>,
 }
 
 fn answer<A: Allocator + Copy>(bench: &mut Bench<A>, call: Call) -> Told {
     match call {
-        Call::Do(call) => changed(&mut bench.heap, call),
-        Call::Set(call) => after_setting(&mut bench.heap, call),
+        Call::Do(call) => changed(&mut bench.heap, &mut bench.condemned, call),
+        Call::Set(call) => after_setting(&mut bench.heap, &mut bench.condemned, call),
         Call::Ask(call) => asked(&bench.heap, call),
         Call::Keep(call) => kept(&mut bench.heap, &mut bench.hand, call),
         Call::TurnToOther => {
@@ -339,11 +376,13 @@ fn make_calls<A: Allocator + Copy>(
     rt: &impl Abort,
     heap: Objects<A>,
     other: Objects<A>,
+    condemned: Worklist<A>,
     story: &[(Call, Told)],
 ) {
     let mut bench = Bench {
         heap,
         other,
+        condemned,
         hand: None,
     };
     for (row, &(call, want)) in story.iter().enumerate() {
@@ -352,6 +391,7 @@ fn make_calls<A: Allocator + Copy>(
     let Bench {
         heap: _heap,
         other: _other,
+        condemned: _condemned,
         hand,
     } = bench;
     leak(hand);
@@ -367,7 +407,8 @@ fn agree_from(
 ) -> Result<(), Fail> {
     let heap = Objects::starting(alloc, config, 1, start)?;
     let other = Objects::new(alloc, config, 2)?;
-    make_calls(rt, heap, other, story);
+    let condemned = Worklist::new(alloc, config.cells as usize)?;
+    make_calls(rt, heap, other, condemned, story);
     Ok(())
 }
 

@@ -8,8 +8,8 @@ use Rattle.ref_base.specs.declared.heap_step.HeapStep.TheVariants as heap
 use Rattle.ref_base.specs.declared.plain_step.PlainStep.TheVariants as plain
 use Rattle.ref_base.specs.declared.reply.Reply.TheVariants as replies
 
-module _ {k j : CycleHeap} {lists : List (List ℕ)} {swept_to now : ℕ} {how : Urgency}
-    (sound : AreSoundLists k lists swept_to) where
+module _ {k j : CycleHeap} {lists : List (List ℕ)} {condemned : List ℕ} {now : ℕ} {how : Urgency}
+    (sound : AreSoundLists k lists condemned) where
   -- where the marker refuses it, nothing changes
   module _ {fault : Fault} (does : MarkerDoes k (heap.Plain (plain.Begin now how)) (replies.Refused fault) j) where
     pub refused_by : (refused : Option Fault)
@@ -44,5 +44,5 @@ module _ {k j : CycleHeap} {lists : List (List ℕ)} {swept_to now : ℕ} {how :
     does_begun view =
         rw (← view) (record { answer = does.answer; after = left })
 
-    pub sound_begun : AreSoundLists i lists swept_to
+    pub sound_begun : AreSoundLists i lists condemned
     sound_begun = sound_shaded sound does shades_lists refl left

@@ -3,8 +3,9 @@ use Rattle.ref_clear.proofs.Common.{arith, ◌≡◌, ℕ, true, false, not, ref
 use Rattle.ref_clear.proofs.Common.{None, joined, NamedStep, Reply, is_in, is_empty, work_refusal, Fault, Urgency}
 use Rattle.ref_clear.proofs.Common.{CycleHeap, Clearing, Idle, Sweeping, shaded_all, cycle_in_phase, doomed, ClearHeap}
 use Rattle.ref_clear.proofs.Common.{with_mark, answer_in, after_in, swept_some, Chain, lists_in, seen_heap, seen_lists}
-use Rattle.ref_clear.proofs.Common.{IsSoundHeap, MaySweep, MarkerDoes, answer_in_cycle, after_in_cycle, Heap}
-use Rattle.ref_clear.proofs.Common.{unless_refused, cycle_begun, HeapDoes, IsWellFormed, sweep_begun, ground_of, has}
+use Rattle.ref_clear.proofs.Common.{IsSoundHeap, MaySweep, MarkerDoes, answer_in_cycle, after_in_cycle, Heap, ◌≤◌}
+use Rattle.ref_clear.proofs.Common.{length, unmarked, Worklist, emptied_list, with_more, unless_refused, cycle_begun}
+use Rattle.ref_clear.proofs.Common.{HeapDoes, IsWellFormed, sweep_begun, ground_of, has}
 use Rattle.ref_objects.specs.Grounds.{IsClosed}
 use Rattle.ref_clear.proofs.KeptReferences.{begun-heap}
 use Rattle.ref_clear.proofs.KeptRows.{goes_on_sweeping}
@@ -27,7 +28,7 @@ begin_config : (k : CycleHeap) (now : ℕ) (how : Urgency) (refused : Option Fau
 begin_config k now how None = ap (λ (h : Heap). h.config) (begun-heap k now how [])
 begin_config k now how (Some fault) = refl
 
-module _ {k : CycleHeap} {chains : List Chain} {swept_to : ℕ} (sound : IsSoundHeap k chains swept_to) where
+module _ {k : CycleHeap} {chains : List Chain} {condemned : Worklist} (sound : IsSoundHeap k chains condemned) where
   -- nothing pending has a referent, or is found
   pub none_found : AreCleared (joined (lists_in k chains)) k
   none_found = grind (arith, pending_numbers-seen)
@@ -48,8 +49,8 @@ module _ {k : CycleHeap} {chains : List Chain} {swept_to : ℕ} (sound : IsSound
     pub seen_chains : seen_heap j chains ≡ seen_lists j (lists_in k chains)
     seen_chains = seen_still marked_config marked_keeps sound
 
-    pub sound_marked : IsSoundHeap j chains swept_to
-    sound_marked = sound_still marked_config marked_keeps sound swept_to (sound_listed sound.lists does own same)
+    pub sound_marked : IsSoundHeap j chains condemned
+    sound_marked = sound_still marked_config marked_keeps sound condemned refl (sound_listed sound.lists does own same)
 
     pub does_marked : {c : ClearHeap} → answer_in_cycle k step ≡ answer_in (seen_heap k chains) step
         → seen_heap k chains ≡ c → HeapDoes c step reply (seen_heap j chains)
@@ -66,7 +67,7 @@ module _ {k : CycleHeap} {chains : List Chain} {swept_to : ℕ} (sound : IsSound
           → HeapDoes d (heap.Plain (plain.Begin now how)) (replies.Refused fault) (seen_heap j chains)
       does_refused view = search (does_marked, refused_by)
 
-      pub sound_refused : IsSoundHeap j chains swept_to
+      pub sound_refused : IsSoundHeap j chains condemned
       sound_refused = search (sound_marked, refused_by)
 
     -- and else the pending references are shaded
@@ -97,18 +98,24 @@ module _ {k : CycleHeap} {chains : List Chain} {swept_to : ℕ} (sound : IsSound
           (sym (seen_still begun_config begun_keeps sound))
           (begun_lists sound.lists does shades (chains_stay config keeps sound) view)
 
-      pub sound_begun : IsSoundHeap i chains swept_to
+      pub sound_begun : IsSoundHeap i chains condemned
       sound_begun = search (sound_still, begun_config, begun_keeps, sound_begun_lists, chains_stay, config, keeps)
 
   -- ---- the ends of phases
 
-  pub sound_clear_ended : {j : CycleHeap} → is_in k.phase Clearing ≡ true → not (is_empty (joined k.found)) ≡ false
-      → j ≡ sweep_begun k → IsSoundHeap j chains 0
-  sound_clear_ended {j} clearing looked after =
-      subst (λ (i : CycleHeap). IsSoundHeap i chains 0) (sym after)
+  pub sound_clear_ended : {j : CycleHeap} {listed : Worklist} → is_in k.phase Clearing ≡ true
+      → not (is_empty (joined k.found)) ≡ false → j ≡ sweep_begun k
+      → listed ≡ with_more (emptied_list condemned) (unmarked k.heap.objects k.marked) → IsSoundHeap j chains listed
+  sound_clear_ended {j} {listed} clearing looked after lists =
+      rw (after, lists)
       (sound_still refl
-      (keeps_parts k (sweep_begun k) (joined (lists_in k chains)) refl refl sound.apart) sound 0
+      (keeps_parts k (sweep_begun k) (joined (lists_in k chains)) refl refl sound.apart) sound
+      (with_more (emptied_list condemned) (unmarked k.heap.objects k.marked)) refl
       (clear_ended clearing looked refl sound.lists))
+
+  -- and the list has room for all that there is
+  pub room_to_list : IsWellFormed (ground_of k) → length k.heap.objects ≤ condemned.room
+  room_to_list formed = omega (arith, formed.few, sound.fits)
 
   pub does_clear_ended : {j : CycleHeap} → is_in k.phase Clearing ≡ true → not (is_empty (joined k.found)) ≡ false
       → j ≡ sweep_begun k → HeapDoes (seen_heap k chains) (heap.Plain plain.EndClear) replies.Done (seen_heap j chains)
@@ -120,28 +127,28 @@ module _ {k : CycleHeap} {chains : List Chain} {swept_to : ℕ} (sound : IsSound
   closed_clear_ended clearing looked formed = grind (arith, closed_clearing)
 
   pub sound_sweep_ended : {j : CycleHeap} → is_in k.phase Sweeping ≡ true → not (is_empty (doomed k)) ≡ false
-      → j ≡ cycle_in_phase k Idle → IsSoundHeap j chains swept_to
+      → j ≡ cycle_in_phase k Idle → IsSoundHeap j chains condemned
   sound_sweep_ended {j} sweeping swept after =
-      subst (λ (i : CycleHeap). IsSoundHeap i chains swept_to) (sym after)
+      subst (λ (i : CycleHeap). IsSoundHeap i chains condemned) (sym after)
       (sound_still refl
-      (keeps_parts k (cycle_in_phase k Idle) (joined (lists_in k chains)) refl refl sound.apart) sound swept_to
+      (keeps_parts k (cycle_in_phase k Idle) (joined (lists_in k chains)) refl refl sound.apart) sound condemned refl
       (sweep_ended sweeping swept refl sound.lists))
 
   -- ---- a sweep
 
   module _ (w : ℕ) (none : work_refusal k.heap k.phase Sweeping w ≡ None) where
-    pub may_free : MaySweep k swept_to
+    pub may_free : MaySweep k condemned.stands
     may_free = may_free_lists w none sound.lists
 
     swept_keeps : KeepsLinks k (swept_some k) (joined (lists_in k chains))
     swept_keeps = search links_swept
 
-    pub sound_swept : {j : CycleHeap} {reached : ℕ} → j ≡ swept_some k → MaySweep j reached
-        → IsSoundHeap j chains reached
-    sound_swept {j} {reached} after may =
-        subst (λ (i : CycleHeap). IsSoundHeap i chains reached) (sym after)
-        (sound_still refl swept_keeps sound reached
-        (sound_swept_lists w none refl (subst (λ (i : CycleHeap). MaySweep i reached) after may) sound.lists))
+    pub sound_swept : {j : CycleHeap} {left : Worklist} → j ≡ swept_some k → MaySweep j left.stands
+        → left.room ≡ condemned.room → IsSoundHeap j chains left
+    sound_swept {j} {left} after may room =
+        subst (λ (i : CycleHeap). IsSoundHeap i chains left) (sym after)
+        (sound_still refl swept_keeps sound left room
+        (sound_swept_lists w none refl (subst (λ (i : CycleHeap). MaySweep i left.stands) after may) sound.lists))
 
     pub seen_swept : {j : CycleHeap} → j ≡ swept_some k
         → seen_heap j chains ≡ after_in (seen_heap k chains) (heap.Plain (plain.Sweep w))

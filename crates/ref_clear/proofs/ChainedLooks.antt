@@ -1,12 +1,13 @@
 -- What a look at a found reference leaves of a heap, its chains among it: one that is pending then goes last in one.
-use Rattle.ref_clear.proofs.Common.{◌≡◌, ℕ, ◌<◌, true, false, refl, sym, ap, subst, ◌∙◌, arith, List, [], ◌∷◌, ◌++◌}
-use Rattle.ref_clear.proofs.Common.{length, get_or, set, Option, Some, None, inl, inr, ◌==◌, Bool, or_cases, eqb-true}
-use Rattle.ref_clear.proofs.Common.{true≢false, false≢true, false_from_ne_true, unwrap_or, is_some, refers_into, Ground}
-use Rattle.ref_clear.proofs.Common.{IsWellFormed, is_doomed, ground_of, Reference, get_or_default, length-map, has}
-use Rattle.ref_clear.proofs.Common.{AreDistinct, Object, is_there, numbers, joined, list_at, work_refusal, reference_at}
-use Rattle.ref_clear.proofs.Common.{registered_in, first_in, Clearing, CycleHeap, with_found_taken, is_to_clear, cut_at}
-use Rattle.ref_clear.proofs.Common.{after_in, Chain, listed, linked_last_of, lists_in, seen_heap, seen_lists}
-use Rattle.ref_clear.proofs.Common.{AreSoundLists, IsSoundHeap, is_tagged, rest_of, answer_in}
+use Rattle.ref_clear.proofs.Common.{Worklist, ◌≡◌, ℕ, ◌<◌, true, false, refl, sym, ap, subst, ◌∙◌, arith, List, []}
+use Rattle.ref_clear.proofs.Common.{◌∷◌, ◌++◌, length, get_or, set, Option, Some, None, inl, inr, ◌==◌, Bool, or_cases}
+use Rattle.ref_clear.proofs.Common.{eqb-true, true≢false, false≢true, false_from_ne_true, unwrap_or, is_some}
+use Rattle.ref_clear.proofs.Common.{refers_into, Ground, IsWellFormed, is_doomed, ground_of, Reference, get_or_default}
+use Rattle.ref_clear.proofs.Common.{length-map, has, AreDistinct, Object, is_there, numbers, joined, list_at}
+use Rattle.ref_clear.proofs.Common.{work_refusal, reference_at, registered_in, first_in, Clearing, CycleHeap}
+use Rattle.ref_clear.proofs.Common.{with_found_taken, is_to_clear, cut_at, after_in, Chain, listed, linked_last_of}
+use Rattle.ref_clear.proofs.Common.{lists_in, seen_heap, seen_lists, AreSoundLists, IsSoundHeap, is_tagged, rest_of}
+use Rattle.ref_clear.proofs.Common.{answer_in}
 use Rattle.std.proofs.lemmas.Bool.{ne_eqb}
 use Rattle.ref_objects.specs.Grounds.{look_of}
 use Rattle.ref_space.specs.declared.linked.Look.{Look}
@@ -40,8 +41,8 @@ not_some : (q : Option ℕ) → is_some q ≡ false → q ≡ None
 not_some None none = refl
 not_some (Some q) none = absurd (true≢false none)
 
-module _ {k : CycleHeap} {chains : List Chain} {swept_to : ℕ} (w : ℕ)
-    (accepted : work_refusal k.heap k.phase Clearing w ≡ None) (sound : IsSoundHeap k chains swept_to) where
+module _ {k : CycleHeap} {chains : List Chain} {condemned : Worklist} (w : ℕ)
+    (accepted : work_refusal k.heap k.phase Clearing w ≡ None) (sound : IsSoundHeap k chains condemned) where
   abbrev taken : CycleHeap
   taken = with_found_taken k w
 
@@ -65,12 +66,12 @@ module _ {k : CycleHeap} {chains : List Chain} {swept_to : ℕ} (w : ℕ)
       (lists.look_within w accepted sound.lists)
 
   -- it found nothing more
-  pub sound_none : {j : CycleHeap} → None ≡ found_look k w → j ≡ left → IsSoundHeap j chains swept_to
+  pub sound_none : {j : CycleHeap} → None ≡ found_look k w → j ≡ left → IsSoundHeap j chains condemned
   sound_none {j} told after =
       let first = none_told (look_of (ground_of k)) (first_in (list_at k.found w)) told in
-      subst (λ (i : CycleHeap). IsSoundHeap i chains swept_to)
+      subst (λ (i : CycleHeap). IsSoundHeap i chains condemned)
       (sym (left_by [] (none_is (list_at k.found w) first) after))
-      (sound_still refl taken_keeps sound swept_to (lists.sound_none w accepted sound.lists first refl))
+      (sound_still refl taken_keeps sound condemned refl (lists.sound_none w accepted sound.lists first refl))
 
   -- this is the look at the first that it found
   module _ {l : Look} (told : Some l ≡ found_look k w) where
@@ -93,19 +94,20 @@ module _ {k : CycleHeap} {chains : List Chain} {swept_to : ℕ} (w : ℕ)
     left_first = left_by (n ∷ rest_of (list_at k.found w)) (first_is (list_at k.found w) n first)
 
     -- it is kept, or skipped
-    sound_stays : {j : CycleHeap} → is_to_clear k n ≡ false → j ≡ left → IsSoundHeap j chains swept_to
+    sound_stays : {j : CycleHeap} → is_to_clear k n ≡ false → j ≡ left → IsSoundHeap j chains condemned
     sound_stays {j} stays after =
-        subst (λ (i : CycleHeap). IsSoundHeap i chains swept_to) (sym (left_first after ∙ simp stays refl))
-        (sound_still refl taken_keeps sound swept_to (lists.sound_passed w accepted sound.lists n first stays refl))
+        subst (λ (i : CycleHeap). IsSoundHeap i chains condemned) (sym (left_first after ∙ simp stays refl))
+        (sound_still refl taken_keeps sound condemned refl
+        (lists.sound_passed w accepted sound.lists n first stays refl))
 
-    pub sound_kept : {j : CycleHeap} → l.is_cleared ≡ false → j ≡ left → IsSoundHeap j chains swept_to
+    pub sound_kept : {j : CycleHeap} → l.is_cleared ≡ false → j ≡ left → IsSoundHeap j chains condemned
     sound_kept spares = sound_stays (clears_by spares)
 
-    pub sound_plain : {j : CycleHeap} → l.was.reference ≡ None → j ≡ left → IsSoundHeap j chains swept_to
+    pub sound_plain : {j : CycleHeap} → l.was.reference ≡ None → j ≡ left → IsSoundHeap j chains condemned
     sound_plain none = sound_stays (ap (refers_into (is_doomed k)) (sym read ∙ none))
 
     pub sound_skipped : {j : CycleHeap} {r : Reference} → l.was.reference ≡ Some r → is_some r.referent ≡ false
-        → j ≡ left → IsSoundHeap j chains swept_to
+        → j ≡ left → IsSoundHeap j chains condemned
     sound_skipped {j} {r} is none = grind (arith, sound_stays)
 
     -- it is cleared
@@ -155,11 +157,11 @@ module _ {k : CycleHeap} {chains : List Chain} {swept_to : ℕ} (w : ℕ)
           ∙ lists.seen_cut w accepted sound.lists n first goes none
 
       pub sound_cut : {j : CycleHeap} {r : Reference} → l.was.reference ≡ Some r → is_some r.queue ≡ false → j ≡ left
-          → IsSoundHeap j chains swept_to
+          → IsSoundHeap j chains condemned
       sound_cut is unregistered after =
           let none = no_queue is unregistered in
-          subst (λ (i : CycleHeap). IsSoundHeap i chains swept_to) (sym (left_cut after))
-          (sound_still refl cut_keeps sound swept_to (lists.sound_cut w accepted sound.lists n first goes none))
+          subst (λ (i : CycleHeap). IsSoundHeap i chains condemned) (sym (left_cut after))
+          (sound_still refl cut_keeps sound condemned refl (lists.sound_cut w accepted sound.lists n first goes none))
 
       -- with one it goes last in the worker's chain
       module _ {c : Chain} (its : c ≡ get_or chains w c) {r : Reference} (is : l.was.reference ≡ Some r)
@@ -260,7 +262,7 @@ module _ {k : CycleHeap} {chains : List Chain} {swept_to : ℕ} (w : ℕ)
               ∙ lists.seen_pended w accepted sound.lists n first goes own_read q registered linked_as_told refl
               formed.tagged
 
-          pub sound_pended : IsSoundHeap i (set chains w d) swept_to
+          pub sound_pended : IsSoundHeap i (set chains w d) condemned
           sound_pended = record {
             linked = rw (left_linked, last) pushed.chains;
             apart = λ m found.
@@ -268,9 +270,10 @@ module _ {k : CycleHeap} {chains : List Chain} {swept_to : ℕ} (w : ℕ)
                 ∙ false_from_ne_true (has (joined (set (lists_in k chains) w (own ++ n ∷ []))) m)
                 (λ stands. none_grown m (ap (λ (h : CycleHeap). has (joined h.found) m) (sym left_linked) ∙ found)
                 stands);
-            lists = subst (λ mss. AreSoundLists i mss swept_to) (sym left_lists)
+            lists = subst (λ mss. AreSoundLists i mss condemned.stands) (sym left_lists)
                 (lists.sound_pended w accepted sound.lists n first goes own_read q registered linked_as_told refl
                 formed.tagged);
+            fits = rw left_linked sound.fits;
           }
             where
               none_grown : (m : ℕ) → has (joined cut.found) m ≡ true

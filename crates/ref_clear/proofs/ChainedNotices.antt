@@ -1,12 +1,12 @@
 -- What a hand and an unhook answer and leave of a heap, its chains among it.
-use Rattle.ref_clear.proofs.Common.{◌≡◌, ℕ, ◌<◌, true, refl, sym, ap, subst, ◌∙◌, arith, List, [], ◌∷◌, zero, length}
-use Rattle.ref_clear.proofs.Common.{get_or, set, Option, Some, None, suc, ◌==◌, option_map, IsSome, or_right}
-use Rattle.ref_clear.proofs.Common.{true≢false, false_from_ne_true, get_or_default, has, joined, list_at, rest_of}
-use Rattle.ref_clear.proofs.Common.{Pending, pending_at, pending_from, pending_in, Reply, Fault, Cycle, Own, Reference}
-use Rattle.ref_clear.proofs.Common.{reference_at, registered_in, slot_at, has_slot, CycleHeap, with_cleared, holding}
-use Rattle.ref_clear.proofs.Common.{mint_answer_in, after_mint_in, Chain, listed, lists_in, seen_heap, seen_lists}
-use Rattle.ref_clear.proofs.Common.{IsSoundHeap, AreSoundLists, ClearHeap, AreRegistered, MarkerDoes, listed_at}
-use Rattle.ref_clear.proofs.Common.{HeapDoes, Ground, ground_of, Config, pending_by}
+use Rattle.ref_clear.proofs.Common.{Worklist, ◌≡◌, ℕ, ◌<◌, true, refl, sym, ap, subst, ◌∙◌, arith, List, [], ◌∷◌}
+use Rattle.ref_clear.proofs.Common.{zero, length, get_or, set, Option, Some, None, suc, ◌==◌, option_map, IsSome}
+use Rattle.ref_clear.proofs.Common.{or_right, true≢false, false_from_ne_true, get_or_default, has, joined, list_at}
+use Rattle.ref_clear.proofs.Common.{rest_of, Pending, pending_at, pending_from, pending_in, Reply, Fault, Cycle, Own}
+use Rattle.ref_clear.proofs.Common.{Reference, reference_at, registered_in, slot_at, has_slot, CycleHeap, with_cleared}
+use Rattle.ref_clear.proofs.Common.{holding, mint_answer_in, after_mint_in, Chain, listed, lists_in, seen_heap}
+use Rattle.ref_clear.proofs.Common.{seen_lists, IsSoundHeap, AreSoundLists, ClearHeap, AreRegistered, MarkerDoes}
+use Rattle.ref_clear.proofs.Common.{listed_at, HeapDoes, Ground, ground_of, Config, pending_by}
 use Rattle.std.proofs.Common.{nat_lt}
 use Rattle.ref_mark.specs.Chains.{chain_first, chain_without_first}
 use Rattle.ref_space.specs.declared.linked.Linked.{Linked}
@@ -64,10 +64,10 @@ module _ (k : CycleHeap) (chains : List Chain) (w place : ℕ) {c : Chain} (with
       → pending_from (pending_at (seen_heap k chains) w) place ≡ option_map (pending_in k.heap.objects k.tags) other
   told_of {found} {other} {g} objects is same = grind (arith, told_as_seen, inside, listed_read)
 
-  pub registered_of : {swept_to : ℕ} {found : Option ℕ} {g : Ground} (n : ℕ) → IsSoundHeap k chains swept_to
+  pub registered_of : {condemned : Worklist} {found : Option ℕ} {g : Ground} (n : ℕ) → IsSoundHeap k chains condemned
       → g ≡ ground_of k → found ≡ listed_at (listed g.tags g.heap.config.cells c) place → found ≡ Some n
       → IsSome (registered_in (reference_at k.heap n))
-  registered_of {swept_to} {found} {g} n sound objects is same =
+  registered_of {condemned} {found} {g} n sound objects is same =
       listed_registered w sound.lists place n inside listed_read
       (is ∙ ap (λ (h : Ground). listed_at (listed h.tags h.heap.config.cells c) place) objects) same
 
@@ -78,7 +78,7 @@ none_behind k chains w place past = grind (arith, none_past, length-lists_of)
 
 -- ---- a worker's chain
 
-module _ {k : CycleHeap} {chains : List Chain} {swept_to : ℕ} (w : ℕ) (sound : IsSoundHeap k chains swept_to)
+module _ {k : CycleHeap} {chains : List Chain} {condemned : Worklist} (w : ℕ) (sound : IsSoundHeap k chains condemned)
     {now : ClearHeap} {config : Config} (seen : seen_heap k chains ≡ now) (fixed : config ≡ now.mark.heap.config)
     (named : w < config.workers) where
   within : w < k.heap.config.workers
@@ -154,7 +154,7 @@ module _ {k : CycleHeap} {chains : List Chain} {swept_to : ℕ} (w : ℕ) (sound
               (seen_heap j (set chains w d))
           handed = search (left_in, step)
 
-          pub sound_handed : IsSoundHeap j (set chains w d) swept_to
+          pub sound_handed : IsSoundHeap j (set chains w d) condemned
           sound_handed = record {
             linked = rw (minted_now, taken_now)
                 (takes_one k.tags k.heap.config.cells chains w c worker_has_chain read sound.linked).1;
@@ -165,23 +165,24 @@ module _ {k : CycleHeap} {chains : List Chain} {swept_to : ℕ} (w : ℕ) (sound
                 true≢false
                 (sym (less-has (lists_in k chains) w own own_is m stands)
                 ∙ sound.apart m (ap (λ (i : CycleHeap). has (joined i.found) m) (sym minted_now) ∙ found)));
-            lists = subst (λ mss. AreSoundLists j mss swept_to) (sym left_in)
+            lists = subst (λ mss. AreSoundLists j mss condemned.stands) (sym left_in)
                 (sound_after (heap.Hand w) refl sound.lists step.0.after step.1);
+            fits = rw minted_now sound.fits;
           }
 
         -- where the mint of its hold is refused nothing changes
         pub hand_refused : {j : CycleHeap} {fault : Fault} → replies.Refused fault ≡ mint_answer_in k p.object
             → j ≡ after_mint_in k p.object
             → HeapDoes (seen_heap k chains) (heap.Hand w) (replies.Refused fault) (seen_heap j chains)
-            × IsSoundHeap j chains swept_to
+            × IsSoundHeap j chains condemned
         hand_refused {j} {fault} answers after =
             let same : j ≡ k = (mint_refused k p.object fault answers after).1 in
             rw same ((hand_refused_lists w sound.lists within first answers (sym same ∙ after)).0, sound)
 
 -- ---- an unhook
 
-module _ {k : CycleHeap} {chains : List Chain} {swept_to : ℕ} (sound : IsSoundHeap k chains swept_to) (m s : ℕ)
-    {n : ℕ} {r : Reference} (has : has_slot k.heap m s ≡ true) (held : slot_at k.heap m s ≡ Some n)
+module _ {k : CycleHeap} {chains : List Chain} {condemned : Worklist} (sound : IsSoundHeap k chains condemned)
+    (m s : ℕ) {n : ℕ} {r : Reference} (has : has_slot k.heap m s ≡ true) (held : slot_at k.heap m s ≡ Some n)
     (found : reference_at k.heap n ≡ Some r) where
   -- the cut alone
   pub unhook_cut : {j : CycleHeap} {reply : Reply} → r.queue ≡ None
@@ -218,7 +219,7 @@ module _ {k : CycleHeap} {chains : List Chain} {swept_to : ℕ} (sound : IsSound
     pub unhook_done : HeapDoes (seen_heap k chains) (heap.Unhook m s) (replies.Notice object q Own) (seen_heap j chains)
     unhook_done = grind (arith, unhook_step)
 
-    pub sound_unhooked : IsSoundHeap j chains swept_to
+    pub sound_unhooked : IsSoundHeap j chains condemned
     sound_unhooked =
-        sound_still unhook_config unhook_keeps sound swept_to
+        sound_still unhook_config unhook_keeps sound condemned refl
         (sound_after (heap.Unhook m s) refl sound.lists unhook_step.0.after unhook_step.1)

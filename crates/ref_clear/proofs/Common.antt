@@ -32,6 +32,7 @@ pub use Rattle.ref_base.specs.declared.fault.Fault.TheVariants.{WrongPhase}
 pub use Rattle.ref_base.specs.declared.phase.Phase.TheVariants.{Clearing, Idle, Marking, Sweeping}
 pub use Rattle.ref_base.specs.declared.reply.Reply.{Reply}
 pub use Rattle.ref_base.specs.declared.urgency.Urgency.{Urgency}
+pub use Rattle.ref_space.specs.Worklists.{Worklist, emptied_list, empty_worklist, with_more}
 pub use Rattle.ref_space.specs.Tables.{Tag}
 pub use Rattle.ref_objects.specs.Grounds.{Ground, IsWellFormed, cleared_in_at, mint_refusal, unmarked}
 pub use Rattle.ref_mark.specs.Chains.{is_tagged, linked_last_of, listed, no_chain}
@@ -42,13 +43,13 @@ pub use Rattle.ref_mark.specs.MarkCalls.{MarkerDoes, after_in_cycle, after_mint_
 pub use Rattle.ref_mark.specs.MarkCalls.{is_of_marking, mint_answer_in, refusal_in_cycle, unless_refused}
 pub use Rattle.ref_mark.specs.MarkViews.{ground_of}
 pub use Rattle.ref_mark.specs.Standing.{FactsBut, MarkStands, ReadsAs, shown_heap, unsaid}
-pub use Rattle.ref_mark.specs.Worklists.{first_in, listed_at}
+pub use Rattle.ref_space.specs.Worklists.{first_in, listed_at}
 pub use Rattle.ref_mark.specs.declared.chain.Chain.{Chain}
 pub use Rattle.ref_clear.specs.ClearCalls.{HeapDoes, after_in, answer_in, answer_of_hand, answer_of_unhook, queue_in}
 pub use Rattle.ref_clear.specs.ClearCalls.{refusal_in}
 pub use Rattle.ref_clear.specs.ClearHeaps.{ClearHeap, begun_with, handed_from, heap_pended, holding, looked_from}
 pub use Rattle.ref_clear.specs.ClearHeaps.{pending_at, swept_some, unhooked, with_mark, without_tags}
-pub use Rattle.ref_clear.specs.ClearViews.{AreRegistered, AreSoundLists, IsSoundHeap, MaySweep, lists_in, pending_by}
-pub use Rattle.ref_clear.specs.ClearViews.{pending_from, pending_in, pending_lists_of, pendings_in, seen_heap}
-pub use Rattle.ref_clear.specs.ClearViews.{seen_lists}
+pub use Rattle.ref_clear.specs.ClearViews.{AreRegistered, AreSoundLists, IsSoundHeap, ListWhite, MaySweep, lists_in}
+pub use Rattle.ref_clear.specs.ClearViews.{pending_by, pending_from, pending_in, pending_lists_of, pendings_in}
+pub use Rattle.ref_clear.specs.ClearViews.{seen_heap, seen_lists}
 pub use Rattle.ref_clear.specs.Standing.{ArePending, HeapStands}

@@ -2,7 +2,7 @@
 use Rattle.ref_clear.proofs.Common.{◌≡◌, ℕ, zero, suc, List, [], ◌∷◌, replicate, refl, ap, ◌∙◌, arith, Object, joined}
 use Rattle.ref_clear.proofs.Common.{pending_numbers, Config, CycleHeap, MarkStands, pending_lists_of, seen_lists}
 use Rattle.ref_clear.proofs.Common.{AreSoundLists, HeapStands, has, Chain, no_chain, lists_in, seen_heap, IsSoundHeap}
-use Rattle.ref_clear.proofs.Common.{Tag}
+use Rattle.ref_clear.proofs.Common.{Tag, Worklist, empty_worklist}
 use Rattle.std.proofs.lemmas.List.{length-replicate}
 use Rattle.ref_mark.specs.MarkRows.{starting_state}
 use Rattle.ref_mark.specs.CycleHeaps.{first_cycle_heap}
@@ -36,7 +36,7 @@ module _ (config : Config) (heap_no : ℕ) (start : Start) where
 
   first_sound_lists : {k : CycleHeap} {lists : List (List ℕ)} → k ≡ first_cycle_heap config heap_no start
       → MarkStands k (starting_state config heap_no start.obj start.cycle)
-      → lists ≡ replicate config.workers [] → AreSoundLists k lists 0
+      → lists ≡ replicate config.workers [] → AreSoundLists k lists []
   first_sound_lists {k} {lists} first stands are = grind (arith, none_listed, seen_first_lists, first_stands)
 
   -- ---- of chains
@@ -52,10 +52,12 @@ module _ (config : Config) (heap_no : ℕ) (start : Start) where
 
   pub first_sound : {k : CycleHeap} {chains : List Chain} → k ≡ first_cycle_heap config heap_no start
       → MarkStands k (starting_state config heap_no start.obj start.cycle)
-      → chains ≡ replicate config.workers no_chain → IsSoundHeap k chains 0
-  first_sound first stands are = record {
+      → chains ≡ replicate config.workers no_chain → {list : Worklist} → list ≡ empty_worklist config.cells
+      → IsSoundHeap k chains list
+  first_sound {k} {chains} first stands are {list} none = record {
     linked = rw (first, are) (are_none [] config.cells config.workers).0;
     apart = λ n found.
         ap (λ mss. has (joined mss) n) (none_in first are) ∙ ap (λ ns. has ns n) (none_listed config.workers);
-    lists = first_sound_lists first stands (none_in first are);
+    lists = rw none (first_sound_lists first stands (none_in first are));
+    fits = grind arith;
   }

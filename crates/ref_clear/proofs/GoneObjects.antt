@@ -1,7 +1,7 @@
 -- What is left of some objects, of their tags and of their cells, where those of some numbers go.
-use Rattle.ref_clear.proofs.Common.{◌≡◌, ℕ, zero, suc, ◌≤◌, true, false, refl, ap, arith, List, [], ◌∷◌, ◌++◌, take}
-use Rattle.ref_clear.proofs.Common.{drop, Some, None, false≢true, has, Object, object_at, is_there, numbers, IsRising}
-use Rattle.ref_clear.proofs.Common.{without, unmarked, first_in, is_tagged, Tag, cleared_in_at, without_tags}
+use Rattle.ref_clear.proofs.Common.{◌≡◌, ℕ, zero, suc, true, false, refl, ap, arith, List, [], ◌∷◌, ◌++◌, take}
+use Rattle.ref_clear.proofs.Common.{drop, None, has, Object, object_at, is_there, numbers, IsRising}
+use Rattle.ref_clear.proofs.Common.{without, unmarked, is_tagged, Tag, cleared_in_at, without_tags}
 use Rattle.ref_objects.specs.Grounds.{Space, link_at, vacated, without_tag}
 use Rattle.ref_clear.specs.ClearHeaps.{vacated_all}
 use Rattle.ref_mark.proofs.LinkLemmas.{link_at-gone, is_tagged-gone}
@@ -9,7 +9,6 @@ use Rattle.ref_objects.proofs.TagLemmas.{cleared_in_at-without}
 use Rattle.ref_base.proofs.HasLaws.{has-append}
 use Rattle.ref_base.proofs.NewClears.{is_there-rising}
 use Rattle.ref_objects.proofs.HealedLemmas.{has-without_number}
-use Rattle.ref_objects.proofs.SparedLemmas.{has-unmarked}
 
 -- ---- one after the other
 
@@ -104,9 +103,12 @@ unmarked-swept (suc i) [] marked rising = refl
 unmarked-swept (suc i) (o ∷ os) marked rising =
     grind (arith, is_there-rising, without-absent, unmarked-swept (suc i) os marked, unmarked-swept i os marked)
 
--- the first that isn't marked is the least
-pub first_unmarked-least : (os : List Object) (marked : List ℕ) (n m : ℕ) → IsRising (numbers os)
-    → first_in (unmarked os marked) ≡ Some n → has (unmarked os marked) m ≡ true → n ≤ m
-first_unmarked-least [] marked n m rising first within = absurd (false≢true within)
-first_unmarked-least (o ∷ os) marked n m rising first within =
-    grind (arith, is_there-rising, has-unmarked, first_unmarked-least os marked n m)
+-- the numbers of what isn't marked rise
+rising_from-unmarked : (n : ℕ) (os : List Object) (marked : List ℕ) → IsRising (n ∷ numbers os)
+    → IsRising (n ∷ unmarked os marked)
+rising_from-unmarked n [] marked rising = tt
+rising_from-unmarked n (o ∷ os) marked rising = grind (arith, rising_from-unmarked o.no os marked rising.1)
+
+pub rising-unmarked : (os : List Object) (marked : List ℕ) → IsRising (numbers os) → IsRising (unmarked os marked)
+rising-unmarked [] marked rising = tt
+rising-unmarked (o ∷ os) marked rising = grind (arith, rising_from-unmarked, rising-unmarked os marked)

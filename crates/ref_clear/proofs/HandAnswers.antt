@@ -34,7 +34,7 @@ some_first [] p some = absurd (let wrong : None ≡ Some p = some in cc)
 some_first (q ∷ qs) p some =
     let same : q ≡ p = let e : Some q ≡ Some p = some in cc in ap (λ (r : Pending). r ∷ qs) same
 
-module _ {k : CycleHeap} {lists : List (List ℕ)} {swept_to : ℕ} (w : ℕ) (sound : AreSoundLists k lists swept_to)
+module _ {k : CycleHeap} {lists : List (List ℕ)} {condemned : List ℕ} (w : ℕ) (sound : AreSoundLists k lists condemned)
     (within : w < k.heap.config.workers) where
   there : is_worker k.heap w ≡ true
   there = lt-ltb w k.heap.config.workers within

@@ -58,7 +58,7 @@ registered_kept k j lists kept registered n within = subst IsSome (sym (kept n w
 pub kept_shaded : (k j : CycleHeap) (ns : List ℕ) (n : ℕ) → IsKept k j n → IsKept k (shaded_all j ns) n
 kept_shaded k j ns n kept = grind (arith, shaded_all-tags, shaded_heap j)
 
-module _ {k : CycleHeap} {lists : List (List ℕ)} {swept_to : ℕ} (sound : AreSoundLists k lists swept_to) where
+module _ {k : CycleHeap} {lists : List (List ℕ)} {condemned : List ℕ} (sound : AreSoundLists k lists condemned) where
   -- what is pending is there
   pub waits_there : (n : ℕ) → has (joined lists) n ≡ true → is_there k.heap.objects n ≡ true
   waits_there n within = grind arith

@@ -36,8 +36,8 @@ none_is (n ∷ ns) none = absurd (let wrong : Some n ≡ None = none in cc)
 -- ---- what is left
 
 -- where a worker may look at what it found
-module _ {k : CycleHeap} {lists : List (List ℕ)} {swept_to : ℕ} (w : ℕ)
-    (accepted : work_refusal k.heap k.phase Clearing w ≡ None) (sound : AreSoundLists k lists swept_to) where
+module _ {k : CycleHeap} {lists : List (List ℕ)} {condemned : List ℕ} (w : ℕ)
+    (accepted : work_refusal k.heap k.phase Clearing w ≡ None) (sound : AreSoundLists k lists condemned) where
   abbrev c : ClearHeap
   c = seen_lists k lists
 
@@ -51,7 +51,7 @@ module _ {k : CycleHeap} {lists : List (List ℕ)} {swept_to : ℕ} (w : ℕ)
 
   -- it found nothing more
   pub sound_none : {j : CycleHeap} → first_in (list_at k.found w) ≡ None → j ≡ with_found_taken k w
-      → AreSoundLists j lists swept_to
+      → AreSoundLists j lists condemned
   sound_none {j} first after = grind (arith, set-get_or)
 
   -- there is a list for each worker
@@ -67,7 +67,7 @@ module _ {k : CycleHeap} {lists : List (List ℕ)} {swept_to : ℕ} (w : ℕ)
 
     -- it is kept, or skipped
     pub sound_passed : {j : CycleHeap} → is_to_clear k n ≡ false → j ≡ with_found_taken k w
-        → AreSoundLists j lists swept_to
+        → AreSoundLists j lists condemned
     sound_passed {j} stays after =
         sound_after (heap.Plain (plain.ClearNext w)) refl sound
         (ap (λ (i : CycleHeap). seen_lists i lists) after
@@ -107,7 +107,7 @@ module _ {k : CycleHeap} {lists : List (List ℕ)} {swept_to : ℕ} (w : ℕ)
           → seen_lists cut lists ≡ after_in c (heap.Plain (plain.ClearNext w))
       seen_cut none = seen_kept k cut lists cut_kept ∙ after_cut None none
 
-      pub sound_cut : registered_in (reference_at k.heap n) ≡ None → AreSoundLists cut lists swept_to
+      pub sound_cut : registered_in (reference_at k.heap n) ≡ None → AreSoundLists cut lists condemned
       sound_cut none =
           sound_after (heap.Plain (plain.ClearNext w)) refl sound (seen_cut none)
           (registered_kept k cut lists cut_kept sound.registered)
@@ -184,7 +184,7 @@ module _ {k : CycleHeap} {lists : List (List ℕ)} {swept_to : ℕ} (w : ℕ)
                 | inr before ↦ registered_kept k cut lists cut_kept sound.registered i before
               ]
 
-          pub sound_pended : AreSoundLists j (set lists w m) swept_to
+          pub sound_pended : AreSoundLists j (set lists w m) condemned
           sound_pended =
               sound_after (heap.Plain (plain.ClearNext w)) refl sound seen_pended
               (subst (λ (i : CycleHeap). AreRegistered i.heap.objects (set lists w m)) (sym after) all_registered)

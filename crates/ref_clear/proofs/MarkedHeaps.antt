@@ -9,8 +9,8 @@ use Rattle.ref_clear.proofs.KeptPending.{AreKept, seen_kept, registered_kept, ke
 use Rattle.ref_clear.proofs.PendingLists.{pending_numbers-seen}
 use Rattle.ref_clear.proofs.SoundHeaps.{sound_after}
 
-module _ {j k : CycleHeap} {lists : List (List ℕ)} {swept_to : ℕ} {step : NamedStep} {reply : Reply}
-    (sound : AreSoundLists k lists swept_to) (does : MarkerDoes k step reply j) where
+module _ {j k : CycleHeap} {lists : List (List ℕ)} {condemned : List ℕ} {step : NamedStep} {reply : Reply}
+    (sound : AreSoundLists k lists condemned) (does : MarkerDoes k step reply j) where
   marked_kept : AreKept k j lists
   marked_kept =
       subst (λ (i : CycleHeap). AreKept k i lists) (sym does.after)
@@ -27,7 +27,7 @@ module _ {j k : CycleHeap} {lists : List (List ℕ)} {swept_to : ℕ} {step : Na
 
   pub sound_marked : goes_on_sweeping step ≡ true
       → with_mark (seen_lists k lists) (after_in_cycle k step) ≡ after_in (seen_lists k lists) step
-      → AreSoundLists j lists swept_to
+      → AreSoundLists j lists condemned
   sound_marked own same = search (sound_after, seen_marked, registered_kept, marked_kept)
 
   -- and so it is where what is pending is shaded then
@@ -45,6 +45,6 @@ module _ {j k : CycleHeap} {lists : List (List ℕ)} {swept_to : ℕ} {step : Na
         (sym (pending_numbers-seen k.heap.objects k.tags lists))
 
     pub sound_shaded : goes_on_sweeping step ≡ true → seen_lists i lists ≡ after_in (seen_lists k lists) step
-        → AreSoundLists i lists swept_to
+        → AreSoundLists i lists condemned
     sound_shaded own same =
         sound_after step own sound same (registered_kept k i lists shaded_kept sound.registered)

@@ -1,12 +1,12 @@
 -- The chains of pending references stay as they are where the links in them do, and what is found isn't pending.
-use Rattle.ref_clear.proofs.Common.{◌≡◌, ℕ, true, false, ◌==◌, refl, sym, ap, subst, ◌∙◌, arith, List, [], ◌∷◌, ◌++◌}
-use Rattle.ref_clear.proofs.Common.{zero, suc, Option, Some, None, inl, inr, ◌⊎◌, slice_set, cases_Bool, or_right}
-use Rattle.ref_clear.proofs.Common.{true≢false, false_from_ne_true, has, referent_of, reference_at, refers_into, joined}
-use Rattle.ref_clear.proofs.Common.{list_at, is_empty, Object, NamedStep, Fault, CycleHeap, is_white, shaded_all}
-use Rattle.ref_clear.proofs.Common.{with_cleared, unless_refused, linked_last_of, Chain, lists_in, seen_heap}
-use Rattle.ref_clear.proofs.Common.{seen_lists, AreSoundLists, IsSoundHeap, is_kept, targets_at, Tag, Urgency}
-use Rattle.ref_clear.proofs.Common.{with_made, grey_scanned, cycle_begun, barred, done_in, after_in_cycle}
-use Rattle.ref_clear.proofs.Common.{refusal_in_cycle}
+use Rattle.ref_clear.proofs.Common.{Worklist, ◌≡◌, ℕ, true, false, ◌==◌, refl, sym, ap, subst, ◌∙◌, arith, List, []}
+use Rattle.ref_clear.proofs.Common.{◌∷◌, ◌++◌, zero, suc, Option, Some, None, inl, inr, ◌⊎◌, slice_set, cases_Bool}
+use Rattle.ref_clear.proofs.Common.{or_right, true≢false, false_from_ne_true, has, referent_of, reference_at}
+use Rattle.ref_clear.proofs.Common.{refers_into, joined, list_at, is_empty, Object, NamedStep, Fault, CycleHeap}
+use Rattle.ref_clear.proofs.Common.{is_white, shaded_all, with_cleared, unless_refused, linked_last_of, Chain}
+use Rattle.ref_clear.proofs.Common.{lists_in, seen_heap, seen_lists, AreSoundLists, IsSoundHeap, is_kept, targets_at}
+use Rattle.ref_clear.proofs.Common.{Tag, Urgency, with_made, grey_scanned, cycle_begun, barred, done_in}
+use Rattle.ref_clear.proofs.Common.{after_in_cycle, refusal_in_cycle}
 use Rattle.ref_mark.specs.Chains.{last_of}
 use Rattle.ref_mark.specs.CycleHeaps.{cycle_healed, with_found}
 use Rattle.ref_base.proofs.HasLaws.{has-left, has-right, has-cases, has-single, has-first}
@@ -25,16 +25,17 @@ pub record KeepsLinks (k j : CycleHeap) (ps : List ℕ) : Type 0 where
   pub same : IsSame k.tags j.tags ps
   pub apart : (n : ℕ) → has (joined j.found) n ≡ true → has ps n ≡ false
 
-module _ {k j : CycleHeap} {chains : List Chain} {swept_to : ℕ} (config : j.heap.config ≡ k.heap.config)
-    (keeps : KeepsLinks k j (joined (lists_in k chains))) (sound : IsSoundHeap k chains swept_to) where
+module _ {k j : CycleHeap} {chains : List Chain} {condemned : Worklist} (config : j.heap.config ≡ k.heap.config)
+    (keeps : KeepsLinks k j (joined (lists_in k chains))) (sound : IsSoundHeap k chains condemned) where
   pub chains_stay : lists_in j chains ≡ lists_in k chains
   chains_stay = grind (arith, lists-same)
 
   pub seen_still : seen_heap j chains ≡ seen_lists j (lists_in k chains)
   seen_still = ap (seen_lists j) chains_stay
 
-  pub sound_still : (reached : ℕ) → AreSoundLists j (lists_in k chains) reached → IsSoundHeap j chains reached
-  sound_still reached lists = grind (arith, lists-same, chains_stay)
+  pub sound_still : (left : Worklist) → left.room ≡ condemned.room
+      → AreSoundLists j (lists_in k chains) left.stands → IsSoundHeap j chains left
+  sound_still left room lists = grind (arith, lists-same, chains_stay)
 
 -- where tags and what is found are as they were
 pub keeps_parts : (k j : CycleHeap) (ps : List ℕ) → j.tags ≡ k.tags → j.found ≡ k.found

@@ -108,7 +108,8 @@ has-replaced P (i ∷ ls) (suc w) l m is each n stands =
 
 -- ---- a worker of a heap
 
-module _ {k : CycleHeap} {lists : List (List ℕ)} {swept_to : ℕ} (w : ℕ) (sound : AreSoundLists k lists swept_to) where
+module _ {k : CycleHeap} {lists : List (List ℕ)} {condemned : List ℕ} (w : ℕ)
+    (sound : AreSoundLists k lists condemned) where
   -- a worker, by the configuration that is read
   pub worker_within : {now : ClearHeap} {config : Config} → seen_lists k lists ≡ now → config ≡ now.mark.heap.config
       → w < config.workers → w < k.heap.config.workers

@@ -4,7 +4,8 @@ use Rattle.ref_clear.proofs.Common.{joined, unless, is_in, is_empty, work_refusa
 use Rattle.ref_clear.proofs.Common.{Sweeping, CycleHeap, doomed, cycle_in_phase, unless_refused, ClearHeap, with_mark}
 use Rattle.ref_clear.proofs.Common.{swept_some, refusal_in, has, reference_in, registered_in, after_in, AreRegistered}
 use Rattle.ref_clear.proofs.Common.{HeapStands, seen_lists, AreSoundLists, MaySweep, forgotten, Object, unmarked}
-use Rattle.ref_clear.proofs.Common.{sweep_begun}
+use Rattle.ref_clear.proofs.Common.{sweep_begun, is_white, ◌&&◌, is_some}
+use Rattle.ref_objects.proofs.SparedLemmas.{has-unmarked}
 use Rattle.std.proofs.lemmas.Bool.{not-false}
 use Rattle.ref_base.specs.declared.fault.Fault.TheVariants.{SweepLeft}
 use Rattle.ref_base.proofs.Forgetting.{forgotten-shape}
@@ -17,6 +18,7 @@ use Rattle.ref_clear.proofs.SoundHeaps.{sound_after}
 use Rattle.ref_clear.proofs.PendingFacts.{pending_is_not_doomed}
 use Rattle.ref_clear.proofs.PendingLists.{pending_numbers-seen}
 use Rattle.ref_clear.proofs.GoneObjects.{has-take, object_at-left, cleared_in_at-left, link_at-left, is_tagged-left}
+use Rattle.ref_clear.proofs.GoneObjects.{rising-unmarked}
 use Rattle.ref_mark.proofs.ChainLemmas.{IsSame}
 use Rattle.ref_clear.proofs.KeptPending.{AreKept, seen_kept, registered_kept}
 use Rattle.ref_base.specs.declared.heap_step.HeapStep.TheVariants as heap
@@ -45,22 +47,33 @@ kept_forgotten k lists n within = (
         → registered_in (forgotten d o).reference ≡ registered_in o.reference
     queue_forgotten d o = (forgotten-shape d).queue o
 
--- the clearing ends: the sweep starts from the first number
-pub sound_clear_ended : {j k : CycleHeap} {lists : List (List ℕ)} {swept_to : ℕ} → is_in k.phase Clearing ≡ true
-    → not (is_empty (joined k.found)) ≡ false → j ≡ sweep_begun k → AreSoundLists k lists swept_to
-    → AreSoundLists j lists 0
-sound_clear_ended {j} {k} {lists} {swept_to} clearing looked after sound =
+-- what is white as a sweep begins was white before
+white_before : (k : CycleHeap) (n : ℕ) → is_white (sweep_begun k) n ≡ is_white k n
+white_before k n =
+    ap (λ there. there && not (has k.marked n))
+    (at-reshaped (λ o. forgotten (unmarked k.heap.objects k.marked) o)
+    (forgotten-shape (unmarked k.heap.objects k.marked)) (λ o. is_some o) k.heap.objects n (λ o. refl))
+
+-- the clearing ends: what isn't marked is listed
+pub sound_clear_ended : {j k : CycleHeap} {lists : List (List ℕ)} {condemned : List ℕ} → is_in k.phase Clearing ≡ true
+    → not (is_empty (joined k.found)) ≡ false → j ≡ sweep_begun k → AreSoundLists k lists condemned
+    → AreSoundLists j lists (unmarked k.heap.objects k.marked)
+sound_clear_ended {j} {k} {lists} {condemned} clearing looked after sound =
+    let listed = unmarked k.heap.objects k.marked in
     let none = may_end_clear k lists clearing looked in
     let row = end_clear_row (seen_lists k lists) sound.stands.0 sound.stands.1 none in
     let kept = kept_forgotten k lists in
-    subst (λ (i : CycleHeap). AreSoundLists i lists 0) (sym after)
+    subst (λ (i : CycleHeap). AreSoundLists i lists listed) (sym after)
     (record {
       registered = registered_kept k (sweep_begun k) lists kept sound.registered;
       stands = (
         row.0,
         subst (λ (d : ClearHeap). HeapStands d row.0) (sym (seen_kept k (sweep_begun k) lists kept)) row.2,
       );
-      swept = λ now n white. omega arith;
+      listed = λ now. record {
+        rising = rising-unmarked k.heap.objects k.marked sound.stands.1.mark.orderly.rising;
+        all = λ n white. has-unmarked k.heap.objects k.marked n ∙ sym (white_before k n) ∙ white;
+      };
     })
 
 -- and what is seen then is what that step leaves
@@ -70,10 +83,10 @@ pub seen_clear_ended : {j : CycleHeap} (k : CycleHeap) (lists : List (List ℕ))
 seen_clear_ended {j} k lists clearing looked after = grind (arith, seen_kept, kept_forgotten)
 
 -- the sweep ends
-pub sound_sweep_ended : {j k : CycleHeap} {lists : List (List ℕ)} {swept_to : ℕ} → is_in k.phase Sweeping ≡ true
-    → not (is_empty (doomed k)) ≡ false → j ≡ cycle_in_phase k Idle → AreSoundLists k lists swept_to
-    → AreSoundLists j lists swept_to
-sound_sweep_ended {j} {k} {lists} {swept_to} sweeping swept after sound =
+pub sound_sweep_ended : {j k : CycleHeap} {lists : List (List ℕ)} {condemned : List ℕ} → is_in k.phase Sweeping ≡ true
+    → not (is_empty (doomed k)) ≡ false → j ≡ cycle_in_phase k Idle → AreSoundLists k lists condemned
+    → AreSoundLists j lists condemned
+sound_sweep_ended {j} {k} {lists} {condemned} sweeping swept after sound =
     let c : ClearHeap = seen_lists k lists in
     let none : refusal_in c (heap.Plain plain.EndSweep) ≡ None =
     both_hold (is_in k.phase Sweeping) (is_empty (doomed k)) WrongPhase SweepLeft sweeping
@@ -83,16 +96,16 @@ sound_sweep_ended {j} {k} {lists} {swept_to} sweeping swept after sound =
     ∙ sym (ap (λ refused. unless_refused refused (λ fault. c) (with_mark c (cycle_in_phase k Idle))) none))
     (subst (λ (i : CycleHeap). AreRegistered i.heap.objects lists) (sym after) sound.registered)
 
--- a sweep: what is doomed is held by nobody, and what is left of it isn't below the number that the sweep comes to
-pub may_free : {k : CycleHeap} {lists : List (List ℕ)} {swept_to : ℕ} (w : ℕ)
-    → work_refusal k.heap k.phase Sweeping w ≡ None → AreSoundLists k lists swept_to → MaySweep k swept_to
-may_free {k} {lists} {swept_to} w none sound =
+-- a sweep: what is doomed is held by nobody, and what is left of it stands in the list
+pub may_free : {k : CycleHeap} {lists : List (List ℕ)} {condemned : List ℕ} (w : ℕ)
+    → work_refusal k.heap k.phase Sweeping w ≡ None → AreSoundLists k lists condemned → MaySweep k condemned
+may_free {k} {lists} {condemned} w none sound =
     let sweeping : is_in k.phase Sweeping ≡ true = (work_passed k Sweeping w none).1 in
-    may_sweep (seen_lists k lists) sound.stands.0 swept_to sound.stands.1 sweeping (sound.swept sweeping)
+    may_sweep (seen_lists k lists) sound.stands.0 condemned sound.stands.1 sweeping (sound.listed sweeping)
 
 -- nothing pending is freed by it
-kept_swept : {k : CycleHeap} {lists : List (List ℕ)} {swept_to : ℕ} (w : ℕ)
-    → work_refusal k.heap k.phase Sweeping w ≡ None → AreSoundLists k lists swept_to → AreKept k (swept_some k) lists
+kept_swept : {k : CycleHeap} {lists : List (List ℕ)} {condemned : List ℕ} (w : ℕ)
+    → work_refusal k.heap k.phase Sweeping w ≡ None → AreSoundLists k lists condemned → AreKept k (swept_some k) lists
 kept_swept {k} {lists} w none sound n within =
     let waits = ap (λ ns. has ns n) (pending_numbers-seen k.heap.objects k.tags lists) ∙ within in
     let stays : has (take 64 (doomed k)) n ≡ false =
@@ -103,8 +116,8 @@ kept_swept {k} {lists} w none sound n within =
     )
 
 -- and no link of what is pending
-pub links_swept : {k : CycleHeap} {lists : List (List ℕ)} {swept_to : ℕ} (w : ℕ)
-    → work_refusal k.heap k.phase Sweeping w ≡ None → AreSoundLists k lists swept_to
+pub links_swept : {k : CycleHeap} {lists : List (List ℕ)} {condemned : List ℕ} (w : ℕ)
+    → work_refusal k.heap k.phase Sweeping w ≡ None → AreSoundLists k lists condemned
     → IsSame k.tags (swept_some k).tags (joined lists)
 links_swept {k} {lists} w none sound n within tagged =
     let waits = ap (λ ns. has ns n) (pending_numbers-seen k.heap.objects k.tags lists) ∙ within in
@@ -113,25 +126,25 @@ links_swept {k} {lists} w none sound n within tagged =
     (has-doomed k n ∙ pending_is_not_doomed (seen_lists k lists) sound.stands.0 n sound.stands.1 waits) in
     (link_at-left (take 64 (doomed k)) k.tags n stays, is_tagged-left (take 64 (doomed k)) k.tags n stays ∙ tagged)
 
-pub sound_swept : {j k : CycleHeap} {lists : List (List ℕ)} {swept_to reached : ℕ} (w : ℕ)
-    → work_refusal k.heap k.phase Sweeping w ≡ None → j ≡ swept_some k → MaySweep j reached
-    → AreSoundLists k lists swept_to → AreSoundLists j lists reached
-sound_swept {j} {k} {lists} {swept_to} {reached} w none after may sound =
+pub sound_swept : {j k : CycleHeap} {lists : List (List ℕ)} {condemned left : List ℕ} (w : ℕ)
+    → work_refusal k.heap k.phase Sweeping w ≡ None → j ≡ swept_some k → MaySweep j left
+    → AreSoundLists k lists condemned → AreSoundLists j lists left
+sound_swept {j} {k} {lists} {condemned} {left} w none after may sound =
     let row = sweep_row (seen_lists k lists) sound.stands.0 w sound.stands.1 none in
-    let left : MaySweep (swept_some k) reached = subst (λ (i : CycleHeap). MaySweep i reached) after may in
+    let may_go_on : MaySweep (swept_some k) left = subst (λ (i : CycleHeap). MaySweep i left) after may in
     let kept = kept_swept w none sound in
-    subst (λ (i : CycleHeap). AreSoundLists i lists reached) (sym after)
+    subst (λ (i : CycleHeap). AreSoundLists i lists left) (sym after)
     (record {
       registered = registered_kept k (swept_some k) lists kept sound.registered;
       stands = (
         row.0,
         subst (λ (d : ClearHeap). HeapStands d row.0) (sym (seen_kept k (swept_some k) lists kept)) row.2,
       );
-      swept = λ now. left.swept;
+      listed = λ now. may_go_on.listed;
     })
 
 -- what is seen then is what the sweep leaves
-pub seen_swept : {j k : CycleHeap} {lists : List (List ℕ)} {swept_to : ℕ} (w : ℕ)
-    → work_refusal k.heap k.phase Sweeping w ≡ None → j ≡ swept_some k → AreSoundLists k lists swept_to
+pub seen_swept : {j k : CycleHeap} {lists : List (List ℕ)} {condemned : List ℕ} (w : ℕ)
+    → work_refusal k.heap k.phase Sweeping w ≡ None → j ≡ swept_some k → AreSoundLists k lists condemned
     → seen_lists j lists ≡ after_in (seen_lists k lists) (heap.Plain (plain.Sweep w))
-seen_swept {j} {k} {lists} {swept_to} w none after sound = grind (arith, seen_kept, kept_swept w none sound)
+seen_swept {j} {k} {lists} {condemned} w none after sound = grind (arith, seen_kept, kept_swept w none sound)

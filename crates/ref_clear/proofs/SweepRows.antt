@@ -1,13 +1,13 @@
 -- A sweep of the abstract collector, and that the heap stands for the state that it leaves.
-use Rattle.ref_clear.proofs.Common.{arith, ◌≡◌, ℕ, ◌≤◌, Bool, true, false, not, ◌&&◌, refl, sym, ap, subst, ◌∙◌, List}
-use Rattle.ref_clear.proofs.Common.{[], ◌∷◌, map, take, drop, Option, Some, None, is_some, ◌⊎◌, inl, inr, and_parts}
+use Rattle.ref_clear.proofs.Common.{arith, ◌≡◌, ℕ, Bool, true, false, not, ◌&&◌, refl, sym, ap, subst, ◌∙◌, List, []}
+use Rattle.ref_clear.proofs.Common.{◌∷◌, map, take, drop, Option, Some, None, is_some, ◌⊎◌, inl, inr, and_parts}
 use Rattle.ref_clear.proofs.Common.{false≢true, true≢false, false_from_ne_true, has, Object, object_at, is_there}
 use Rattle.ref_clear.proofs.Common.{numbers, Allowed, targets_of, targets_at, soft_and_weak_referents, is_kept}
 use Rattle.ref_clear.proofs.Common.{refers_into, Heap, reference_at, reference_in, IsRising, graph_of, is_in, State}
 use Rattle.ref_clear.proofs.Common.{HeapAccepts, without, shown, referent_of, forgotten, heap_but, Marking, Sweeping}
 use Rattle.ref_clear.proofs.Common.{unmarked, CycleHeap, is_white, is_black, is_in_cycle, doomed, MarkStands, FactsBut}
 use Rattle.ref_clear.proofs.Common.{unsaid, ReadsAs, shown_heap, ClearHeap, with_mark, swept_some, refusal_in}
-use Rattle.ref_clear.proofs.Common.{HeapStands, MaySweep}
+use Rattle.ref_clear.proofs.Common.{HeapStands, ListWhite, MaySweep}
 use Rattle.std.proofs.Common.{◌||◌}
 use Rattle.std.proofs.lemmas.Bool.{cond-true, not-true}
 use Rattle.std.proofs.lemmas.List.{take-append-drop}
@@ -262,6 +262,6 @@ sweep_row c a w stands none =
     )
 
 -- what is held is a root, so nothing white is
-pub may_sweep : (c : ClearHeap) (a : State) (from : ℕ) → HeapStands c a → is_in c.mark.phase Sweeping ≡ true
-    → ((n : ℕ) → is_white c.mark n ≡ true → from ≤ n) → MaySweep c.mark from
-may_sweep c a from stands sweeping swept = grind (arith, hold_root)
+pub may_sweep : (c : ClearHeap) (a : State) (condemned : List ℕ) → HeapStands c a
+    → is_in c.mark.phase Sweeping ≡ true → ListWhite c.mark condemned → MaySweep c.mark condemned
+may_sweep c a condemned stands sweeping listed = grind (arith, hold_root)

@@ -30,7 +30,7 @@ module _ (k : CycleHeap) (lists : List (List ℕ)) (m s : ℕ) {n : ℕ} {r : Re
       ≡ after_in (seen_lists k lists) (heap.Unhook m s)
   left_cut = grind arith
 
-  pub unhook_cut : {j : CycleHeap} {reply : Reply} {swept_to : ℕ} → AreSoundLists k lists swept_to
+  pub unhook_cut : {j : CycleHeap} {reply : Reply} {condemned : List ℕ} → AreSoundLists k lists condemned
       → MarkerDoes k (heap.Plain (plain.Clear m s)) reply j
       → HeapDoes (seen_lists k lists) (heap.Unhook m s) replies.Nothing (seen_lists j lists)
   unhook_cut sound does = record { answer = grind arith; after = seen_marked sound does ∙ left_cut }
@@ -38,8 +38,8 @@ module _ (k : CycleHeap) (lists : List (List ℕ)) (m s : ℕ) {n : ℕ} {r : Re
 -- ---- the hold and the cut
 
 -- of the reference r in a slot, that has a queue
-module _ {k : CycleHeap} {lists : List (List ℕ)} {swept_to : ℕ} (sound : AreSoundLists k lists swept_to) (m s : ℕ)
-    {n q : ℕ} {r : Reference} (has : has_slot k.heap m s ≡ true) (held : slot_at k.heap m s ≡ Some n)
+module _ {k : CycleHeap} {lists : List (List ℕ)} {condemned : List ℕ} (sound : AreSoundLists k lists condemned)
+    (m s : ℕ) {n q : ℕ} {r : Reference} (has : has_slot k.heap m s ≡ true) (held : slot_at k.heap m s ≡ Some n)
     (found : reference_at k.heap n ≡ Some r)
     (queue : r.queue ≡ Some q) where
   registered : queue_in k m s ≡ Some q

@@ -9,6 +9,7 @@ use Rattle.ref_base.specs.Worlds.{Pending}
 use Rattle.ref_base.specs.Refusals.{is_in}
 use Rattle.ref_base.specs.Collectors.{State, joined}
 use Rattle.ref_base.specs.declared.phase.Phase.TheVariants.{Sweeping}
+use Rattle.ref_space.specs.Worklists.{Worklist}
 use Rattle.ref_space.specs.Tables.{Tag}
 use Rattle.ref_objects.specs.Grounds.{cleared_in_at}
 use Rattle.ref_space.specs.declared.linked.Linked.{Linked}
@@ -64,27 +65,33 @@ abbrev pub AreRegistered : List Object → List (List ℕ) → Type 0
 AreRegistered os lists =
     (n : ℕ) → has (joined lists) n ≡ true → IsSome (registered_in (reference_in (object_at os n)))
 
+-- numbers rise, and each white object's is among them
+pub record ListWhite (k : CycleHeap) (condemned : List ℕ) : Type 0 where
+  pub rising : IsRising condemned
+  pub all : (n : ℕ) → is_white k n ≡ true → has condemned n ≡ true
+
 -- The heap stands for some state of the abstract collector; what is pending is registered with a queue; and once a
--- sweep has begun nothing below the number that it has come to is left to free.
-pub record AreSoundLists (k : CycleHeap) (lists : List (List ℕ)) (swept_to : ℕ) : Type 0 where
+-- sweep has begun what is left to free stands in the list of the condemned, in order of number.
+pub record AreSoundLists (k : CycleHeap) (lists : List (List ℕ)) (condemned : List ℕ) : Type 0 where
   pub registered : AreRegistered k.heap.objects lists
   pub stands : (a : State) × HeapStands (seen_lists k lists) a
-  pub swept : is_in k.phase Sweeping ≡ true → (n : ℕ) → is_white k n ≡ true → swept_to ≤ n
+  pub listed : is_in k.phase Sweeping ≡ true → ListWhite k condemned
 
 -- what workers found isn't pending
 abbrev pub AreApart : CycleHeap → List (List ℕ) → Type 0
 AreApart k lists = (n : ℕ) → has (joined k.found) n ≡ true → has (joined lists) n ≡ false
 
--- The lists of pending references are chains, through which nothing leads that is still to be looked at.
-pub record IsSoundHeap (k : CycleHeap) (chains : List Chain) (swept_to : ℕ) : Type 0 where
+-- The lists of pending references are chains, through which nothing leads that is still to be looked at; and the list
+-- of the condemned has room for as many as there are cells.
+pub record IsSoundHeap (k : CycleHeap) (chains : List Chain) (condemned : Worklist) : Type 0 where
   pub linked : AreChains k.tags k.heap.config.cells chains
   pub apart : AreApart k (lists_in k chains)
-  pub lists : AreSoundLists k (lists_in k chains) swept_to
+  pub lists : AreSoundLists k (lists_in k chains) condemned.stands
+  pub fits : k.heap.config.cells ≤ condemned.room
 
--- once a sweep has begun, what is doomed is held by nobody, and none of it is below the number that the sweep has come
--- to
-pub record MaySweep (k : CycleHeap) (swept_to : ℕ) : Type 0 where
+-- once a sweep has begun, what is doomed is held by nobody, and stands in this list, in order of number
+pub record MaySweep (k : CycleHeap) (condemned : List ℕ) : Type 0 where
   pub sweeping : is_in k.phase Sweeping ≡ true
   pub rising : IsRising (numbers k.heap.objects)
   pub free : (n : ℕ) → is_white k n ≡ true → has k.heap.holds n ≡ false
-  pub swept : (n : ℕ) → is_white k n ≡ true → swept_to ≤ n
+  pub listed : ListWhite k condemned

@@ -8,6 +8,7 @@ ghost use Rattle.ref_base.specs.Refusals.{drop_refusal};
 ghost use Rattle.ref_objects.specs.Grounds.{starting_refusal, IsMade, IsRefused, kind_in};
 ghost use Rattle.ref_mark.specs.MarkRows.{starting_state};
 ghost use Rattle.ref_mark.specs.Chains.{no_chain};
+ghost use Rattle.ref_space.specs.Worklists.{empty_worklist};
 ghost use Rattle.ref_clear.specs.ClearHeaps.{first_clear_heap, pending_at};
 ghost use Rattle.ref_clear.specs.ClearViews.{pending_from};
 ghost use Rattle.ref_clear.specs.Standing.{HeapStands};
@@ -22,21 +23,22 @@ mod sweep;
 use crate::Pending;
 use ref_base::{Config, Fault, MutNo, ObjNo, Phase, QueueNo, SlotNo, WorkerNo};
 use ref_mark::{Chain, Marker};
-use ref_objects::{Kind, Start};
+use ref_objects::{Kind, Start, Worklist};
 use std::alloc::{AllocError, Allocator, Global};
 use std::marker::Model;
 
 /// A heap.
 ///
-/// All its memory is taken as it is made: that of its `Marker`, and 8 bytes for each worker. No other call takes any.
+/// All its memory is taken as it is made: that of its `Marker`, and 8 bytes for each cell and for each worker. No other
+/// call takes any.
 #[derive(Drop)]
 pub struct Heap<A: Allocator = Global> {
     marker: Marker<A>,
     // For each worker, the references that it cleared and hasn't handed on, linked in their records. Their objects tell
     // queue and cycle.
     pending: Vec<Chain, A>,
-    // Once a sweep has begun, what is below this number isn't doomed.
-    swept_to: ObjNo,
+    // Once a sweep has begun, what is doomed stands in it, in order of number.
+    condemned: Worklist<A>,
 }
 
 impl<A: Allocator> Model for Heap<A> {
@@ -47,7 +49,7 @@ impl<A: Allocator> Model for Heap<A> {
 
     ghost view = { λ h. seen_heap h.marker h.pending.items };
 
-    ghost invariant = { λ h. IsSoundHeap h.marker h.pending.items h.swept_to };
+    ghost invariant = { λ h. IsSoundHeap h.marker h.pending.items h.condemned };
 }
 
 impl<A: Allocator + Copy> Heap<A> {
@@ -68,11 +70,11 @@ impl<A: Allocator + Copy> Heap<A> {
         ensures stands { IfOk result (λ heap. HeapStands heap (starting_state config heap_no start.obj start.cycle)) }
     {
         let marker = Marker::starting(alloc, config, heap_no, start)?;
-        match pending_lists(alloc, config) {
-            Ok(pending) => Ok(Heap {
+        match empty_lists(alloc, config) {
+            Ok((pending, condemned)) => Ok(Heap {
                 marker,
                 pending,
-                swept_to: ObjNo(0),
+                condemned,
             }),
             Err(_) => Err(Fault::NoMemory),
         }
@@ -162,6 +164,19 @@ impl<A: Allocator + Copy> Heap<A> {
         let no = list.get(self.marker.objects(), place)?;
         Some(Pending::of(self.marker.objects().linked_of(no)))
     }
+}
+
+// The lists of a new heap: of pending references for each worker, and of the condemned.
+fn empty_lists<A: Allocator + Copy>(
+    alloc: A,
+    config: Config,
+) -> Result<(Vec<Chain, A>, Worklist<A>), AllocError>
+    ensures pending { IfOk result (λ made. made.0.items ≡ replicate config.workers no_chain) }
+    ensures condemned { IfOk result (λ made. made.1 ≡ empty_worklist config.cells) }
+{
+    let pending = pending_lists(alloc, config)?;
+    let condemned = Worklist::new(alloc, config.cells as usize)?;
+    Ok((pending, condemned))
 }
 
 // An empty list for each worker.

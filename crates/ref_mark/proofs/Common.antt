@@ -51,5 +51,5 @@ pub use Rattle.ref_mark.specs.MarkCalls.{done_in, refusal_in_cycle, unless_refus
 pub use Rattle.ref_mark.specs.MarkViews.{IsSoundMarker, MayFind, MayGrey, found_in, ground_of, seen_marker}
 pub use Rattle.ref_mark.specs.Standing.{AreThere, Coloured, FactsBut, FoundBut, MarkStands, Reached, ReadsAs}
 pub use Rattle.ref_mark.specs.Standing.{shown_heap, unsaid}
-pub use Rattle.ref_mark.specs.Worklists.{Worklist, first_in, listed_at}
+pub use Rattle.ref_space.specs.Worklists.{Worklist, first_in, listed_at}
 pub use Rattle.ref_mark.specs.declared.chain.Chain.{Chain}

@@ -28,6 +28,13 @@ distinct-apart (m ∷ ms) ns n distinct within = grind (arith, lacks-parts, dist
 pub has-other : (ms : List ℕ) (m n : ℕ) → has ms m ≡ true → has ms n ≡ false → (m == n) ≡ false
 has-other ms m n within lacks = ne_eqb m n (λ same. true≢false (sym within ∙ ap (has ms) same ∙ lacks))
 
+-- two lists that have nothing in common
+pub distinct-append : (ms ns : List ℕ) → AreDistinct ms → AreDistinct ns
+    → ((n : ℕ) → has ms n ≡ true → has ns n ≡ false) → AreDistinct (ms ++ ns)
+distinct-append [] ns first second apart = second
+distinct-append (m ∷ ms) ns first second apart =
+    grind (arith, has-append, apart m, distinct-append ms ns first.1 second)
+
 -- ---- how long they can be
 
 length-one_fewer : (ms : List ℕ) (n : ℕ) → has ms n ≡ true → length (one_fewer ms n) + 1 ≡ length ms

@@ -1,11 +1,11 @@
 -- What the loops of a begin and of a scan shade, turn by turn.
-use Rattle.ref_mark.proofs.Common.{◌≡◌, ℕ, ◌+◌, ◌<◌, ◌≤◌, true, false, refl, sym, ap, ◌∙◌, arith, List, [], ◌∷◌, ◌++◌}
-use Rattle.ref_mark.proofs.Common.{length, map, take, Option, Some, None, inl, inr, zero, suc, slice_index_or}
-use Rattle.ref_mark.proofs.Common.{if◌then◌else◌, cases_Bool, take_all, append-nil, append_assoc, all_marked}
-use Rattle.ref_mark.proofs.Common.{all_newly_marked, ground_of, has, AreDistinct, Reference, object_at, present}
-use Rattle.ref_mark.proofs.Common.{targets_at, allowed_referent, is_kept, reference_at, Urgency, fields_in, least_from}
+use Rattle.ref_mark.proofs.Common.{◌≡◌, ℕ, ◌+◌, ◌<◌, ◌≤◌, true, refl, sym, ap, ◌∙◌, arith, List, [], ◌∷◌, ◌++◌}
+use Rattle.ref_mark.proofs.Common.{length, take, Option, Some, None, inl, inr, slice_index_or}
+use Rattle.ref_mark.proofs.Common.{if◌then◌else◌, cases_Bool, append-nil, append_assoc, all_marked}
+use Rattle.ref_mark.proofs.Common.{all_newly_marked, ground_of, present}
+use Rattle.ref_mark.proofs.Common.{Urgency, least_from}
 use Rattle.ref_mark.proofs.Common.{IsInOrder, first_in, CycleHeap, shaded, shaded_all, shaded_if_any, whitened}
-use Rattle.ref_mark.proofs.Common.{cycle_begun, roots_of, if_any}
+use Rattle.ref_mark.proofs.Common.{cycle_begun, roots_of}
 use Rattle.std.proofs.Common.{nat_le}
 use Rattle.std.proofs.lemmas.Bool.{le-leb}
 use Rattle.std.proofs.lemmas.List.{take_more}
@@ -34,18 +34,6 @@ pub shaded_once-heap : (k : CycleHeap) (n : ℕ) → (shaded k n).heap ≡ k.hea
 shaded_once-heap k n = ap (λ (j : CycleHeap). j.heap) (shaded-only k n)
 
 -- ---- the parts of a scan and of a begin
-
--- shading keeps what the cycle goes by
-shaded_policy : (start : CycleHeap) (ns : List ℕ) → (shaded_all start ns).policy ≡ start.policy
-shaded_policy start ns = ap (λ (k : CycleHeap). k.policy) (shaded_all-only start ns)
-
--- the fields first, and then the referent that is kept
-pub shaded_targets : (start k : CycleHeap) (n : ℕ) (reference : Option Reference) (referent : Option ℕ)
-    → reference_at start.heap n ≡ reference
-    → k ≡ shaded_all start (present (fields_in (object_at start.heap.objects n)))
-    → if_any referent ≡ allowed_referent (is_kept k.policy) reference
-    → shaded_if_any k referent ≡ shaded_all start (targets_at (is_kept start.policy) start.heap.objects n)
-shaded_targets start k n reference referent own fields kept = grind (arith, shaded_policy, shaded_all-append)
 
 -- all objects become white, then the slots are shaded, and then the holds
 pub begun_by_parts : (k white slots held : CycleHeap) (now : ℕ) (how : Urgency) → white ≡ whitened k now how
@@ -169,58 +157,3 @@ pub shaded_marks : (k : CycleHeap) (held : List (Option ℕ))
 shaded_marks k [] = ap (λ ns. record k { grey = ns }) (append-nil k.grey)
 shaded_marks k (None ∷ held) = shaded_marks k held
 shaded_marks k (Some n ∷ held) = grind (arith, append_assoc, append-nil, shaded_marks (shaded k n) held)
-
--- the one at a place
-read_at : (ns : List ℕ) (place : ℕ) → place < length ns
-    → (n : ℕ) × (slice_index_or (map (λ m. Some m) ns) place None ≡ Some n)
-    × (take (place + 1) ns ≡ take place ns ++ n ∷ [])
-read_at [] place within = absurd (omega (arith, within))
-read_at (m ∷ ns) zero within = (m, refl, refl)
-read_at (m ∷ ns) (suc place) within = grind (arith, read_at ns place)
-
-pub read-has : (ns : List ℕ) (place n : ℕ) → slice_index_or (map (λ m. Some m) ns) place None ≡ Some n → has ns n ≡ true
-read-has [] place n is = absurd (cc)
-read-has (m ∷ ns) zero n is = grind arith
-read-has (m ∷ ns) (suc place) n is = grind (arith, read-has ns place n is)
-
--- it isn't among those before it
-pub read-apart : (ns : List ℕ) (place n : ℕ) → AreDistinct ns
-    → slice_index_or (map (λ m. Some m) ns) place None ≡ Some n → has (take place ns) n ≡ false
-read-apart [] place n once is = absurd (cc)
-read-apart (m ∷ ns) zero n once is = refl
-read-apart (m ∷ ns) (suc place) n once is = grind (arith, read-has ns place n is, read-apart ns place n once.1 is)
-
-module _ {k : CycleHeap} (start : CycleHeap) (held : List (Option ℕ)) (place : ℕ)
-    (so_far : k ≡ record start {
-      marked = (all_marked (ground_of start) held).marked;
-      grey = start.grey ++ take place (all_newly_marked (ground_of start) held);
-    }) where
-  -- one of them more
-  pub greyed_on : {j : CycleHeap} (n : ℕ)
-      → slice_index_or (map (λ m. Some m) (all_newly_marked (ground_of start) held)) place None ≡ Some n
-      → place < length (all_newly_marked (ground_of start) held) → j ≡ record k { grey = k.grey ++ n ∷ [] }
-      → j ≡ record start {
-        marked = (all_marked (ground_of start) held).marked;
-        grey = start.grey ++ take (place + 1) (all_newly_marked (ground_of start) held);
-      }
-  greyed_on n is within pushed =
-      let one = read_at (all_newly_marked (ground_of start) held) place within in
-      let same : one.0 ≡ n = some_inj (sym one.1 ∙ is) in
-      pushed ∙ ap (λ (i : CycleHeap). record i { grey = i.grey ++ n ∷ [] }) so_far
-      ∙ ap (λ ns. record start { marked = (all_marked (ground_of start) held).marked; grey = ns })
-      (append_assoc start.grey (take place (all_newly_marked (ground_of start) held)) (n ∷ [])
-      ∙ ap (λ ns. start.grey ++ ns)
-      (ap (λ i. take place (all_newly_marked (ground_of start) held) ++ i ∷ []) (sym same) ∙ sym one.2))
-    where
-      some_inj : {a b : ℕ} → Some a ≡ Some b → a ≡ b
-      some_inj same = cc
-
-  pub none_at : slice_index_or (map (λ m. Some m) (all_newly_marked (ground_of start) held)) place None ≡ None
-      → place < length (all_newly_marked (ground_of start) held) → ⊥
-  none_at none within =
-      let one = read_at (all_newly_marked (ground_of start) held) place within in
-      let wrong : None ≡ Some one.0 = sym none ∙ one.1 in cc
-
-  -- all of them
-  pub greyed_all : length (all_newly_marked (ground_of start) held) ≤ place → k ≡ shaded_all start (present held)
-  greyed_all all = grind (arith, take_all, shaded_marks)

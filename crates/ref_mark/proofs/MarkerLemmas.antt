@@ -10,14 +10,27 @@ use Rattle.ref_mark.proofs.Common.{first_cycle_heap, is_white, shaded, shaded_al
 use Rattle.ref_mark.proofs.Common.{ground_of, one_more, without_tag, Chain, AreChains, chain_first, linked_last_of}
 use Rattle.ref_mark.proofs.Common.{chain_with, chain_without_first, is_tagged, linked_last, listed, lists_of, no_chain}
 use Rattle.ref_mark.proofs.Common.{seen_marker, found_in, IsSoundMarker, MayFind, MayGrey, all_marked, all_newly_marked}
-use Rattle.ref_mark.proofs.Common.{slice_index_or, cleared, Fault, rest_of, numbers, Reference, Tag, IsWellFormed}
+use Rattle.ref_mark.proofs.Common.{cleared, Fault, rest_of, numbers, Reference, Tag, IsWellFormed}
 use Rattle.ref_mark.proofs.Common.{with_cleared_tag, with_new_tag, look_of, ground_with_heap, is_doomed, is_past_mark}
 use Rattle.ref_mark.proofs.Common.{with_changed, with_reference, cases_Bool, inl, inr}
+use Rattle.std.proofs.lemmas.Bool.{or_cases}
 use Rattle.std.specs.List.{list_any}
 use Rattle.std.proofs.lemmas.List.{length_push}
 use Rattle.std.proofs.Common.{Result, Ok, Err}
 use Rattle.ref_mark.specs.CycleHeaps.{is_swept, with_found_taken, swept, is_to_clear, cut_at, found_looked_at}
-use Rattle.ref_mark.specs.Worklists.{empty_worklist, emptied_list, with_last as list_with, without_first_listed}
+use Rattle.ref_space.specs.Worklists.{empty_worklist, emptied_list, with_last as list_with, without_first_listed}
+use Rattle.ref_space.specs.Worklists.{with_more as list_with_all}
+use Rattle.ref_space.specs.Tables.{kept_value, scanned_values}
+use Rattle.ref_objects.specs.Grounds.{MayGrow, ground_scanned, healed, is_unmarked}
+use Rattle.ref_mark.specs.MarkCalls.{MarkerDoes, scan_reply}
+use Rattle.ref_base.specs.declared.heap_step.HeapStep.TheVariants.{Plain}
+use Rattle.ref_base.specs.declared.plain_step.PlainStep.TheVariants.{Scan}
+use Rattle.ref_base.specs.declared.reply.Reply.TheVariants.{Scanned}
+use Rattle.ref_mark.specs.CycleHeaps.{cycle_healed, grey_scanned}
+use Rattle.ref_mark.proofs.LoopLemmas.{shaded_marks}
+use Rattle.ref_base.specs.Paths.{allowed_referent, targets_of}
+use Rattle.ref_mark.proofs.Common.{present, targets_at, is_kept, object_at}
+use Rattle.ref_mark.proofs.DistinctLists.{distinct-append}
 use Rattle.ref_objects.specs.Grounds.{is_condemned, cut_but, if_done, first_ground, after_freeing, with_new_object}
 use Rattle.ref_objects.specs.Grounds.{newly_marked, ground_marked_if_any, ground_healed, occupied, vacated}
 use Rattle.ref_objects.specs.declared.start.Start.{Start}
@@ -30,7 +43,6 @@ use Rattle.ref_base.proofs.HasLaws.{has-right, has-append}
 use Rattle.ref_mark.proofs.DoomedLists.{is_there-push}
 use Rattle.ref_objects.proofs.NewMarks.{marked-if_any, marked-only, new_mark, all_marked-only, marked-stays, new_marks}
 use Rattle.ref_objects.proofs.NewMarks.{new_once}
-use Rattle.ref_mark.proofs.LoopLemmas.{read-has, read-apart}
 use Rattle.ref_base.proofs.FoundLists.{with_last, has-with_last, AreDistinct-with_last, joined-emptied}
 use Rattle.ref_base.proofs.NewClears.{refers_into-same}
 use Rattle.ref_mark.proofs.Shading.{AreDistinct-push}
@@ -349,45 +361,6 @@ module _ {g after : Ground} {grey : Worklist} {found : List Chain} {phase : Phas
   may_grey_new how cycle n new =
       let one = new_mark g value n new in may_grey only grows sound how cycle n one.0 (rw is one.1)
 
--- several are, as the fields of an object hold them
-module _ {g after : Ground} {grey : Worklist} {found : List Chain} {phase : Phase} (held : List (Option ℕ))
-    (is : after ≡ all_marked g held) (sound : IsSoundMarker g grey found phase) where
-  pub sound_all_marked : IsWellFormed after → IsSoundMarker after grey found phase
-  sound_all_marked formed =
-      sound_remarked (rw is (all_marked-only g held)) (λ n was. rw is (marked-stays g held n was)) sound formed
-
-  -- none of them is grey at first
-  pub seen_all_marked : (how : Policy) (cycle : ℕ)
-      → seen_marker after grey found phase how cycle
-      ≡ record (seen_marker g grey found phase how cycle) {
-        marked = (all_marked (ground_of (seen_marker g grey found phase how cycle)) held).marked;
-        grey = grey.stands
-            ++ take 0 (all_newly_marked (ground_of (seen_marker g grey found phase how cycle)) held);
-      }
-  seen_all_marked how cycle =
-      rw (ground_same how cycle sound) (grind (arith, all_marked-only, append-nil))
-
-  -- each that was marked anew may become grey in its turn
-  pub may_grey_on : {k : CycleHeap} (how : Policy) (cycle place n : ℕ)
-      → slice_index_or (map (λ m. Some m) (all_newly_marked g held)) place None ≡ Some n
-      → k ≡ record (seen_marker g grey found phase how cycle) {
-        marked = (all_marked (ground_of (seen_marker g grey found phase how cycle)) held).marked;
-        grey = grey.stands
-            ++ take place (all_newly_marked (ground_of (seen_marker g grey found phase how cycle)) held);
-      } → MayGrey k n
-  may_grey_on how cycle place n reads so_far =
-      let news = all_newly_marked g held in
-      let one = new_marks g held n (read-has news place n reads) in
-      let apart = read-apart news place n (new_once g held) reads in
-      let unlisted : has grey.stands n ≡ false =
-      false_from_ne_true (has grey.stands n) (λ stands. true≢false (sym (sound.listed.grey_marked n stands) ∙ one.0)) in
-      rw (so_far, ground_same how cycle sound) (record {
-        marked = one.1;
-        new = has-append grey.stands (take place news) n ∙ simp unlisted apart;
-        lacks = false_from_ne_true (has (joined (found_in g found)) n)
-            (λ stands. true≢false (sym (sound.listed.found_marked n stands) ∙ one.0));
-      })
-
 -- a reference is cleared in its slot, unless it is spared
 pub sound_cut_in : {T : Type 0} {g after : Ground} {grey : Worklist} {found : List Chain} {phase : Phase}
     (spare : Bool) (m s : ℕ) (result : Result T Fault) → after ≡ if_done result (cut_but g spare m s) g
@@ -423,12 +396,6 @@ sound_scanned {g} {grey} {l} {found} {phase} taken sound = grind arith
 pub sound_cleared : {g : Ground} {grey l : Worklist} {found : List Chain} {phase : Phase}
     → l ≡ emptied_list grey → IsSoundMarker g grey found phase → IsSoundMarker g l found phase
 sound_cleared {g} {grey} {l} {found} {phase} cleared sound = grind arith
-
--- the first is healed
-module _ {g after : Ground} {grey : Worklist} {found : List Chain} {phase : Phase} (n : ℕ)
-    (is : after ≡ ground_healed g n) (sound : IsSoundMarker g grey found phase) where
-  pub sound_healed : IsSoundMarker after grey found phase
-  sound_healed = subst (λ (h : Ground). IsSoundMarker h grey found phase) (sym is) (assumption sound)
 
 -- ---- what workers found
 
@@ -669,6 +636,160 @@ seen_first config heap_no start {g} {grey} {found} {policy} fixed objects greys 
 
 -- ---- a scan
 
+-- what is marked anew becomes grey
+listed_anew : (g : Ground) (held : List (Option ℕ)) (grey : List ℕ) (found : List (List ℕ)) (phase : Phase)
+    → AreListed g.marked grey found phase
+    → AreListed (all_marked g held).marked (grey ++ all_newly_marked g held) found phase
+listed_anew g held grey found phase lists = record {
+  grey_once = distinct-append grey (all_newly_marked g held) lists.grey_once (new_once g held) (λ n there.
+      false_from_ne_true (has (all_newly_marked g held) n) (λ new.
+      true≢false (sym (lists.grey_marked n there) ∙ (new_marks g held n new).0)));
+  grey_marked = λ n there.
+      elim (or_cases (has grey n) (has (all_newly_marked g held) n)
+      (sym (has-append grey (all_newly_marked g held) n) ∙ there)) [
+        | inl was ↦ marked-stays g held n (lists.grey_marked n was)
+        | inr new ↦ (new_marks g held n new).1
+      ];
+  found_once = lists.found_once;
+  found_marked = λ n there. marked-stays g held n (lists.found_marked n there);
+  apart = λ n there.
+      elim (or_cases (has grey n) (has (all_newly_marked g held) n)
+      (sym (has-append grey (all_newly_marked g held) n) ∙ there)) [
+        | inl was ↦ lists.apart n was
+        | inr new ↦
+            false_from_ne_true (has (joined found) n) (λ stands.
+            true≢false (sym (lists.found_marked n stands) ∙ (new_marks g held n new).0))
+      ];
+  none_left = lists.none_left;
+}
+
+present-append : (xs ys : List (Option ℕ)) → present (xs ++ ys) ≡ present xs ++ present ys
+present-append [] ys = refl
+present-append (Some n ∷ xs) ys = ap (λ ns. n ∷ ns) (present-append xs ys)
+present-append (None ∷ xs) ys = present-append xs ys
+
+-- what a scan marks are the targets of its object
+present-kept : (keeps : Reference → Bool) (r : Option Reference)
+    → present (kept_value keeps r) ≡ allowed_referent keeps r
+present-kept keeps None = refl
+present-kept keeps (Some r) = grind arith
+
+targets_present : (keeps : Reference → Bool) (o : Option Object)
+    → present (scanned_values keeps o) ≡ targets_of keeps o
+targets_present keeps None = refl
+targets_present keeps (Some o) =
+    present-append o.fields (kept_value keeps o.reference) ∙ ap (λ ns. present o.fields ++ ns)
+    (present-kept keeps o.reference)
+
+-- an object may be healed before what it leads to becomes grey, or behind that
+healed-shaded : (k : CycleHeap) (n : ℕ) (ms : List ℕ)
+    → cycle_healed (shaded_all k ms) n ≡ shaded_all (cycle_healed k n) ms
+healed-shaded k n [] = refl
+healed-shaded k n (m ∷ ms) =
+    healed-shaded (shaded k m) n ms ∙ ap (λ (j : CycleHeap). shaded_all j ms) (once k n m)
+  where
+    once : (k : CycleHeap) (n m : ℕ) → cycle_healed (shaded k m) n ≡ shaded (cycle_healed k n) m
+    once k n m = grind arith
+
+-- a list of distinct marked objects may grow
+pub may_grow : {g : Ground} {grey : Worklist} {found : List Chain} {phase : Phase} → IsWellFormed g
+    → IsSoundMarker g grey found phase → MayGrow g grey
+may_grow {g} {grey} {found} {phase} formed sound = record {
+  room = let few = formed.few in let fits = sound.grey_fits in omega (arith, few, fits);
+  marked = distinct_fit grey.stands g.marked sound.listed.grey_once sound.listed.grey_marked;
+}
+
+-- the first of the grey list is scanned
+module _ {g after : Ground} {grey l : Worklist} {found : List Chain} {phase : Phase} (how : Policy) (n : ℕ)
+    (is : after ≡ ground_scanned (is_kept how) g n)
+    (pushed : l ≡ list_with_all grey (all_newly_marked g (scanned_values (is_kept how) (object_at g.heap.objects n))))
+    (sound : IsSoundMarker g grey found phase) where
+  abbrev held : List (Option ℕ)
+  held = scanned_values (is_kept how) (object_at g.heap.objects n)
+
+  scanned_only : after ≡ record g { marked = (all_marked g held).marked; space = healed g.space n }
+  scanned_only = is ∙ ap (λ h. ground_healed h n) (all_marked-only g held)
+
+  pub sound_blackened : IsWellFormed after → IsSoundMarker after l found phase
+  sound_blackened formed =
+      let few : length (all_marked g held).marked ≤ g.heap.config.cells =
+      subst (λ (h : Ground). length h.marked ≤ h.heap.config.cells) scanned_only
+      (let less = formed.few in let marks = formed.marks in omega (arith, less, marks)) in
+      rw (scanned_only, pushed) (record {
+        few = few;
+        grey_fits = sound.grey_fits;
+        finders = sound.finders;
+        begins = sound.begins;
+        none_0 = sound.none_0;
+        chains = sound.chains;
+        listed = listed_anew g held grey.stands (found_in g found) phase sound.listed;
+        condemning = sound.condemning;
+      })
+
+  pub seen_blackened : (cycle : ℕ)
+      → seen_marker after l found phase how cycle
+      ≡ shaded_all (cycle_healed (seen_marker g grey found phase how cycle) n)
+      (targets_at (is_kept how) g.heap.objects n)
+  seen_blackened cycle =
+      let k : CycleHeap = seen_marker g grey found phase how cycle in
+      rw (scanned_only, pushed)
+      (ap (λ (h : Ground). cycle_healed (record k {
+        marked = (all_marked h held).marked;
+        grey = grey.stands ++ all_newly_marked h held;
+      }) n) (sym (ground_same how cycle sound))
+      ∙ ap (λ (j : CycleHeap). cycle_healed j n) (shaded_marks k held)
+      ∙ healed-shaded k n (present held)
+      ∙ ap (shaded_all (cycle_healed k n)) (targets_present (is_kept how) (object_at g.heap.objects n)))
+
+  -- whether it is a reference to a white object then
+  pub refers_blackened : (cycle : ℕ) {finds : Bool}
+      → finds ≡ refers_into (is_unmarked after) (reference_at g.heap n)
+      → refers_into (is_white (seen_marker after l found phase how cycle)) (reference_at after.heap n) ≡ finds
+  refers_blackened cycle asked =
+      ap (λ (h : Ground). refers_into (is_unmarked after) (reference_at h.heap n)) scanned_only ∙ sym asked
+
+-- where a reference has no white referent, the worker finds nothing
+pub found_nothing : (k : CycleHeap) (w n : ℕ) → refers_into (is_white k) (reference_at k.heap n) ≡ false
+    → k ≡ with_found k w n
+found_nothing k w n none = simp none refl
+
+-- so the step is done
+none_first : {n : ℕ} → None ≡ Some n → ⊥
+none_first same = absurd (cc)
+
+same_first : {m n : ℕ} → Some m ≡ Some n → m ≡ n
+same_first same = cc
+
+pub scan_done : (g : Ground) (grey : Worklist) (found : List Chain) {l : Worklist} {phase : Phase} {how : Policy}
+    {cycle : ℕ} {now after : CycleHeap} (w n : ℕ) → seen_marker g grey found phase how cycle ≡ now
+    → work_refusal now.heap now.phase Marking w ≡ None → first_in grey.stands ≡ Some n
+    → l ≡ without_first_listed grey
+    → after ≡ with_found (shaded_all (cycle_healed (seen_marker g l found phase how cycle) n)
+    (targets_at (is_kept how) g.heap.objects n)) w n
+    → MarkerDoes now (Plain (Scan w)) (Scanned n) after
+scan_done g grey found {l} {phase} {how} {cycle} {now} {after} w n is accepted first taken done =
+    by grey.stands refl
+  where
+    left : List ℕ → ℕ → CycleHeap
+    left ns m =
+        with_found (shaded_all (cycle_healed (record (seen_marker g grey found phase how cycle) { grey = ns }) m)
+        (targets_at (is_kept how) g.heap.objects m)) w m
+
+    free : work_refusal g.heap phase Marking w ≡ None
+    free = subst (λ (j : CycleHeap). work_refusal j.heap j.phase Marking w ≡ None) (sym is) accepted
+
+    by : (ns : List ℕ) → grey.stands ≡ ns → MarkerDoes now (Plain (Scan w)) (Scanned n) after
+    by [] none = absurd (none_first (sym (ap first_in none) ∙ first))
+    by (m ∷ ms) stand =
+        let same : m ≡ n = same_first (sym (ap first_in stand) ∙ first) in
+        subst (λ (j : CycleHeap). MarkerDoes j (Plain (Scan w)) (Scanned n) after) is
+        (record {
+          answer = simp free (ap scan_reply (sym first));
+          after = simp free
+              (done ∙ ap (λ (x : Worklist). left x.stands n) taken ∙ ap (λ ns. left (rest_of ns) n) stand
+              ∙ ap (left ms) (sym same) ∙ sym (ap (grey_scanned (seen_marker g grey found phase how cycle) w) stand));
+        })
+
 -- what grows as objects become grey: no list but the grey, and that by the unmarked alone
 pub record Greys (k l : CycleHeap) : Type 0 where
   pub heap : l.heap ≡ k.heap
@@ -680,7 +801,7 @@ pub record Greys (k l : CycleHeap) : Type 0 where
 greys_one : (k : CycleHeap) (n : ℕ) → Greys k (shaded k n)
 greys_one k n = grind (arith, has-one_more, has-append)
 
-pub greys_all : (k : CycleHeap) (ns : List ℕ) → Greys k (shaded_all k ns)
+greys_all : (k : CycleHeap) (ns : List ℕ) → Greys k (shaded_all k ns)
 greys_all k [] = record { heap = refl; found = refl; phase = refl; black = λ n there black. (there, black) }
 greys_all k (n ∷ ns) =
     let first : Greys k (shaded k n) = greys_one k n in
@@ -697,15 +818,12 @@ pub shaded_greys : (k j : CycleHeap) (ns : List ℕ) → j ≡ shaded_all k ns �
 shaded_greys k j ns is = subst (λ (m : CycleHeap). Greys k m) (sym is) (greys_all k ns)
 
 -- the first of the grey list may be found by the worker that scans it, also once its targets are grey
-pub scan_may_find : {g h : Ground} {grey l : Worklist} {found : List Chain} {phase : Phase} {how : Policy} {cycle : ℕ}
+pub scan_may_find : {g : Ground} {grey l : Worklist} {found : List Chain} {phase : Phase} {how : Policy} {cycle : ℕ}
     {now after : CycleHeap} (w n : ℕ) → seen_marker g grey found phase how cycle ≡ now
     → work_refusal now.heap now.phase Marking w ≡ None → IsSoundMarker g grey found phase
-    → first_in grey.stands ≡ Some n → l ≡ without_first_listed grey → h ≡ ground_healed g n
-    → Greys (seen_marker h l found phase how cycle) after → MayFind after w n
-scan_may_find {g} {h} {grey} {l} {found} {phase} {how} {cycle} {now} {after} w n is accepted sound first taken healed
-    grown =
-    let since : Greys (seen_marker (ground_healed g n) l found phase how cycle) after =
-    subst (λ (i : Ground). Greys (seen_marker i l found phase how cycle) after) healed grown in
+    → first_in grey.stands ≡ Some n → l ≡ without_first_listed grey
+    → Greys (cycle_healed (seen_marker g l found phase how cycle) n) after → MayFind after w n
+scan_may_find {g} {grey} {l} {found} {phase} {how} {cycle} {now} {after} w n is accepted sound first taken grown =
     grind arith
 
 -- ---- what calls know of the heap as it is seen
@@ -713,12 +831,6 @@ scan_may_find {g} {h} {grey} {l} {found} {phase} {how} {cycle} {now} {after} w n
 -- of what a worker may find
 pub may_find : {k now : CycleHeap} {v w : ℕ} (n : ℕ) → k ≡ now → v ≡ w → MayFind now w n → MayFind k v n
 may_find n is same may = rw (is, same) may
-
--- and of a reference whose referent is white
-pub refers_white : {k now : CycleHeap} {read : Option Reference} {white : Bool} (n : ℕ) → k ≡ now
-    → reference_at now.heap n ≡ read → white ≡ refers_into (is_white now) read → white ≡ true
-    → refers_into (is_white k) (reference_at k.heap n) ≡ true
-refers_white n is reads refers white = cc
 
 -- a reference with a referent is there
 pub referring_is_there : (test : ℕ → Bool) (h : Heap) (n : ℕ) → refers_into test (reference_at h n) ≡ true

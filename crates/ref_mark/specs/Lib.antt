@@ -1,4 +1,3 @@
-pub mod Worklists
 pub mod Chains
 pub mod CycleHeaps
 pub mod Standing

@@ -18,7 +18,7 @@ use Rattle.ref_base.specs.declared.plain_step.PlainStep.TheVariants as plain
 use Rattle.ref_base.specs.declared.reply.Reply.{Reply}
 use Rattle.ref_base.specs.declared.reply.Reply.TheVariants as replies
 use Rattle.ref_objects.specs.Grounds.{unmarked, mint_refusal}
-use Rattle.ref_mark.specs.Worklists.{first_in}
+use Rattle.ref_space.specs.Worklists.{first_in}
 use Rattle.ref_mark.specs.CycleHeaps.{CycleHeap, with_made, loaded, value_got, with_got, with_cleared, reads_same}
 use Rattle.ref_mark.specs.CycleHeaps.{cycle_begun, scanned, cycle_in_phase}
 use Rattle.ref_mark.specs.MarkViews.{ground_of}

@@ -10,7 +10,7 @@ use Rattle.ref_base.specs.declared.phase.Phase.TheVariants.{Sweeping}
 use Rattle.ref_base.specs.declared.policy.Policy.{Policy}
 use Rattle.ref_objects.specs.Grounds.{Ground, look_of}
 use Rattle.ref_space.specs.declared.linked.Look.{Look}
-use Rattle.ref_mark.specs.Worklists.{Worklist, first_in}
+use Rattle.ref_space.specs.Worklists.{Worklist, first_in}
 use Rattle.ref_mark.specs.declared.chain.Chain.{Chain}
 use Rattle.ref_mark.specs.Chains.{lists_of, is_tagged, AreChains}
 use Rattle.ref_mark.specs.CycleHeaps.{CycleHeap}

@@ -3,12 +3,12 @@
 ghost use Rattle.std.specs.Prelude.{◌≡◌, ◌==◌, if◌then◌else◌};
 ghost use Rattle.std.specs.Option.{option_map};
 ghost use Rattle.ref_objects.specs.Grounds.{linked_in, look_of};
-ghost use Rattle.ref_mark.specs.Worklists.{listed_at};
+ghost use Rattle.ref_space.specs.Worklists.{listed_at};
 ghost use Rattle.ref_mark.specs.Chains.{no_chain, chain_first, listed, linked_last, chain_with, chain_without_first};
 ghost use Rattle.ref_mark.specs.Chains.{next_of, chain_from, first_looked_at};
 
 use ref_base::ObjNo;
-use ref_objects::{Linked, Look, Objects};
+use ref_objects::{Entry, Linked, Look, Objects};
 use std::alloc::Allocator;
 
 /// The first and the last object of a list in which each object but the last links to the next. The first is 0 where
@@ -30,16 +30,21 @@ impl Chain {
         Chain { first: 0, last: 0 }
     }
 
-    /// One more, last: the one that was last links to it. In logarithmic time.
+    /// One more, last: the one that was last links to it. In constant time where that lies at this place, and else in
+    /// logarithmic time.
     #[inline(always)]
-    pub fn push<A: Allocator + Copy>(&mut self, objects: &mut Objects<A>, no: ObjNo)
+    pub fn push<A: Allocator + Copy>(&mut self, objects: &mut Objects<A>, no: ObjNo, place: u32)
         ensures links { objects.new ≡ record objects.old { tags = linked_last objects.old.tags self.old no } }
         ensures chain { self.new ≡ chain_with self.old no }
     {
         if self.first == 0 {
             self.first = no.0;
         } else {
-            objects.set_link(ObjNo(self.last), no.0);
+            let last = Entry {
+                no: ObjNo(self.last),
+                place,
+            };
+            objects.set_link_near(last, no.0);
         }
         self.last = no.0;
     }

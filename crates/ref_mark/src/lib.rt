@@ -16,7 +16,6 @@
 mod chain;
 pub mod laws;
 mod marker;
-mod worklist;
 
 pub use chain::Chain;
 pub use marker::Marker;

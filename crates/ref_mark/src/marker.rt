@@ -6,7 +6,7 @@ ghost use Rattle.ref_base.specs.CollectorRows.{value_reply};
 ghost use Rattle.ref_base.specs.declared.heap_step.HeapStep.TheVariants.{Plain};
 ghost use Rattle.ref_base.specs.declared.plain_step.PlainStep.TheVariants.{Copy, Drop, New, Refer, Store};
 ghost use Rattle.ref_objects.specs.Grounds.{starting_refusal, IsMade};
-ghost use Rattle.ref_mark.specs.Worklists.{empty_worklist};
+ghost use Rattle.ref_space.specs.Worklists.{empty_worklist};
 ghost use Rattle.ref_mark.specs.Chains.{no_chain, is_tagged};
 ghost use Rattle.ref_mark.specs.CycleHeaps.{first_cycle_heap, is_in_cycle, shaded, shaded_if_any, young};
 ghost use Rattle.ref_mark.specs.MarkCalls.{MarkerDoes, reply_of, done_reply};
@@ -20,17 +20,19 @@ mod holds;
 mod layer;
 
 use crate::chain::Chain;
-use crate::worklist::Worklist;
 use ref_base::{
     Config, Fault, MutNo, ObjNo, Phase, Policy, QueueNo, Reply, SlotNo, Strength, Urgency,
 };
-use ref_objects::{Objects, Start};
+use ref_objects::{Entry, Objects, Start, Worklist};
 use std::alloc::{AllocError, Allocator, Global};
 use std::marker::Model;
 
+/// How many workers there may be.
+const MOST_WORKERS: usize = 8;
+
 /// A heap in its cycles.
 ///
-/// All its memory is taken as it is made: that of `Objects`, 4 bytes for each cell, which are the grey list, and 8 for
+/// All its memory is taken as it is made: that of `Objects`, 8 bytes for each cell, which are the grey list, and 8 for
 /// each worker. No other call takes any.
 #[derive(Drop)]
 pub struct Marker<A: Allocator = Global> {
@@ -40,6 +42,8 @@ pub struct Marker<A: Allocator = Global> {
     grey: Worklist<A>,
     // For each worker, the references that it found, linked in their records.
     found: Vec<Chain, A>,
+    // Where the last lay of each of these lists, so that it needn't be searched.
+    found_last: [u32; MOST_WORKERS],
     phase: Phase,
     // What the cycle goes by, since its begin.
     policy: Policy,
@@ -80,6 +84,7 @@ impl<A: Allocator + Copy> Marker<A> {
                 objects,
                 grey,
                 found,
+                found_last: [0; MOST_WORKERS],
                 phase: Phase::Idle,
                 policy: Policy::of(config, 0, Urgency::Normal),
                 cycle: start.cycle,
@@ -215,24 +220,17 @@ impl<A: Allocator + Copy> Marker<A> {
     {
         if self.objects.mark(no) {
             self.objects.facts();
-            self.push_grey(no);
+            self.push_grey(Entry::of(no));
         }
     }
 
     // An object that was just marked becomes grey.
-    fn push_grey(&mut self, no: ObjNo)
-        requires { MayGrey self.old no }
-        ensures { self.new ≡ record self.old { grey = self.old.grey ++ no ∷ [] } }
+    #[inline(always)]
+    fn push_grey(&mut self, entry: Entry)
+        requires { MayGrey self.old entry.no }
+        ensures { self.new ≡ record self.old { grey = self.old.grey ++ entry.no ∷ [] } }
     {
-        self.grey.push(no);
-    }
-
-    fn shade_if_any(&mut self, value: Option<ObjNo>)
-        ensures { self.new ≡ shaded_if_any self.old value }
-    {
-        if let Some(no) = value {
-            self.shade(no);
-        }
+        self.grey.push(entry);
     }
 }
 

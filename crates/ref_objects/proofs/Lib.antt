@@ -10,4 +10,5 @@ pub mod GotLemmas
 pub mod LookLemmas
 pub mod SparedLemmas
 pub mod SoundLemmas
+pub mod ScanLemmas
 pub mod SlotLemmas

@@ -231,6 +231,11 @@ marked_each-sound [] sound rising = sound
 marked_each-sound (v ∷ vs) {s} sound rising =
     marked_each-sound vs (marked_if-sound sound rising v) (rising_marked s.table v rising)
 
+pub rising_marked_each : (t : Table) (values : List (Option ℕ)) → IsRising (numbers (objects_of t.tabled))
+    → IsRising (numbers (objects_of (marked_each t values).tabled))
+rising_marked_each t [] rising = rising
+rising_marked_each t (v ∷ vs) rising = rising_marked_each (marked_if t v) vs (rising_marked t v rising)
+
 pub marked_each-seen : (values : List (Option ℕ)) {s : Stored} → IsSoundObjects s
     → IsRising (numbers (objects_of s.table.tabled))
     → seen_ground (record s { table = marked_each s.table values }) ≡ all_marked (seen_ground s) values

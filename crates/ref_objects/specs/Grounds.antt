@@ -20,7 +20,8 @@ use Rattle.ref_base.specs.declared.fault.Fault.TheVariants.{BadConfig, NoSuchObj
 use Rattle.ref_base.specs.declared.heap_step.HoldName.{HoldName}
 use Rattle.ref_space.specs.Naming.{IsWordHeld}
 use Rattle.std.specs.Prelude.{slice_index_or}
-use Rattle.ref_space.specs.Tables.{Tag, fields_in, with_occupant, without_occupant}
+use Rattle.ref_space.specs.Tables.{Tag, fields_in, scanned_values, with_occupant, without_occupant}
+use Rattle.ref_space.specs.Worklists.{Worklist}
 use Rattle.ref_objects.specs.declared.start.Start.{Start}
 use Rattle.ref_objects.specs.declared.kind.Kind.{Kind}
 use Rattle.ref_objects.specs.declared.kind.Kind.TheVariants as kind
@@ -357,6 +358,15 @@ marks_begun g good = record g {
 -- each word of an object has the good colour
 abbrev pub ground_healed : Ground → ℕ → Ground
 ground_healed g n = record g { space = healed g.space n }
+
+-- object n is scanned: what its fields hold is marked, and the referent that it keeps, and it is healed
+abbrev pub ground_scanned : (Reference → Bool) → Ground → ℕ → Ground
+ground_scanned keeps g n = ground_healed (all_marked g (scanned_values keeps (object_at g.heap.objects n))) n
+
+-- a list has room for each object that there is, and no more stand in it than are marked
+pub record MayGrow (g : Ground) (l : Worklist) : Type 0 where
+  pub room : length g.heap.objects ≤ l.room
+  pub marked : length l.stands ≤ length g.marked
 
 -- the numbers of the objects that aren't marked, in order
 abbrev pub unmarked : List Object → List ℕ → List ℕ

@@ -10,5 +10,5 @@ mod start;
 pub use hold::Hold;
 pub use kind::Kind;
 pub use objects::Objects;
-pub use ref_space::{Colour, Fields, Linked, Look, Reference};
+pub use ref_space::{Colour, Entry, Fields, Linked, Look, Reference, Worklist};
 pub use start::Start;

@@ -38,7 +38,11 @@ use Rattle.std.proofs.Math.ListN.{get_or-map}
 use Rattle.ref_space.proofs.Common.{cell_of_word, changed_if, changed_of, target_of, occupant_in, place_by}
 use Rattle.ref_space.proofs.Common.{place_of_word}
 use Rattle.ref_space.proofs.Common.{tabled_if, tabled_of}
-use Rattle.ref_space.proofs.PlaceLemmas.{LeadsTo, leads_to, leads_nowhere, led_tabled, named-cell}
+use Rattle.ref_space.proofs.PlaceLemmas.{LeadsTo, leads_to, leads_nowhere, led_tabled, named-cell, lies_there}
+use Rattle.ref_space.proofs.PlaceLemmas.{IsPlaceOf-lent}
+use Rattle.ref_space.specs.Tables.{LiesAt, anew_in}
+use Rattle.ref_space.proofs.Common.{eqb-true}
+use Rattle.ref_space.proofs.Common.{cell_at}
 use Rattle.ref_space.proofs.Common.{by_number, Each, IsSoundNaming, leads_by, target_by, occupants_of, values_in}
 use Rattle.ref_space.proofs.Common.{has_field}
 use Rattle.ref_space.proofs.Common.{is_marked_in, holds_in, may_hold, nat_lt, length-map, on_object, with_field, map}
@@ -81,6 +85,21 @@ pub unmarked-named : (r : ℕ) (name : Option ℕ → Option ℕ) (c : Option Ta
     → is_unmarked_in r (option_map (by_number name) c) ≡ is_unmarked_in r c
 unmarked-named r name None = refl
 unmarked-named r name (Some k) = refl
+
+-- the number of one that isn't marked
+pub anew-named : (r : ℕ) (name : Option ℕ → Option ℕ) (c : Option Tabled)
+    → anew_in r (option_map (by_number name) c) ≡ anew_in r c
+anew-named r name None = refl
+anew-named r name (Some k) = refl
+
+pub some_anew : (r : ℕ) (c : Option Tabled) → is_some (anew_in r c) ≡ is_unmarked_in r c
+some_anew r None = refl
+some_anew r (Some k) = grind arith
+
+pub anew_at : (r : ℕ) (ks : List Tabled) (n : ℕ)
+    → anew_in r (tabled_at ks n) ≡ (if is_unmarked_in r (tabled_at ks n) then Some n else None)
+anew_at r [] n = refl
+anew_at r (k ∷ ks) n = grind (arith, eqb-true, anew_at r ks n)
 
 pub some-named : (name : Option ℕ → Option ℕ) (c : Option Tabled)
     → is_some (option_map (by_number name) c) ≡ is_some c
@@ -128,6 +147,16 @@ pub referent_of_each : (p : Option ℕ → Bool) → p None ≡ true → (c : Op
     → ((k : Tabled) → c ≡ Some k → Each p (values_in k)) → p (referent_of (tabled_reference c)) ≡ true
 referent_of_each p null None each = null
 referent_of_each p null (Some k) each = let own = each k refl in own.0
+
+pub held-in_cell : (name : Option ℕ → Option ℕ) → name None ≡ None → (c : Option Tabled) (i : ℕ)
+    → name (field_held c i) ≡ field_held (option_map (by_number name) c) i
+held-in_cell name null None i = null
+held-in_cell name null (Some k) i = grind (arith, get_or-map name k.object.fields i None)
+
+pub field_count-named : (name : Option ℕ → Option ℕ) (c : Option Tabled)
+    → length (tabled_fields (option_map (by_number name) c)) ≡ length (tabled_fields c)
+field_count-named name None = refl
+field_count-named name (Some k) = length-map k.object.fields name
 
 pub fields-named : (name : Option ℕ → Option ℕ) (c : Option Tabled)
     → map name (tabled_fields c) ≡ tabled_fields (option_map (by_number name) c)
@@ -250,6 +279,26 @@ module _ {round : Round} {first : ℕ} {cells : List (Option Tabled)} {es : List
   -- a contract sees the same round
   pub round_seen : {t : Table} → seen_table round first cells es slots last room ≡ t → t.round.number ≡ round.number
   round_seen view = ap (λ (s : Table). s.round.number) (sym view)
+
+  -- what lies at a place has that place
+  module _ {t : Table} (view : seen_table round first cells es slots last room ≡ t) {n p : ℕ} where
+    pub lying_place : LiesAt t n p → IsPlaceOf cells es n p
+    lying_place lies =
+        lies_there sound.1.listed n p (cell_at cells p) refl
+        (sym (get_or-map occupant_in cells p None)
+        ∙ ap (λ (s : Table). slice_index_or s.occupants p None) view ∙ lies)
+
+    pub lies_in : IsPlaceOf cells es n p → LiesAt t n p
+    lies_in place =
+        ap (λ (s : Table). slice_index_or s.occupants p None) (sym view) ∙ get_or-map occupant_in cells p None
+        ∙ number_there sound.0.placed place
+
+  -- where a search finds a place, the object lies there
+  pub found_lies : {t : Table} → seen_table round first cells es slots last room ≡ t → (n : ℕ) (place : Option ℕ)
+      → {borrowed : List (Option Tabled)} {lent : List Entry} → borrowed ≡ cells → lent ≡ es
+      → place ≡ place_if_live borrowed (place_in lent n) n → IfSome place (LiesAt t n)
+  found_lies view n None same_cells same_index is = tt
+  found_lies view n (Some p) same_cells same_index is = lies_in view (IsPlaceOf-lent n same_cells same_index is)
 
   -- a number's place
   module _ {n p : ℕ} (place : IsPlaceOf cells es n p) where
@@ -475,7 +524,7 @@ module _ {round : Round} {first : ℕ} {cells : List (Option Tabled)} {es : List
         pub led_place : IsPlaceOf cells es led_no p
         led_place = led.own
 
-        named_here : target_of t v ≡ Some led_no
+        pub named_here : target_of t v ≡ Some led_no
         named_here = named_led ∙ led.named
 
         pub tabled_here : tabled_at t.tabled led_no ≡ tabled_of t v
@@ -488,6 +537,9 @@ module _ {round : Round} {first : ℕ} {cells : List (Option Tabled)} {es : List
       module _ (found : None ≡ place_of_word borrowed first v) where
         none_led : cell_of_word cells first v ≡ None
         none_led = leads_nowhere cells (place_by first v) (found ∙ ap (λ cs. place_of_word cs first v) same)
+
+        pub named_nowhere : target_of t v ≡ None
+        named_nowhere = named_led ∙ ap occupant_in none_led
 
         pub answered_led_nowhere : {X : Type 0} (f : Option Tabled → X) → f None ≡ f (tabled_of t v)
         answered_led_nowhere f = ap f (sym (tabled_led ∙ ap (option_map (by_number name)) none_led))

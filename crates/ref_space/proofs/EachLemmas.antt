@@ -50,12 +50,12 @@ module _ (f : Tabled → Tabled) (keeps : (k : Tabled) → (f k).object.no ≡ k
   is_none-each [] = refl
   is_none-each (c ∷ cs) = grind (arith, is_none-mapped, is_none-each cs)
 
-  number_in-each : (cells : List (Option Tabled)) → occupants_of (map (option_map f) cells) ≡ occupants_of cells
-  number_in-each [] = refl
-  number_in-each (None ∷ cs) = ap (λ os. None ∷ os) (number_in-each cs)
-  number_in-each (Some k ∷ cs) =
+  entry_number-each : (cells : List (Option Tabled)) → occupants_of (map (option_map f) cells) ≡ occupants_of cells
+  entry_number-each [] = refl
+  entry_number-each (None ∷ cs) = ap (λ os. None ∷ os) (entry_number-each cs)
+  entry_number-each (Some k ∷ cs) =
       ap (λ n. Some n ∷ occupants_of (map (option_map f) cs)) (keeps k)
-      ∙ ap (λ os. Some k.object.no ∷ os) (number_in-each cs)
+      ∙ ap (λ os. Some k.object.no ∷ os) (entry_number-each cs)
 
   map_commutes : (h : Tabled → Tabled) → ((k : Tabled) → h (f k) ≡ f (h k)) → (ks : List Tabled)
       → map h (map f ks) ≡ map f (map h ks)
@@ -90,7 +90,7 @@ module _ (f : Tabled → Tabled) (keeps : (k : Tabled) → (f k).object.no ≡ k
     length-all = ap length is ∙ length-map cells (option_map f)
 
     pub occupants-all : occupants_of ds ≡ occupants_of cells
-    occupants-all = ap occupants_of is ∙ number_in-each cells
+    occupants-all = ap occupants_of is ∙ entry_number-each cells
 
     module _ (round : Round) (first : ℕ) (slots : List (Option ℕ)) where
       pub seen_all : (last room : ℕ)

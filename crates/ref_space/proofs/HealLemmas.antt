@@ -1,10 +1,10 @@
 -- A word that is written again in the good colour leads where it led.
 use Rattle.ref_space.proofs.Common.{◌≡◌, ℕ, Bool, true, false, refl, sym, ◌∙◌, ap, arith, List, [], ◌∷◌, map, Option}
 use Rattle.ref_space.proofs.Common.{Some, None, option_map, is_some, Reference, referent_of, false≢true, occupant_at}
-use Rattle.ref_space.proofs.Common.{Tabled, Table, Each, by_number, reference_by_number, leads_by, target_by}
-use Rattle.ref_space.proofs.Common.{values_in, target_of, subst}
+use Rattle.ref_space.proofs.Common.{Tabled, Each, by_number, reference_by_number, leads_by, target_by}
+use Rattle.ref_space.proofs.Common.{values_in, subst}
 use Rattle.ref_space.specs.ColouredWords.{recoloured, place_by, IsWordOf, is_coloured, bits_held, colour_number}
-use Rattle.ref_space.specs.Naming.{HasTarget, IsHealed, IsWordOfObject, IsWordHeld}
+use Rattle.ref_space.specs.Naming.{IsWordOfObject, IsWordHeld}
 use Rattle.ref_space.specs.Tables.{with_healed, is_healed}
 use Rattle.ref_space.specs.declared.round.Round.{Round}
 use Rattle.ref_space.proofs.Common.{◌==◌, eq-eqb}
@@ -142,10 +142,3 @@ word_held good first os b (Some w) bits own leads =
     rw (named.1, own)
     (word_of_object good first os b named.0 w parts.0 (is_word-parts_of w parts.0 parts.1) named.1
     (λ has_to. grind arith))
-
--- a word of the table
-pub healed_word : (t : Table) (v : Option ℕ) → HasTarget t v → IsHealed t (recoloured t.round.good v)
-healed_word t v leads = leads-recoloured t.round.good t.first t.occupants t.round.good false v leads
-
-pub healed-named : (t : Table) (v : Option ℕ) → target_of t (recoloured t.round.good v) ≡ target_of t v
-healed-named t v = target-recoloured t.round.good t.first t.occupants t.round.good v

@@ -4,6 +4,8 @@ pub mod BitLemmas
 pub mod PageLemmas
 pub mod NextPlaces
 pub mod RoomLemmas
+pub mod ScanLemmas
+pub mod WorklistLemmas
 pub mod FreeCells
 pub mod IndexLemmas
 pub mod PlaceLemmas
@@ -18,6 +20,7 @@ pub mod CountLemmas
 pub mod TabledLemmas
 pub mod TableReads
 pub mod EachLemmas
+pub mod CondemnLemmas
 pub mod MarkCounts
 pub mod NamingLemmas
 pub mod TableSlots

@@ -1,7 +1,8 @@
 -- What the cells and the index say together of the objects that a contract sees.
 use Rattle.ref_space.proofs.Common.{◌≡◌, ℕ, ◌<◌, true, false, ◌==◌, if◌then◌else◌, nat_lt, refl, List, [], ◌∷◌, ◌++◌}
 use Rattle.ref_space.proofs.Common.{length, get_or, set, Option, Some, None, inl, inr, arith, cases_Bool, eqb-true}
-use Rattle.ref_space.proofs.Common.{false≢true, get_or-set_same, get_or-set_other, filter, cell_at, is_of, is_live}
+use Rattle.ref_space.proofs.Common.{false≢true, get_or-set_same, get_or-set_other, get_or_read, filter, cell_at}
+use Rattle.ref_space.proofs.Common.{is_of, is_live}
 use Rattle.ref_space.proofs.Common.{before, tabled_by, place_in, place_if_live, count_below, Rises, Tabled, tabled_at}
 use Rattle.ref_space.proofs.Common.{changed_tabled, without_tabled, Entry, AreIndexed, at_place}
 use Rattle.ref_space.proofs.Common.{cell_of_word, place_if_taken, target_by, occupant_in, occupant_at, occupants_of}
@@ -111,6 +112,24 @@ pub record IsPlaceOf (cells : List (Option Tabled)) (es : List Entry) (n p : ℕ
   pub listed : place_in es n ≡ Some p
   pub own : is_of (cell_at cells p) n ≡ true
   pub within : p < length cells
+
+-- what a cell holds that is of a number has its place there
+pub lies_there : {cells : List (Option Tabled)} {es : List Entry} → AreIndexed cells es → (n p : ℕ)
+    (c : Option Tabled) → cell_at cells p ≡ c → occupant_in c ≡ Some n → IsPlaceOf cells es n p
+lies_there listed n p None is named = absurd (cc)
+lies_there {cells} {es} listed n p (Some k) is named =
+    let same : k.object.no ≡ n = cc in
+    let own : is_of (cell_at cells p) n ≡ true = rw is (eq-eqb k.object.no n same) in
+    record { listed = ap (place_in es) (sym same) ∙ listed p k is; own = own; within = live_within cells p n own }
+
+pub near_place : (cells : List (Option Tabled)) (es : List Entry) → AreIndexed cells es → (n p : ℕ)
+    (c : Option Tabled) → true ≡ nat_lt p (length cells) → c ≡ get_or cells p c → is_of c n ≡ true
+    → Some p ≡ place_if_live cells (place_in es n) n
+near_place cells es listed n p c within reads own =
+    let k = is_of-some c n own in
+    let at : cell_at cells p ≡ c = grind (arith, get_or_read) in
+    let place = lies_there listed n p c at (ap occupant_in k.1 ∙ ap Some k.2) in
+    sym (rw place.listed (simp place.own refl))
 
 IsPlaceOf-place : (cells : List (Option Tabled)) (es : List Entry) (n p : ℕ) (listed : Option ℕ)
     → place_in es n ≡ listed

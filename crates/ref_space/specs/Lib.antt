@@ -5,3 +5,4 @@ pub mod PageViews
 pub mod Tables
 pub mod Places
 pub mod Naming
+pub mod Worklists

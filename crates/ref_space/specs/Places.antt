@@ -1,6 +1,7 @@
 -- How the table lies in memory: cells by place, 64 a page, an index of places by number, and the cells that are free.
 use Rattle.std.specs.Prelude.{◌≡◌, ℕ, suc, ◌+◌, ◌*◌, ◌<◌, ◌≤◌, ◌^◌, Bool, true, false, ◌==◌, ◌&&◌, not}
 use Rattle.std.specs.Prelude.{if◌then◌else◌, nat_lt, List, [], ◌∷◌, length, map, Option, Some, None, slice_index_or}
+use Rattle.std.specs.Prelude.{slice_set}
 use Rattle.std.specs.List.{filter}
 use Rattle.std.specs.Borrow.{Bor}
 use Rattle.ref_base.specs.Graphs.{Reference}
@@ -190,10 +191,6 @@ seen_table round first cells index slots last room = record {
 abbrev pub is_unmarked_as : ℕ → Option Tabled → ℕ → Bool
 is_unmarked_as round = is_passing (λ k. not (is_marked round k))
 
--- whether the cell that an entry names still holds the entry's object, and that isn't marked
-abbrev pub is_unmarked_entry : ℕ → List (Option Tabled) → Entry → Bool
-is_unmarked_entry round cells e = is_unmarked_as round (cell_at cells e.place) e.no
-
 -- what a cell holds, as if it had never been marked or healed
 abbrev pub begun_cell : Option Tabled → Option Tabled
 begun_cell = option_map with_nothing_done
@@ -201,3 +198,15 @@ begun_cell = option_map with_nothing_done
 -- what a cell holds, which refers to nothing unless it is marked
 abbrev pub blanked_cell : ℕ → Option Tabled → Option Tabled
 blanked_cell round = option_map (blanked_unless_marked round)
+
+-- what a cell holds as the object of number n is condemned, where that lies there and isn't marked
+abbrev pub condemned_cell : ℕ → ℕ → Option Tabled → Option Tabled
+condemned_cell round n c = if is_unmarked_as round c n then blanked_cell round c else c
+
+-- whether the object of an entry is condemned
+abbrev pub condemns : ℕ → Entry → List (Option Tabled) → Bool
+condemns round e cells = is_unmarked_as round (cell_at cells e.place) e.no
+
+-- the cells as it is
+abbrev pub condemned_at : ℕ → Entry → List (Option Tabled) → List (Option Tabled)
+condemned_at round e cells = slice_set cells e.place (condemned_cell round e.no (cell_at cells e.place))

@@ -22,6 +22,7 @@ use Rattle.ref_space.specs.declared.colour.Colour.TheVariants.{R}
 use Rattle.ref_space.specs.declared.cell.Change.TheVariants.{Cut, Stamp, ClearedIn, ClearIn, Link}
 use Rattle.ref_space.specs.declared.linked.Linked.{Linked}
 use Rattle.ref_space.specs.declared.linked.Look.{Look}
+use Rattle.ref_space.specs.Worklists.{Worklist}
 
 -- an object of the table, how many holds of it are out, the round in which it was marked last, and that in which it was
 -- healed last, so that each word that it holds had the colour that was good then, 0 where it never was; its link, which
@@ -242,6 +243,11 @@ abbrev pub is_unmarked_in : ℕ → Option Tabled → Bool
 is_unmarked_in round None = false
 is_unmarked_in round (Some k) = not (is_marked round k)
 
+-- the number of an object that isn't marked
+abbrev pub anew_in : ℕ → Option Tabled → Option ℕ
+anew_in round None = None
+anew_in round (Some k) = if is_marked round k then None else Some k.object.no
+
 -- the numbers of the objects that are marked, in order
 abbrev pub marked_of : ℕ → List Tabled → List ℕ
 marked_of round = numbers_by (λ k. from_bool (is_marked round k))
@@ -249,10 +255,6 @@ marked_of round = numbers_by (λ k. from_bool (is_marked round k))
 -- and of those that aren't
 abbrev pub unmarked_of : ℕ → List Tabled → List ℕ
 unmarked_of round = numbers_by (λ k. from_bool (not (is_marked round k)))
-
--- the first number from n on of an object that isn't marked
-abbrev pub unmarked_from : ℕ → List Tabled → ℕ → Option ℕ
-unmarked_from round = first_where (λ k. not (is_marked round k))
 
 -- marked in this round
 abbrev pub with_marked : ℕ → Tabled → Tabled
@@ -411,6 +413,32 @@ marked_each t (value ∷ values) = marked_each (marked_if t value) values
 abbrev pub anew_each : Table → List (Option ℕ) → List ℕ
 anew_each t [] = []
 anew_each t (value ∷ values) = if_any (anew_if t value) ++ anew_each (marked_if t value) values
+
+-- each word of the object of number n has the good colour
+abbrev pub table_healed : Table → ℕ → Table
+table_healed t n = changed t n (with_healed t.round.number)
+
+-- what a reference has as its referent where it keeps that
+abbrev pub kept_value : (Reference → Bool) → Option Reference → List (Option ℕ)
+kept_value keeps None = []
+kept_value keeps (Some r) = if keeps r then r.referent ∷ [] else []
+
+-- what a scan of an object marks: what its fields hold, and the referent that it keeps
+abbrev pub scanned_values : (Reference → Bool) → Option Object → List (Option ℕ)
+scanned_values keeps o = fields_in o ++ kept_value keeps (reference_in o)
+
+-- the object of number n is scanned: that is marked, and it is healed
+abbrev pub table_scanned : (Reference → Bool) → Table → ℕ → Table
+table_scanned keeps t n = table_healed (marked_each t (scanned_values keeps (object_in (tabled_at t.tabled n)))) n
+
+-- a list has room for each object that there is, and no more stand in it than are marked
+pub record MayList (t : Table) (l : Worklist) : Type 0 where
+  pub room : length t.tabled ≤ l.room
+  pub marked : length l.stands ≤ length (marked_of t.round.number t.tabled)
+
+-- the object of number n lies at this place
+abbrev pub LiesAt : Table → ℕ → ℕ → Type 0
+LiesAt t n place = slice_index_or t.occupants place None ≡ Some n
 
 -- ---- names
 

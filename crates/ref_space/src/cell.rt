@@ -1,9 +1,9 @@
 //! A place for one object.
 
-ghost use Rattle.std.specs.Prelude.{◌≡◌, ◌-◌, ◌^◌, ◌<◌, ◌≤◌, nat_lt, true};
+ghost use Rattle.std.specs.Prelude.{◌≡◌, ◌-◌, ◌^◌, ◌<◌, ◌≤◌, nat_lt, true, length};
 ghost use Rattle.std.specs.Option.{option_map};
 ghost use Rattle.ref_base.specs.Heaps.{with_field, with_reference, with_stamp, cleared};
-ghost use Rattle.ref_space.specs.Places.{is_of, is_held_as, is_unmarked_as, begun_cell, blanked_cell};
+ghost use Rattle.ref_space.specs.Places.{is_of, is_held_as, is_unmarked_as, begun_cell, condemned_cell};
 ghost use Rattle.ref_space.specs.Naming.{by_number, with_referent, with_referent_in};
 ghost use Rattle.ref_space.specs.ColouredWords.{recoloured, bits_held};
 ghost use Rattle.ref_space.specs.Tables.{made_entry, tabled_fields, has_field, holds_in};
@@ -11,7 +11,7 @@ ghost use Rattle.ref_space.specs.Tables.{on_object, may_hold, more_held_if, less
 ghost use Rattle.ref_space.specs.Tables.{is_marked_in, is_unmarked_in, with_marked, with_healed};
 ghost use Rattle.ref_space.specs.Tables.{tabled_reference, tabled_link, tabled_cleared_in, change_of};
 ghost use Rattle.ref_space.specs.Naming.{occupant_in};
-ghost use Rattle.ref_space.specs.Tables.{field_in_cell};
+ghost use Rattle.ref_space.specs.Tables.{field_in_cell, field_held, anew_in};
 
 use crate::colour::Colour;
 use crate::field_words::Words;
@@ -133,6 +133,28 @@ impl Cell {
         match self.no {
             Some(_) => self.fields.copied(),
             None => Words::nulls(0),
+        }
+    }
+
+    /// How many fields the object has: none where the cell is free.
+    #[inline(always)]
+    pub(crate) fn field_count(&self) -> usize
+        ensures { result ≡ length (tabled_fields self.now) }
+    {
+        match self.no {
+            Some(_) => self.fields.len(),
+            None => 0,
+        }
+    }
+
+    /// What a field of the object holds: null also where there is no such field.
+    #[inline(always)]
+    pub(crate) fn word(&self, field: usize) -> Word
+        ensures { result ≡ field_held self.now field }
+    {
+        match self.no {
+            Some(_) => self.fields.get(field),
+            None => Word::null(),
         }
     }
 
@@ -319,24 +341,30 @@ impl Cell {
         }
     }
 
-    /// Marks the object. True where there is one and it wasn't marked.
-    pub(crate) fn mark(&mut self, round: u64) -> bool
-        ensures answer { result ≡ is_unmarked_in round self.old }
+    /// Marks the object, and answers its number where it wasn't marked.
+    #[inline(always)]
+    pub(crate) fn mark(&mut self, round: u64) -> Option<ObjNo>
+        ensures answer { result ≡ anew_in round self.old }
         ensures after { self.new ≡ option_map (with_marked round) self.old }
     {
-        let is_new = self.is_unmarked(round);
+        let is_new = self.marked_in != round;
         self.marked_in = round;
-        is_new
+        if is_new { self.no } else { None }
     }
 
-    /// The object refers to nothing from now on, unless it is marked.
-    pub(crate) fn blank_unless_marked(&mut self, round: u64)
-        ensures { self.new ≡ blanked_cell round self.old }
+    /// The object of this number refers to nothing from now on. True where it lies here and isn't marked; else nothing
+    /// changes.
+    #[inline(always)]
+    pub(crate) fn condemn(&mut self, no: ObjNo, round: u64) -> bool
+        ensures answer { result ≡ is_unmarked_as round self.old no }
+        ensures after { self.new ≡ condemned_cell round no self.old }
     {
-        if self.marked_in != round {
+        let is_condemned = self.is_unmarked_as(no, round);
+        if is_condemned {
             self.fields = Words::nulls(self.fields.len());
             self.cut();
         }
+        is_condemned
     }
 
     /// Each word of the object gets the good colour: it is healed in this round.

@@ -1,23 +1,36 @@
 //! The index of the table: where the object of each number lies. Its entries stand in order of number. As an object
 //! goes, its entry stays, and is a gap: the cell that it names no longer holds its object.
 
-ghost use Rattle.std.specs.Prelude.{◌≡◌, ◌≤◌, length};
+ghost use Rattle.std.specs.Prelude.{◌≡◌, ◌+◌, ◌≤◌, length, map};
 ghost use Rattle.std.specs.List.{filter};
 ghost use Rattle.std.specs.Vec.{vec_capacity};
 ghost use Rattle.ref_space.specs.Places.{is_live, is_held, tabled_by, place_in, place_if_live, lent};
 ghost use Rattle.ref_space.specs.Places.{count_below, first_entry, with_room, Rises};
-ghost use Rattle.ref_space.specs.Places.{is_unmarked_entry};
-ghost use Rattle.ref_space.specs.Tables.{first_from, held_from, unmarked_from, tabled_at};
+ghost use Rattle.ref_space.specs.Places.{AreIndexed, blanked_cell, condemns, condemned_at};
+ghost use Rattle.ref_space.specs.Worklists.{with_more};
+ghost use Rattle.ref_space.specs.Tables.{first_from, held_from, unmarked_of, tabled_at};
 
 use crate::cell::Cell;
+use crate::worklist::Worklist;
 use ref_base::ObjNo;
 use std::alloc::Allocator;
 
 /// Where the object of a number was put.
-#[derive(Clone, Copy)]
-pub(crate) struct Entry {
-    pub(crate) no: ObjNo,
-    pub(crate) place: u32,
+#[derive(Clone, Copy, Debug)]
+pub struct Entry {
+    /// The number.
+    pub no: ObjNo,
+    /// The place of the cell: cell c of page p stands at 64 * p + c.
+    pub place: u32,
+}
+
+impl Entry {
+    /// Of an object of which only the number is known.
+    pub fn of(no: ObjNo) -> Self
+        ensures { result.no ≡ no }
+    {
+        Entry { no, place: 0 }
+    }
 }
 
 // Whether the entry's object is still there.
@@ -74,6 +87,19 @@ pub(crate) fn place_of(cells: &[Cell], index: &[Entry], no: ObjNo) -> Option<usi
     match index.get(count_below(index, no)) {
         Some(entry) if entry.no == no && is_live(cells, *entry) => Some(entry.place as usize),
         _ => None,
+    }
+}
+
+/// The same: at once where the object lies at this place.
+#[inline(always)]
+pub(crate) fn place_near(cells: &[Cell], index: &[Entry], no: ObjNo, place: usize) -> Option<usize>
+    requires rises { Rises index.now }
+    requires listed { AreIndexed cells.now index.now }
+    ensures { result ≡ place_if_live cells.now (place_in index.now no) no }
+{
+    match cells.get(place) {
+        Some(cell) if cell.is_of(no) => Some(place),
+        _ => place_of(cells, index, no),
     }
 }
 
@@ -146,33 +172,35 @@ pub(crate) fn make_room<A: Allocator>(index: &mut Vec<Entry, A>, cells: &[Cell],
     }
 }
 
-// Whether the entry's object is still there, and isn't marked in this round.
-fn is_unmarked(cells: &[Cell], entry: Entry, round: u64) -> bool
-    ensures { result ≡ is_unmarked_entry round cells.now entry }
+// The entry's object refers to nothing from now on. True where it is still there, and isn't marked in this round; else
+// nothing changes.
+#[inline(always)]
+fn condemn_one(cells: &mut [Cell], entry: Entry, round: u64) -> bool
+    ensures answer { result ≡ condemns round entry cells.old }
+    ensures after { cells.new ≡ condemned_at round entry cells.old }
 {
-    match cells.get(entry.place as usize) {
-        Some(cell) => cell.is_unmarked_as(entry.no, round),
-        None => false,
-    }
+    let Entry { no, place } = entry;
+    let place = place as usize;
+    place < cells.len() && cells[place].condemn(no, round)
 }
 
-// The number of the first of these entries whose object isn't marked in this round.
-fn first_unmarked(cells: &[Cell], entries: &[Entry], round: u64) -> Option<ObjNo>
-    ensures { result ≡ first_entry (is_unmarked_entry round cells.now) entries.now }
+/// What isn't marked in this round refers to nothing from now on, and stands last in the list. In time of the entries.
+pub(crate) fn condemn<A: Allocator>(
+    cells: &mut [Cell],
+    index: &[Entry],
+    round: u64,
+    condemned: &mut Worklist<A>,
+)
+    requires listed { AreIndexed cells.old index.now }
+    requires room { length condemned.old.stands + length (unmarked_of round (tabled_by cells.old index.now))
+        ≤ condemned.old.room }
+    ensures cells { cells.new ≡ map (blanked_cell round) cells.old }
+    ensures list { condemned.new ≡
+        with_more condemned.old (unmarked_of round (tabled_by cells.old index.now)) }
 {
-    for entry in entries {
-        if is_unmarked(cells, *entry, round) {
-            return Some(entry.no);
+    for entry in index {
+        if condemn_one(cells, *entry, round) {
+            condemned.push(*entry);
         }
     }
-    None
-}
-
-/// The first number from this one on of an object that isn't marked in this round. In time of the entries up to
-/// there.
-pub(crate) fn unmarked_from(cells: &[Cell], index: &[Entry], no: ObjNo, round: u64) -> Option<ObjNo>
-    requires { Rises index.now }
-    ensures { result ≡ unmarked_from round (tabled_by cells.now index.now) no }
-{
-    first_unmarked(cells, &index[count_below(index, no)..], round)
 }

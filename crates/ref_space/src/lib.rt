@@ -19,10 +19,12 @@ mod round;
 mod table;
 mod word;
 mod words;
+mod worklist;
 
 pub use cell::Change;
 pub use colour::Colour;
 pub use fields::Fields;
+pub use index::Entry;
 pub use kept::NewReference;
 pub use linked::{Linked, Look};
 pub use pages::Pages;
@@ -31,3 +33,4 @@ pub use round::Round;
 pub use table::Table;
 pub use word::Word;
 pub use words::{has_colour, parts_of, word_of};
+pub use worklist::Worklist;

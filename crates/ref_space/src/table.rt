@@ -2,14 +2,14 @@
 //! its number.
 
 ghost use Rattle.std.specs.Prelude.{◌≡◌, ◌+◌, ◌-◌, ◌/◌, ◌%◌, ◌^◌, ◌==◌, ◌≤◌, ◌<◌, nat_lt, IfOk, OnErr, true, length};
-ghost use Rattle.std.specs.Prelude.{map};
-ghost use Rattle.std.specs.Prelude.{is_some, replicate, if◌then◌else◌, None, Some};
+ghost use Rattle.std.specs.Prelude.{is_some, map, replicate, if◌then◌else◌, None, Some};
 ghost use Rattle.std.specs.Option.{option_map};
 ghost use Rattle.std.specs.Bool.{OnFalse};
-ghost use Rattle.ref_space.specs.Places.{begun_cell, blanked_cell};
+ghost use Rattle.ref_space.specs.Places.{begun_cell};
 ghost use Rattle.ref_space.specs.ColouredWords.{IsCell, word_in_colour, recoloured};
 
 mod by_word;
+mod scan;
 mod slots;
 
 use crate::cell::{Cell, Change};
@@ -17,7 +17,7 @@ use crate::colour::Colour;
 use crate::field_words::Words;
 use crate::fields::Fields;
 use crate::index::{
-    Entry, cell_of, close_gaps, first_from, held_from, make_room, place_of, unmarked_from,
+    Entry, cell_of, close_gaps, condemn, first_from, held_from, make_room, place_near, place_of,
 };
 use crate::kept::{Kept, NewReference};
 use crate::linked::{Linked, Look};
@@ -25,7 +25,8 @@ use crate::pages::Pages;
 use crate::reference::Reference;
 use crate::round::Round;
 use crate::word::Word;
-use ref_base::{Fault, ObjNo};
+use crate::worklist::Worklist;
+use ref_base::{Fault, ObjNo, Policy};
 use std::alloc::{AllocError, Allocator, Global};
 use std::marker::Model;
 
@@ -78,15 +79,18 @@ impl<A: Allocator + Copy> Table<A> {
     ghost use Rattle.ref_space.specs.Tables.{first_from, held_from};
     ghost use Rattle.ref_space.specs.Tables.{may_hold, more_held_if, less_held};
     ghost use Rattle.ref_space.specs.Tables.{changed, table_freed, made_entry, with_tabled};
-    ghost use Rattle.ref_space.specs.Tables.{is_marked_in, is_unmarked_in, marked_of, unmarked_from, with_marked};
+    ghost use Rattle.ref_space.specs.Tables.{is_marked_in, is_unmarked_in, marked_of, unmarked_of, with_marked};
     ghost use Rattle.ref_space.specs.Tables.{table_begun, with_healed, table_blanked, change_of, tabled_reference};
-    ghost use Rattle.ref_space.specs.Tables.{has_field, field_held, is_healed_in};
+    ghost use Rattle.ref_space.specs.Tables.{has_field, field_held, is_healed_in, anew_each, table_scanned};
+    ghost use Rattle.ref_space.specs.Tables.{MayList, scanned_values, object_in};
+    ghost use Rattle.ref_base.specs.KeptPaths.{is_kept};
     ghost use Rattle.ref_space.specs.Tables.{tabled_linked, is_unmarked_at, table_look};
     ghost use Rattle.ref_space.specs.Tables.{table_looked_at};
     ghost use Rattle.std.specs.Option.{IfSome};
     ghost use Rattle.ref_base.specs.DoomedSets.{refers_into};
     ghost use Rattle.ref_base.specs.CollectorRows.{referent_of};
     ghost use Rattle.ref_space.specs.Tables.{made_of, IsUnnamed};
+    ghost use Rattle.ref_space.specs.Worklists.{emptied_list, with_more};
     ghost use Rattle.ref_space.specs.Naming.{target_of, IsHealed, IsWordHeld, by_number, reference_by_number};
 
     /// A table of no objects, with room for so many, in pages at this address and those that follow it, and with so
@@ -161,7 +165,7 @@ impl<A: Allocator + Copy> Table<A> {
     pub fn fields(&self, no: ObjNo) -> Fields
         ensures { result ≡ tabled_fields (tabled_at self.now.tabled no) }
     {
-        let words = self.words(no);
+        let words = self.words_by(self.word_of(no));
         let mut fields = Fields::nulls(0);
         for field in 0..words.len() {
             fields.push(self.name(words.get(field)));
@@ -183,30 +187,27 @@ impl<A: Allocator + Copy> Table<A> {
         }
     }
 
-    // What the fields of the object of this number hold: none where there is no such object.
-    fn words(&self, no: ObjNo) -> Words
-        ensures { map (target_of self.now) result ≡ tabled_fields (tabled_at self.now.tabled no) }
+    /// Scans the object of this entry: marks what its fields hold, and its referent where the policy keeps that, lists
+    /// what wasn't marked before, and heals it. Answers whether it is a reference to an object that isn't marked even
+    /// then. Nothing changes where there is no such object. In constant time where the object lies at the entry's
+    /// place, and else by one search.
+    #[inline(always)]
+    pub fn scan(&mut self, entry: Entry, policy: Policy, grey: &mut Worklist<A>) -> bool
+        requires { MayList self.old grey.old }
+        ensures finds { result ≡ refers_into (is_unmarked_at self.old.round.number self.new.tabled)
+            (tabled_reference (tabled_at self.old.tabled entry.no)) }
+        ensures listed { grey.new ≡ with_more grey.old
+            (anew_each self.old (scanned_values (is_kept policy) (object_in (tabled_at self.old.tabled entry.no)))) }
+        ensures after { self.new ≡ table_scanned (is_kept policy) self.old entry.no }
     {
-        match cell_of(&self.cells, &self.index, no) {
-            Some(cell) => cell.fields(),
-            None => Words::nulls(0),
-        }
-    }
-
-    /// Heals the object of this number, so that each word that it holds has the good colour, and answers what it has as
-    /// a reference: nothing where there is no such object, or it is plain.
-    pub fn heal(&mut self, no: ObjNo) -> Option<Reference>
-        ensures answer { result ≡ tabled_reference (tabled_at self.old.tabled no) }
-        ensures after { self.new ≡ changed self.old no (with_healed self.old.round.number) }
-    {
-        match place_of(&self.cells, &self.index, no) {
-            Some(place) => {
-                let reference = self.reference(self.cells[place].kept());
-                self.cells[place].heal(self.round);
-                reference
-            }
-            None => None,
-        }
+        let no = entry.no;
+        let Some(place) = self.place_near(entry) else {
+            return false;
+        };
+        self.grey_fields(no, place, grey);
+        let finds = self.grey_referent(no, place, policy, grey);
+        self.heal(no, place);
+        finds
     }
 
     // The word of the object of this number: null where there is no such object.
@@ -251,6 +252,16 @@ impl<A: Allocator + Copy> Table<A> {
         ensures { self.new ≡ changed self.old no (change_of change) }
     {
         if let Some(place) = place_of(&self.cells, &self.index, no) {
+            self.cells[place].change(change);
+        }
+    }
+
+    /// The same, of the object of this entry. In constant time where the object lies at the entry's place.
+    #[inline(always)]
+    pub fn change_near(&mut self, entry: Entry, change: Change)
+        ensures { self.new ≡ changed self.old entry.no (change_of change) }
+    {
+        if let Some(place) = self.place_near(entry) {
             self.cells[place].change(change);
         }
     }
@@ -402,14 +413,16 @@ impl<A: Allocator + Copy> Table<A> {
         }
     }
 
-    /// Frees the object of this number. False where there is none, or it is marked: then nothing changes. Nothing names
-    /// one that goes.
-    pub fn free(&mut self, no: ObjNo) -> bool
-        requires { is_unmarked_in self.old.round.number (tabled_at self.old.tabled no) ≡ true → IsUnnamed self.old no }
-        ensures answer { result ≡ is_unmarked_in self.old.round.number (tabled_at self.old.tabled no) }
-        ensures after { self.new ≡ table_freed self.old no }
+    /// Frees the object of this entry. False where there is none, or it is marked: then nothing changes. Nothing names
+    /// one that goes. In constant time where the object lies at the entry's place, and else by one search.
+    pub fn free(&mut self, entry: Entry) -> bool
+        requires { is_unmarked_in self.old.round.number (tabled_at self.old.tabled entry.no) ≡ true
+            → IsUnnamed self.old entry.no }
+        ensures answer { result ≡ is_unmarked_in self.old.round.number (tabled_at self.old.tabled entry.no) }
+        ensures after { self.new ≡ table_freed self.old entry.no }
     {
-        let Some(place) = place_of(&self.cells, &self.index, no) else {
+        let Some(place) = place_near(&self.cells, &self.index, entry.no, entry.place as usize)
+        else {
             return false;
         };
         let goes = self.cells[place].is_unmarked(self.round.number);
@@ -459,13 +472,6 @@ impl<A: Allocator + Copy> Table<A> {
         }
     }
 
-    /// The first number from this one on of an object that isn't marked.
-    pub fn unmarked_from(&self, no: ObjNo) -> Option<ObjNo>
-        ensures { result ≡ unmarked_from self.now.round.number self.now.tabled no }
-    {
-        unmarked_from(&self.cells, &self.index, no, self.round.number)
-    }
-
     /// Marks the object of this number. True where there is one and it wasn't marked.
     pub fn mark(&mut self, no: ObjNo) -> bool
         ensures answer { result ≡ is_unmarked_in self.old.round.number (tabled_at self.old.tabled no) }
@@ -473,7 +479,7 @@ impl<A: Allocator + Copy> Table<A> {
     {
         match place_of(&self.cells, &self.index, no) {
             Some(place) => {
-                let is_new = self.cells[place].mark(self.round.number);
+                let is_new = self.cells[place].mark(self.round.number).is_some();
                 self.marked += usize::from(is_new);
                 is_new
             }
@@ -481,11 +487,16 @@ impl<A: Allocator + Copy> Table<A> {
         }
     }
 
-    /// What isn't marked refers to nothing from now on. In time of the cells.
-    pub fn blank_unmarked(&mut self)
-        ensures { self.new ≡ table_blanked self.old }
+    /// What isn't marked refers to nothing from now on, and just it stands in the list, in order of number. In time of
+    /// the objects, and of those that were freed since gaps were closed last.
+    pub fn condemn(&mut self, condemned: &mut Worklist<A>)
+        requires { length self.old.tabled ≤ condemned.old.room }
+        ensures after { self.new ≡ table_blanked self.old }
+        ensures list { condemned.new ≡
+            with_more (emptied_list condemned.old) (unmarked_of self.old.round.number self.old.tabled) }
     {
-        blank(&mut self.cells, self.round.number);
+        condemned.clear();
+        condemn(&mut self.cells, &self.index, self.round.number, condemned);
     }
 
     /// A round begins, in which this colour is good: the slots are healed, and no object is marked or healed. In time
@@ -521,15 +532,6 @@ fn recolour(words: &mut [Word], colour: Colour)
 {
     for word in words.iter_mut() {
         *word = word.in_colour(colour);
-    }
-}
-
-// What of these cells isn't marked in this round refers to nothing from now on.
-fn blank(cells: &mut [Cell], round: u64)
-    ensures { cells.new ≡ map (blanked_cell round) cells.old }
-{
-    for cell in cells.iter_mut() {
-        cell.blank_unless_marked(round);
     }
 }
 

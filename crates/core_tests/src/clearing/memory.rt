@@ -103,7 +103,7 @@ fn want_of_memory_is_told_by_new(rt: HostRuntime) -> Result<(), Fail> {
     let mut was_refused = false;
     let mut was_made = false;
     // What is left grows by steps so small that in some of them only the pending lists have too little.
-    for step in 0..720 {
+    for step in 0..740 {
         let memory = limited(rt.alloc(), 16_384)?;
         let _rest = all_but(&memory, 16 * step)?;
         match Heap::new(&memory, SMALL, 1) {
@@ -165,8 +165,8 @@ fn taken_by(alloc: Global, workers: u32) -> Result<usize, Fail> {
 }
 
 #[test]
-fn a_heap_takes_180_bytes_a_cell_16_a_page_and_16_a_worker(rt: HostRuntime) -> Result<(), Fail> {
-    let cells = 4_096 * 180 + 64 * 16;
+fn a_heap_takes_192_bytes_a_cell_16_a_page_and_16_a_worker(rt: HostRuntime) -> Result<(), Fail> {
+    let cells = 4_096 * 192 + 64 * 16;
     // Beside them are the 16 slots of one mutator.
     let slots = 128;
     assert_eq!(rt; taken_by(rt.alloc(), 1)?, cells + 16 + slots, "one worker");

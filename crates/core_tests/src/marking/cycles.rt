@@ -1,8 +1,10 @@
 //! Cycles from their begin to the mark's end.
 
-use super::Ask::{DoomedFrom, HasFound, HoldCount, InPhase, IsDoomed, ReferentOf, StampOf};
+use super::Ask::{HasFound, HoldCount, InPhase, IsDoomed, ReferentOf, StampOf};
 use super::Call::{Ask, Collect, Keep, Mutate};
-use super::Collect::{Begin, EndMark, Free, GreyRoot, Scan, TakeFound, ToIdle, ToSweeping};
+use super::Collect::{
+    Begin, EndMark, Free, FreeNext, GreyRoot, Scan, TakeFound, ToIdle, ToSweeping,
+};
 use super::Keep::{Adopt, Hold, Leak, Mint, Release};
 use super::Mutate::{Clear, CopySlot, DropSlot, Get, Load, New, Refer, RefersTo, Store};
 use super::{M, agree};
@@ -35,8 +37,6 @@ fn death_is_told_after_a_cycle(rt: HostRuntime) -> Result<(), Fail> {
         (Collect(EndMark), Told::Doomed(1)),
         (Ask(IsDoomed(1)), Told::Yes),
         (Ask(IsDoomed(2)), Told::No),
-        (Ask(DoomedFrom(0)), Told::Found(1)),
-        (Ask(DoomedFrom(2)), Told::Nothing),
         // It reads as cleared at once, while the worker still has it to look at.
         (Mutate(Get(3, 1)), Told::Null),
         (Mutate(RefersTo(1, 0)), Told::Yes),
@@ -50,7 +50,8 @@ fn death_is_told_after_a_cycle(rt: HostRuntime) -> Result<(), Fail> {
         (Collect(ToSweeping), Told::Done),
         (Ask(IsDoomed(1)), Told::Yes),
         (Collect(Free(2)), Told::No),
-        (Collect(Free(1)), Told::Yes),
+        (Collect(FreeNext), Told::Found(1)),
+        (Collect(FreeNext), Told::Nothing),
         (Ask(IsDoomed(1)), Told::No),
         (Collect(ToIdle), Told::Done),
         (Ask(InPhase), Told::In(Phase::Idle)),

@@ -2,10 +2,10 @@
 
 use super::Ask::{
     ClearedIn, FieldCount, FieldOf, FirstFrom, HasObject, IsCondemned, IsHeld, IsMarked, KindOf,
-    LinkOf, NextNo, ObjectCount, ReferenceOf, ReferentOf, UnmarkedCount, UnmarkedFrom, WordAt,
+    LinkOf, NextNo, ObjectCount, ReferenceOf, ReferentOf, UnmarkedCount, WordAt,
 };
 use super::Call::{Ask, Do, Set};
-use super::Do::{DropSlot, Free, Load, LookAt, Mark, New, Refer, Store, Sweep};
+use super::Do::{DropSlot, Free, FreeNext, Load, LookAt, Mark, New, Refer, Store, Sweep};
 use super::Set::{BeginMarks, Cleared, ClockTo, Condemn, Cut, EndCycle, Link, Stamp};
 use super::{agree, agree_from, config};
 use crate::told::Told;
@@ -181,14 +181,13 @@ fn a_cell_is_used_again_and_holds_nothing_of_before(rt: HostRuntime) -> Result<(
 }
 
 #[test]
-fn what_is_marked_is_counted_and_passed_over(rt: HostRuntime) -> Result<(), Fail> {
+fn what_is_marked_is_counted(rt: HostRuntime) -> Result<(), Fail> {
     let story = [
         (Do(New(0, 2)), Told::Object(1)),
         (Do(New(0, 2)), Told::Object(2)),
         (Do(New(0, 2)), Told::Object(3)),
         (Do(New(0, 2)), Told::Object(4)),
         (Do(New(0, 2)), Told::Object(5)),
-        (Ask(UnmarkedFrom(0)), Told::Found(1)),
         (Do(Mark(2)), Told::Yes),
         (Do(Mark(3)), Told::Yes),
         // It is marked already, and there is none.
@@ -199,8 +198,30 @@ fn what_is_marked_is_counted_and_passed_over(rt: HostRuntime) -> Result<(), Fail
         (Ask(IsMarked(6)), Told::No),
         // Two of five are marked.
         (Ask(UnmarkedCount), Told::Count(3)),
-        (Ask(UnmarkedFrom(2)), Told::Found(4)),
-        (Ask(UnmarkedFrom(6)), Told::Nothing),
+    ];
+    agree(&rt, rt.alloc(), 5, &story)
+}
+
+#[test]
+fn the_condemned_are_listed_in_order_of_number(rt: HostRuntime) -> Result<(), Fail> {
+    let story = [
+        (Do(New(0, 2)), Told::Object(1)),
+        (Do(New(0, 2)), Told::Object(2)),
+        (Do(New(0, 2)), Told::Object(3)),
+        (Do(Sweep(2)), Told::Yes),
+        // It has the cell of what was freed, and is listed by its number still.
+        (Do(New(1, 2)), Told::Object(4)),
+        (Do(New(0, 2)), Told::Object(5)),
+        (Do(DropSlot(1)), Told::Done),
+        (Do(Mark(5)), Told::Yes),
+        (Set(Condemn), Told::Done),
+        (Do(FreeNext), Told::Found(1)),
+        // It is freed by its number first, and then no more.
+        (Do(Free(3)), Told::Yes),
+        (Do(FreeNext), Told::No),
+        (Do(FreeNext), Told::Found(4)),
+        (Do(FreeNext), Told::Nothing),
+        (Ask(UnmarkedCount), Told::Count(0)),
     ];
     agree(&rt, rt.alloc(), 5, &story)
 }

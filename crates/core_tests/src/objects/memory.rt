@@ -3,24 +3,24 @@
 use super::Ask::ObjectCount;
 use super::Call::{Ask, Do, Keep, Set};
 use super::Do::{
-    CopySlot, CutIn, DropSlot, Free, Get, Load, LookAt, Mark, MarkSlot, MarkSlotAt, New, Refer,
-    SetSlot, Store,
+    CopySlot, CutIn, DropSlot, Free, FreeNext, Get, Load, LookAt, Mark, MarkSlot, MarkSlotAt, New,
+    Refer, SetSlot, Store,
 };
 use super::Keep::{Adopt, Hold, Mint, Release};
 use super::Set::{BeginMarks, Cleared, ClockTo, Condemn, Cut, EndCycle, Link, Stamp};
 use super::{Call, M, config, make_calls};
 use crate::arena::{all_that_is_left, limited};
-use crate::closed::is_closed;
+use crate::closed::condemn_if_closed;
 use crate::told::Told;
 use bumpalo::Bump;
 use ref_base::{Fault, ObjNo, SlotNo, Strength};
-use ref_objects::{Colour, Objects};
+use ref_objects::{Colour, Objects, Worklist};
 use std::alloc::Allocator;
 use std::process::Abort;
 use std::test::Fail;
 
 /// Each call once.
-const EACH_CALL: [(Call, Told); 27] = [
+const EACH_CALL: [(Call, Told); 28] = [
     (Do(New(0, 8)), Told::Object(1)),
     (Do(Refer(Strength::Soft, 1, 0, Some(0), 8)), Told::Object(2)),
     (Do(Store(0, 7, 1)), Told::Done),
@@ -45,6 +45,7 @@ const EACH_CALL: [(Call, Told); 27] = [
     (Do(MarkSlotAt(1)), Told::Found(2)),
     (Set(Condemn), Told::Done),
     (Do(Free(1)), Told::No),
+    (Do(FreeNext), Told::Nothing),
     (Set(BeginMarks), Told::Done),
     (Set(EndCycle), Told::Done),
     (Ask(ObjectCount), Told::Count(2)),
@@ -60,8 +61,9 @@ fn no_memory_for<A: Allocator + Copy>(rt: &impl Abort, memory: A, cells: u32) {
 fn make_without_memory(rt: &impl Abort, memory: &Bump, calls: &[(Call, Told)]) -> Result<(), Fail> {
     let heap = Objects::new(memory, config(3), 1)?;
     let other = Objects::new(memory, config(3), 2)?;
+    let condemned = Worklist::new(memory, 3)?;
     let _rest = all_that_is_left(rt, memory)?;
-    make_calls(rt, heap, other, calls);
+    make_calls(rt, heap, other, condemned, calls);
     no_memory_for(rt, memory, 3);
     Ok(())
 }
@@ -84,15 +86,14 @@ fn fill<A: Allocator + Copy>(rt: &impl Abort, heap: &mut Objects<A>, cells: u32)
 }
 
 /// Frees all objects but the first, as a cycle does.
-fn free_all_but_one<A: Allocator + Copy>(heap: &mut Objects<A>) {
+fn free_all_but_one<A: Allocator + Copy>(heap: &mut Objects<A>, condemned: &mut Worklist<A>) {
     let _dropped = heap.drop_slot(M, SlotNo(0));
     heap.mark(ObjNo(1));
-    if is_closed(heap) {
-        heap.condemn();
-    }
-    // No number is greater than the last of 32 bits.
-    for no in 2..heap.next_no().min(1 << 32) {
-        heap.free(ObjNo(no as u32));
+    condemn_if_closed(heap, condemned);
+    for _object in 0..condemned.room() {
+        if let Some(entry) = condemned.take_first() {
+            heap.free(entry);
+        }
     }
     heap.end_cycle();
     heap.begin_marks(Colour::A);
@@ -100,10 +101,15 @@ fn free_all_but_one<A: Allocator + Copy>(heap: &mut Objects<A>) {
 
 /// Fills the heap, and again each time that all but the first object were freed. As that one stays, the index fills
 /// with gaps again and again.
-fn fill_again_and_again<A: Allocator + Copy>(rt: &impl Abort, heap: &mut Objects<A>, cells: u32) {
+fn fill_again_and_again<A: Allocator + Copy>(
+    rt: &impl Abort,
+    heap: &mut Objects<A>,
+    condemned: &mut Worklist<A>,
+    cells: u32,
+) {
     fill(rt, heap, cells);
     for _round in 0..20 {
-        free_all_but_one(heap);
+        free_all_but_one(heap, condemned);
         fill(rt, heap, cells);
         assert_eq!(rt; heap.object_count(), cells as usize);
         assert!(rt; heap.has_object(ObjNo(1)));
@@ -114,10 +120,11 @@ fn fill_again_and_again<A: Allocator + Copy>(rt: &impl Abort, heap: &mut Objects
 fn after_new_no_memory_is_taken(rt: HostRuntime) -> Result<(), Fail> {
     for cells in 1..70 {
         let pages = (cells as usize).div_ceil(64);
-        let memory = limited(rt.alloc(), 10_256 * pages + 256)?;
+        let memory = limited(rt.alloc(), 10_768 * pages + 256)?;
         let mut heap = Objects::new(&memory, config(cells), 1)?;
+        let mut condemned = Worklist::new(&memory, cells as usize)?;
         let _rest = all_that_is_left(&rt, &memory)?;
-        fill_again_and_again(&rt, &mut heap, cells);
+        fill_again_and_again(&rt, &mut heap, &mut condemned, cells);
     }
     Ok(())
 }

@@ -4,7 +4,6 @@ use super::Ask::{
     Clock, FieldCount, FieldOf, FirstFrom, HasObject, HeapNo, HeldAfter, HeldFrom, HoldCount,
     IsCondemned, IsHeld, IsMarked, IsUnmarked, KindOf, NextNo, ObjectCount, QueueOf, ReferenceIn,
     ReferenceOf, ReferentIn, ReferentOf, Size, SlotAt, SlotCount, SlotOf, StampOf, UnmarkedCount,
-    UnmarkedFrom,
 };
 use super::Call::{Ask, Do, Keep, Set, TurnToOther};
 use super::Do::{
@@ -337,7 +336,6 @@ fn what_a_cycle_reaches_is_marked_and_the_rest_is_white(rt: HostRuntime) -> Resu
         (Do(New(1, 0)), Told::Object(2)),
         (Do(New(2, 0)), Told::Object(3)),
         (Ask(UnmarkedCount), Told::Count(3)),
-        (Ask(UnmarkedFrom(1)), Told::Found(1)),
         (Do(Mark(1)), Told::Yes),
         (Do(Mark(2)), Told::Yes),
         // It is marked already, and there is none.
@@ -350,8 +348,6 @@ fn what_a_cycle_reaches_is_marked_and_the_rest_is_white(rt: HostRuntime) -> Resu
         // There is none.
         (Ask(IsUnmarked(4)), Told::No),
         (Ask(UnmarkedCount), Told::Count(1)),
-        (Ask(UnmarkedFrom(1)), Told::Found(3)),
-        (Ask(UnmarkedFrom(4)), Told::Nothing),
     ];
     agree(&rt, rt.alloc(), 8, &story)
 }
@@ -435,10 +431,8 @@ fn a_new_cycle_begins_with_no_mark(rt: HostRuntime) -> Result<(), Fail> {
         (Do(Mark(1)), Told::Yes),
         (Do(Mark(2)), Told::Yes),
         (Ask(UnmarkedCount), Told::Count(0)),
-        (Ask(UnmarkedFrom(1)), Told::Nothing),
         (Set(BeginMarks), Told::Done),
         (Ask(UnmarkedCount), Told::Count(2)),
-        (Ask(UnmarkedFrom(2)), Told::Found(2)),
         // Only marks are taken away.
         (Ask(IsHeld(2)), Told::Yes),
         (Do(Mark(2)), Told::Yes),

@@ -5,7 +5,7 @@ ghost use Rattle.ref_mark.specs.CycleHeaps.{first_cycle_heap};
 
 use ref_base::{Config, MutNo, ObjNo, SlotNo, Strength, Urgency, WorkerNo};
 use ref_mark::Marker;
-use ref_objects::Start;
+use ref_objects::{Entry, Start};
 use std::alloc::Global;
 use std::process::Abort;
 
@@ -83,7 +83,7 @@ fn a_doomed_referent_reads_as_null(heap: &mut Marker) -> bool
     };
     let _cleared = heap.clear(MutNo(0), SlotNo(1));
     let is_kept = heap.objects().referent_of(ObjNo(2)).is_some();
-    is_null && is_kept && !heap.free(ObjNo(1))
+    is_null && is_kept && !heap.free(Entry::of(ObjNo(1)))
 }
 
 /// A heap where nothing was made yet, between cycles.

@@ -1,10 +1,11 @@
 //! What a caller of a heap's objects can prove of its answers.
 
 ghost use Rattle.std.specs.Prelude.{◌≡◌, ◌≢◌, true};
+ghost use Rattle.ref_space.specs.Worklists.{empty_worklist};
 ghost use Rattle.ref_objects.specs.Grounds.{first_ground};
 
 use ref_base::{Config, MutNo, ObjNo, QueueNo, SlotNo, Strength};
-use ref_objects::{Hold, Objects, Start};
+use ref_objects::{Hold, Objects, Start, Worklist};
 use std::alloc::Global;
 use std::process::Abort;
 
@@ -53,15 +54,19 @@ fn a_store_writes_its_field(objects: &mut Objects) -> bool
     objects.fields_of(ObjNo(1)).get(0).is_some()
 }
 
-/// An object that nothing refers to is condemned, and freed by its number.
-fn an_object_is_freed(objects: &mut Objects) -> bool
-    requires { objects.old ≡ first_ground CONFIG 1 START }
+/// An object that nothing refers to is condemned, and freed as the list has it.
+fn an_object_is_freed(objects: &mut Objects, condemned: &mut Worklist) -> bool
+    requires made { objects.old ≡ first_ground CONFIG 1 START }
+    requires empty { condemned.old ≡ empty_worklist 2 }
     ensures { result ≡ true }
 {
     let _made = objects.alloc_obj(MutNo(0), SlotNo(0), 0);
     let _dropped = objects.drop_slot(MutNo(0), SlotNo(0));
-    objects.condemn();
-    objects.free(ObjNo(1))
+    objects.condemn(condemned);
+    match condemned.take_first() {
+        Some(entry) => objects.free(entry),
+        None => false,
+    }
 }
 
 /// A soft reference, also one with fields, is stamped with the clock and registered with its queue.
@@ -170,6 +175,16 @@ fn heap(rt: &impl Abort, alloc: Global, heap_no: u64) -> Objects
     }
 }
 
+/// A list with room for two objects, where none stands yet.
+fn list(rt: &impl Abort, alloc: Global) -> Worklist
+    ensures { result ≡ empty_worklist 2 }
+{
+    match Worklist::new(alloc, 2) {
+        Ok(list) => list,
+        Err(_) => panic!(rt; "no list"),
+    }
+}
+
 #[test]
 fn what_callers_of_objects_see(rt: HostRuntime) {
     let alloc = rt.alloc();
@@ -188,7 +203,7 @@ fn what_callers_of_objects_see(rt: HostRuntime) {
         ),
         (
             "an object is freed",
-            an_object_is_freed(&mut heap(&rt, alloc, 1)),
+            an_object_is_freed(&mut heap(&rt, alloc, 1), &mut list(&rt, alloc)),
         ),
         (
             "a soft reference has its stamp and its queue",

@@ -7,7 +7,7 @@ ghost use Rattle.ref_clear.specs.ClearCalls.{HeapDoes, looked_reply};
 
 use super::Heap;
 use crate::Looked;
-use ref_base::{Fault, ObjNo, Phase, WorkerNo};
+use ref_base::{Fault, Phase, WorkerNo};
 use ref_objects::{Look, Reference};
 use std::alloc::Allocator;
 
@@ -45,7 +45,8 @@ impl<A: Allocator + Copy> Heap<A> {
     }
 
     /// Ends clearing: the sweep may begin. Tried in this order: `WrongPhase`, `ClearingLeft` while a worker has found a
-    /// reference that it didn't look at. In time of the cells.
+    /// reference that it didn't look at. In time of the objects, and of those that were freed since gaps were closed
+    /// last.
     pub fn end_clear(&mut self) -> Result<(), Fault>
         ensures { HeapDoes self.old (Plain EndClear) (reply_of done_reply result) self.new }
     {
@@ -57,8 +58,7 @@ impl<A: Allocator + Copy> Heap<A> {
         }
         // Gives the proof that what is named is there.
         self.marker.objects().facts();
-        self.marker.to_sweeping();
-        self.swept_to = ObjNo(0);
+        self.marker.to_sweeping(&mut self.condemned);
         Ok(())
     }
 }

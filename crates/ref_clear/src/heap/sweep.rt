@@ -10,8 +10,9 @@ ghost use Rattle.ref_clear.specs.ClearCalls.{HeapDoes, swept_reply};
 ghost use Rattle.ref_clear.specs.ClearViews.{MaySweep};
 
 use super::Heap;
-use ref_base::{Fault, ObjNo, Phase, WorkerNo};
+use ref_base::{Fault, Phase, WorkerNo};
 use ref_mark::Marker;
+use ref_objects::Worklist;
 use std::alloc::Allocator;
 
 /// How many objects a sweep frees, or fewer where fewer are left.
@@ -19,14 +20,12 @@ const SWEPT_AT_ONCE: u32 = 64;
 
 impl<A: Allocator + Copy> Heap<A> {
     /// Frees the 64 doomed objects of least number, or all where fewer are left, and answers how many; none where none
-    /// is left. Tried in this order: `NoSuchActor`, `WrongPhase`. In logarithmic time for each that it frees, and all
-    /// sweeps of a cycle together in time of the objects that are there.
+    /// is left. Tried in this order: `NoSuchActor`, `WrongPhase`. In constant time for each that it frees.
     pub fn sweep(&mut self, worker: WorkerNo) -> Result<Option<u32>, Fault>
         ensures { HeapDoes self.old (Plain (Sweep worker)) (reply_of swept_reply result) self.new }
     {
         self.marker.check_work(worker, Phase::Sweeping)?;
-        let (freed, reached) = free_some(&mut self.marker, self.swept_to);
-        self.swept_to = reached;
+        let freed = free_some(&mut self.marker, &mut self.condemned);
         if freed == 0 {
             return Ok(None);
         }
@@ -49,22 +48,20 @@ impl<A: Allocator + Copy> Heap<A> {
     }
 }
 
-// Frees the doomed of least number, 64 or all: how many these are, and the number that it has come to.
-fn free_some<A: Allocator + Copy>(marker: &mut Marker<A>, from: ObjNo) -> (u32, ObjNo)
-    requires { MaySweep marker.old from }
-    ensures count { result.0 ≡ min 64 (length (doomed marker.old)) }
+// Frees the doomed of least number, 64 or all: how many these are.
+fn free_some<A: Allocator + Copy>(marker: &mut Marker<A>, condemned: &mut Worklist<A>) -> u32
+    requires { MaySweep marker.old condemned.old.stands }
+    ensures count { result ≡ min 64 (length (doomed marker.old)) }
     ensures after { marker.new ≡ swept_some marker.old }
-    ensures reached { MaySweep marker.new result.1 }
+    ensures listed { MaySweep marker.new condemned.new.stands }
+    ensures room { condemned.new.room ≡ condemned.old.room }
 {
     let mut freed = 0;
-    let mut reached = from;
     while freed < SWEPT_AT_ONCE {
-        let Some(no) = marker.doomed_from(reached) else {
+        let Some(entry) = condemned.take_first() else {
             break;
         };
-        let _gone = marker.free(no);
-        reached = no;
-        freed += 1;
+        freed += u32::from(marker.free(entry));
     }
-    (freed, reached)
+    freed
 }

@@ -93,19 +93,9 @@ impl<A: Allocator + Copy> Marker<A> {
         if self.phase != Phase::Marking {
             return;
         }
-        if let Ok(Some(no)) = self.objects.mark_slot(mutator, slot) {
+        if let Ok(Some(anew)) = self.objects.mark_slot(mutator, slot) {
             self.objects.facts();
-            self.push_grey(no);
-        }
-    }
-
-    // Whether there is a referent and it is white.
-    pub(super) fn is_any_white(&self, referent: Option<ObjNo>) -> bool
-        ensures { result ≡ any_is (is_white self.now) referent }
-    {
-        match referent {
-            Some(no) => self.objects.is_unmarked(no),
-            None => false,
+            self.push_grey(anew);
         }
     }
 }

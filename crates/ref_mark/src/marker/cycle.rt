@@ -1,6 +1,6 @@
 //! The cycle: its begin, the scans of its workers, and the mark's end.
 
-ghost use Rattle.std.specs.Prelude.{◌≡◌, ◌-◌, ◌^◌, ◌<◌, not, Some, None, length, slice_index_or};
+ghost use Rattle.std.specs.Prelude.{true, ◌≡◌, ◌-◌, ◌^◌, ◌<◌, not, Some, None, length, slice_index_or};
 ghost use Rattle.ref_base.specs.Graphs.{object_at};
 ghost use Rattle.ref_base.specs.Paths.{present, targets_at, allowed_referent, if_any};
 ghost use Rattle.ref_base.specs.KeptPaths.{is_kept};
@@ -16,10 +16,10 @@ ghost use Rattle.ref_mark.specs.MarkCalls.{MarkerDoes, reply_of, scan_reply};
 ghost use Rattle.ref_mark.specs.MarkViews.{MayFind};
 ghost use Rattle.ref_mark.specs.CycleHeaps.{shaded_all, shaded_if_any, whitened, with_found, is_white};
 
-use super::Marker;
+use super::{MOST_WORKERS, Marker};
 use crate::chain::Chain;
-use ref_base::{Fault, ObjNo, Phase, Policy, Reply, Strength, Urgency, WorkerNo, keeps};
-use ref_objects::{Colour, Reference};
+use ref_base::{Fault, ObjNo, Phase, Policy, Reply, Urgency, WorkerNo};
+use ref_objects::{Colour, Entry};
 use std::alloc::Allocator;
 
 impl<A: Allocator + Copy> Marker<A> {
@@ -40,19 +40,24 @@ impl<A: Allocator + Copy> Marker<A> {
     /// Scans the first of the grey list for this worker: what its fields refer to becomes grey, in order, and so does
     /// the referent of a soft reference that the cycle keeps; another reference whose referent is white is found by
     /// the worker. Each word of the object has the good colour then. Answers the object, or none where the list is
-    /// empty. Tried in this order: `NoSuchActor`, `WrongPhase`. In logarithmic time.
+    /// empty. Tried in this order: `NoSuchActor`, `WrongPhase`. In time of its fields.
     pub fn scan(&mut self, worker: WorkerNo) -> Result<Option<ObjNo>, Fault>
         ensures { MarkerDoes self.old (Plain (Scan worker)) (reply_of scan_reply result) self.new }
     {
         self.check_work(worker, Phase::Marking)?;
-        let Some(no) = self.grey.take_first() else {
+        let Some(entry) = self.grey.take_first() else {
             return Ok(None);
         };
-        let reference = self.objects.heal(no);
-        // The prover takes an Option that is passed on by value as spent.
-        let (shading, finding) = (reference, reference);
-        self.shade_targets(no, shading);
-        self.list_found(worker, no, finding);
+        let Entry { no, place } = entry;
+        // Gives the proof that the grey list has room.
+        self.objects.facts();
+        let finds = self
+            .objects
+            .scan(Entry { no, place }, self.policy, &mut self.grey);
+        self.objects.facts();
+        if finds {
+            self.list_found(worker, no, place);
+        }
         Ok(Some(no))
     }
 
@@ -121,9 +126,9 @@ impl<A: Allocator + Copy> Marker<A> {
         requires { place < length self.old.heap.slots }
         ensures { self.new ≡ shaded_if_any self.old (slice_index_or self.old.heap.slots place None) }
     {
-        if let Some(no) = self.objects.mark_slot_at(place) {
+        if let Some(anew) = self.objects.mark_slot_at(place) {
             self.objects.facts();
-            self.push_grey(no);
+            self.push_grey(anew);
         }
     }
 
@@ -143,82 +148,22 @@ impl<A: Allocator + Copy> Marker<A> {
         }
     }
 
-    // ---- parts of a scan
-
-    // What an object leads to becomes grey: what its fields hold, and its referent if it is a reference that is kept.
-    fn shade_targets(&mut self, no: ObjNo, reference: Option<Reference>)
-        requires { reference_at self.old.heap no ≡ reference }
-        ensures { self.new ≡ shaded_all self.old
-            (targets_at (is_kept self.old.policy) self.old.heap.objects no) }
-    {
-        self.shade_fields(no);
-        let referent = self.kept_referent(reference);
-        self.shade_if_any(referent);
-    }
-
-    // What the fields of an object hold becomes grey.
-    fn shade_fields(&mut self, no: ObjNo)
-        ensures { self.new ≡ shaded_all self.old (present (fields_in (object_at self.old.heap.objects no))) }
-    {
-        let anew = self.objects.mark_fields(no);
-        self.objects.facts();
-        for place in 0..anew.len() {
-            if let Some(no) = anew.get(place) {
-                self.push_grey(no);
-            }
-        }
-    }
-
-    // The referent of a reference that the cycle keeps.
-    fn kept_referent(&self, reference: Option<Reference>) -> Option<ObjNo>
-        ensures { if_any result ≡ allowed_referent (is_kept self.now.policy) reference }
-    {
-        let reference = reference?;
-        if self.is_kept(reference) {
-            reference.referent
-        } else {
-            None
-        }
-    }
-
-    // Whether the cycle keeps the referent of this reference.
-    fn is_kept(&self, reference: Reference) -> bool
-        ensures { result ≡ is_kept self.now.policy reference }
-    {
-        let Policy {
-            clock,
-            urgency,
-            span,
-        } = self.policy;
-        match (reference.strength, urgency) {
-            // No stamp is after the clock.
-            (Strength::Soft, Urgency::Normal) => keeps(clock, reference.stamp.min(clock), span),
-            _ => false,
-        }
-    }
-
-    // The worker finds a reference whose referent is still white.
-    fn list_found(&mut self, worker: WorkerNo, no: ObjNo, reference: Option<Reference>)
-        requires reference { reference_at self.old.heap no ≡ reference }
+    // The worker finds a reference whose referent is still white, which lies at this place.
+    fn list_found(&mut self, worker: WorkerNo, no: ObjNo, place: u32)
+        requires white { refers_into (is_white self.old) (reference_at self.old.heap no) ≡ true }
         requires may { MayFind self.old worker no }
         ensures { self.new ≡ with_found self.old worker no }
     {
-        if self.refers_to_white(reference) {
-            self.objects.facts();
-            let mut list = self.found[worker.0 as usize];
-            list.push(&mut self.objects, no);
-            self.found[worker.0 as usize] = list;
-        }
-    }
-
-    // Whether this is a reference whose referent is white.
-    fn refers_to_white(&self, reference: Option<Reference>) -> bool
-        ensures { result ≡ refers_into (is_white self.now) reference }
-    {
-        match reference {
-            Some(reference) => self.is_any_white(reference.referent),
-            None => false,
-        }
+        self.objects.facts();
+        let finder = worker.0 as usize;
+        let mut list = self.found[finder];
+        list.push(
+            &mut self.objects,
+            no,
+            self.found_last[finder % MOST_WORKERS],
+        );
+        self.found[finder] = list;
+        self.found_last[finder % MOST_WORKERS] = place;
     }
 
     // Why a mark's end is refused.

@@ -1,11 +1,12 @@
 //! What the layer above does to a heap in its cycles.
 
-ghost use Rattle.std.specs.Prelude.{◌≡◌, ◌==◌, IfOk, not, true, false};
+ghost use Rattle.std.specs.Prelude.{◌≡◌, ◌==◌, ◌≤◌, IfOk, length, not, true, false};
 ghost use Rattle.ref_base.specs.Members.{has};
 ghost use Rattle.ref_base.specs.Collectors.{joined};
 ghost use Rattle.ref_base.specs.Refusals.{is_empty, work_refusal};
 ghost use Rattle.ref_base.specs.CollectorRows.{list_at};
-ghost use Rattle.ref_objects.specs.Grounds.{IsRefused, IsClosed, if_done, least_from};
+ghost use Rattle.ref_space.specs.Worklists.{emptied_list, with_more};
+ghost use Rattle.ref_objects.specs.Grounds.{IsRefused, IsClosed, if_done, unmarked};
 ghost use Rattle.ref_mark.specs.Chains.{linked_last, chain_with};
 ghost use Rattle.ref_mark.specs.CycleHeaps.{shaded, cycle_in_phase, found_looked_at, doomed, sweep_begun};
 ghost use Rattle.ref_mark.specs.CycleHeaps.{is_swept, swept, is_past_mark};
@@ -14,7 +15,7 @@ ghost use Rattle.ref_mark.specs.MarkViews.{found_look};
 use super::Marker;
 use crate::chain::Chain;
 use ref_base::{Fault, ObjNo, Phase, WorkerNo};
-use ref_objects::Look;
+use ref_objects::{Entry, Look, Worklist};
 use std::alloc::Allocator;
 
 impl<A: Allocator + Copy> Marker<A> {
@@ -71,18 +72,7 @@ impl<A: Allocator + Copy> Marker<A> {
         ensures links { self.new ≡ record self.old { tags = linked_last self.old.tags chain.old no } }
         ensures chain { chain.new ≡ chain_with chain.old no }
     {
-        chain.push(&mut self.objects, no);
-    }
-
-    /// The least number from this one on of a doomed object. In logarithmic time, and that of the objects between.
-    pub fn doomed_from(&self, no: ObjNo) -> Option<ObjNo>
-        ensures { result ≡ least_from (doomed self.now) no }
-    {
-        if self.is_past_mark() {
-            self.objects.unmarked_from(no)
-        } else {
-            None
-        }
+        chain.push(&mut self.objects, no, 0);
     }
 
     /// Whether an object is doomed that isn't swept. In constant time.
@@ -92,25 +82,32 @@ impl<A: Allocator + Copy> Marker<A> {
         self.is_past_mark() && self.objects.unmarked_count() > 0
     }
 
-    /// In Sweeping, frees the doomed object of this number, as `Objects::free` does. True where it was doomed, and
-    /// then nobody holds it; else nothing changes. In logarithmic time.
-    pub fn free(&mut self, no: ObjNo) -> bool
-        ensures answer { result ≡ is_swept self.old no }
-        ensures after { self.new ≡ swept self.old no }
+    /// In Sweeping, frees the doomed object of this entry, as `Objects::free` does. True where it was doomed, and then
+    /// nobody holds it; else nothing changes. In constant time where the object lies at the entry's place, as what
+    /// `to_sweeping` listed does, and else by one search.
+    #[inline(always)]
+    pub fn free(&mut self, entry: Entry) -> bool
+        ensures answer { result ≡ is_swept self.old entry.no }
+        ensures after { self.new ≡ swept self.old entry.no }
     {
         // Gives the proof that nobody holds what is condemned.
         self.objects.facts();
-        self.objects.free(no)
+        self.objects.free(entry)
     }
 
     /// Clearing ends: what isn't marked is condemned, as `Objects::condemn` does. The layer above has looked at all
-    /// that was found, and nothing that is marked, no slot and no hold refers to what isn't. In time of the cells.
-    pub fn to_sweeping(&mut self)
+    /// that was found, and nothing that is marked, no slot and no hold refers to what isn't. Just the doomed stand in
+    /// the list then, in order of number. In time of the objects, and of those that were freed since gaps were closed
+    /// last.
+    pub fn to_sweeping(&mut self, condemned: &mut Worklist<A>)
         requires found { is_empty (joined self.old.found) ≡ true }
         requires closed { IsClosed self.old.heap (has self.old.marked) }
-        ensures { self.new ≡ sweep_begun self.old }
+        requires room { length self.old.heap.objects ≤ condemned.old.room }
+        ensures after { self.new ≡ sweep_begun self.old }
+        ensures list { condemned.new ≡
+            with_more (emptied_list condemned.old) (unmarked self.old.heap.objects self.old.marked) }
     {
-        self.objects.condemn();
+        self.objects.condemn(condemned);
         self.phase = Phase::Sweeping;
     }
 

@@ -1,18 +1,20 @@
 //! What the layers above change of a heap's objects: slots, stamps, referents, the cycle of a clear, the clock, and
 //! which objects there are.
 
-ghost use Rattle.std.specs.Prelude.{◌≡◌, ◌<◌, true, Some, length};
+ghost use Rattle.std.specs.Prelude.{◌≡◌, ◌<◌, ◌≤◌, true, Some, length};
 ghost use Rattle.ref_base.specs.Heaps.{with_slot, with_changed, with_reference, with_stamp, cleared, with_clock};
 ghost use Rattle.ref_base.specs.Refusals.{drop_refusal};
 ghost use Rattle.ref_base.specs.Members.{has};
 ghost use Rattle.ref_objects.specs.Grounds.{IsRefused, if_done, ground_with_heap, is_condemned, after_freeing};
 ghost use Rattle.ref_objects.specs.Grounds.{IsClosed, with_condemned, with_none_condemned, is_spared, spared_only};
 ghost use Rattle.ref_objects.specs.Grounds.{with_cleared_tag, with_link, look_of, ground_looked_at};
+ghost use Rattle.ref_objects.specs.Grounds.{unmarked};
 ghost use Rattle.ref_objects.specs.GroundViews.{with_slot_at, written};
+ghost use Rattle.ref_space.specs.Worklists.{emptied_list, with_more};
 
 use super::Objects;
 use ref_base::{Fault, MutNo, ObjNo, SlotNo};
-use ref_space::{Change, Look};
+use ref_space::{Change, Entry, Look, Worklist};
 use std::alloc::Allocator;
 
 impl<A: Allocator + Copy> Objects<A> {
@@ -88,16 +90,28 @@ impl<A: Allocator + Copy> Objects<A> {
         self.write(no, Change::Link(to));
     }
 
+    /// The same, of the object of this entry: in constant time where it lies at the entry's place.
+    #[inline(always)]
+    pub fn set_link_near(&mut self, entry: Entry, to: u32)
+        ensures { self.new ≡ record self.old { tags = with_link self.old.tags entry.no to } }
+    {
+        self.table.change_near(entry, Change::Link(to));
+    }
+
     /// Condemns what isn't marked: from now on it reads as referring to nothing, nothing can come to name it, and it
     /// may be freed. What is made from now on is marked from the start. Nothing that is marked refers to what isn't,
-    /// and no slot or hold names it. In time of the cells.
-    pub fn condemn(&mut self)
-        requires { IsClosed self.old.heap (has self.old.marked) }
-        ensures { self.new ≡ with_condemned self.old }
+    /// and no slot or hold names it. Just the condemned stand in the list then, in order of number. In time of the
+    /// objects, and of those that were freed since gaps were closed last.
+    pub fn condemn(&mut self, condemned: &mut Worklist<A>)
+        requires closed { IsClosed self.old.heap (has self.old.marked) }
+        requires room { length self.old.heap.objects ≤ condemned.old.room }
+        ensures after { self.new ≡ with_condemned self.old }
+        ensures list { condemned.new ≡
+            with_more (emptied_list condemned.old) (unmarked self.old.heap.objects self.old.marked) }
     {
         // Gives the proof that the numbers rise.
         let _count = self.table.len();
-        self.table.blank_unmarked();
+        self.table.condemn(condemned);
         self.condemning = true;
     }
 
@@ -108,15 +122,16 @@ impl<A: Allocator + Copy> Objects<A> {
         self.condemning && self.is_unmarked(no)
     }
 
-    /// Frees the object of this number, and its cell. True exactly where it is condemned; else nothing changes. In
-    /// logarithmic time.
-    pub fn free(&mut self, no: ObjNo) -> bool
-        ensures answer { result ≡ is_condemned self.old no }
-        ensures after { self.new ≡ after_freeing self.old no }
+    /// Frees the object of this entry, and its cell. True exactly where it is condemned; else nothing changes. In
+    /// constant time where the object lies at the entry's place, as what `condemn` listed does, and else by one search.
+    #[inline(always)]
+    pub fn free(&mut self, entry: Entry) -> bool
+        ensures answer { result ≡ is_condemned self.old entry.no }
+        ensures after { self.new ≡ after_freeing self.old entry.no }
     {
         // Gives the proof that the numbers rise.
         let _count = self.table.len();
-        self.condemning && self.table.free(no)
+        self.condemning && self.table.free(entry)
     }
 
     /// Ends a cycle. Nothing is condemned any more; what was and wasn't freed refers to nothing still. Gaps that freed

@@ -1,18 +1,21 @@
 //! What a table's calls do by a word: they search nothing.
 
-ghost use Rattle.std.specs.Prelude.{◌≡◌, ◌≤◌, true};
+ghost use Rattle.std.specs.Prelude.{◌≡◌, ◌<◌, ◌≤◌, ◌^◌, true, map};
 ghost use Rattle.std.specs.Option.{option_map, IfSome};
 ghost use Rattle.ref_base.specs.CollectorRows.{referent_of};
 ghost use Rattle.ref_base.specs.Heaps.{with_field, with_reference};
 ghost use Rattle.std.specs.Bool.{OnTrue};
 ghost use Rattle.ref_space.specs.Tables.{has_field, field_in_cell, tabled_reference, is_unmarked_in, on_object};
-ghost use Rattle.ref_space.specs.Tables.{with_marked, change_of};
+ghost use Rattle.ref_space.specs.Tables.{marked_if, anew_if, change_of, tabled_fields};
 ghost use Rattle.ref_space.specs.Naming.{target_of, HasTarget, IsHealed, tabled_of, changed_of};
 ghost use Rattle.ref_space.specs.Naming.{reference_by_number, with_referent};
+ghost use Rattle.ref_space.specs.Worklists.{entry_number};
 ghost use Rattle.ref_space.specs.Places.{lent, cell_of_word, place_of_word};
 
 use super::Table;
 use crate::cell::{Cell, Change};
+use crate::field_words::Words;
+use crate::index::Entry;
 use crate::kept::Kept;
 use crate::word::Word;
 use ref_base::ObjNo;
@@ -165,20 +168,46 @@ impl<A: Allocator + Copy> Table<A> {
         }
     }
 
-    /// Marks the object that a word leads to. True where there is one and it wasn't marked.
+    /// What the fields of the object that a word leads to hold: none where there is no such object.
     #[inline(always)]
-    pub(super) fn mark_by(&mut self, value: Word) -> bool
-        ensures answer { result ≡ is_unmarked_in self.old.round.number (tabled_of self.old value) }
-        ensures after { self.new ≡ changed_of self.old value (with_marked self.old.round.number) }
+    pub(super) fn words_by(&self, object: Word) -> Words
+        ensures { map (target_of self.now) result ≡ tabled_fields (tabled_of self.now object) }
+    {
+        match cell_by(&self.cells, self.first_page, object) {
+            Some(cell) => cell.fields(),
+            None => Words::nulls(0),
+        }
+    }
+
+    /// Marks the object that a word leads to, and answers it where it wasn't marked.
+    #[inline(always)]
+    pub(super) fn mark_by(&mut self, value: Word) -> Option<Entry>
+        ensures answer { entry_number result ≡ anew_if self.old (target_of self.old value) }
+        ensures after { self.new ≡ marked_if self.old (target_of self.old value) }
     {
         match place_by(&self.cells, self.first_page, value) {
             Some(place) => {
-                let is_new = self.cells[place].mark(self.round.number);
-                self.marked += usize::from(is_new);
-                is_new
+                let no = self.cells[place].mark(self.round.number);
+                self.marked += usize::from(no.is_some());
+                entry_at(no, place)
             }
-            None => false,
+            None => None,
         }
+    }
+}
+
+// The entry of the object of this number at this place, if there is one.
+#[inline(always)]
+fn entry_at(no: Option<ObjNo>, place: usize) -> Option<Entry>
+    requires { place < 2 ^ 32 }
+    ensures { entry_number result ≡ no }
+{
+    match no {
+        Some(no) => Some(Entry {
+            no,
+            place: place as u32,
+        }),
+        None => None,
     }
 }
 

@@ -8,12 +8,12 @@ ghost use Rattle.ref_base.specs.DoomedSets.{refers_into};
 ghost use Rattle.ref_base.specs.Heaps.{with_field};
 ghost use Rattle.ref_space.specs.Tables.{held_at, slotted, tabled_held, changed_held, tabled_at, field_in_cell};
 ghost use Rattle.ref_space.specs.Tables.{field_held, has_field, on_object, change_of, tabled_reference};
-ghost use Rattle.ref_space.specs.Tables.{is_unmarked_at, tabled_fields, marked_if, anew_if, marked_each, anew_each};
-ghost use Rattle.ref_space.specs.Naming.{target_of};
+ghost use Rattle.ref_space.specs.Tables.{is_unmarked_at, marked_if, anew_if};
+ghost use Rattle.ref_space.specs.Worklists.{entry_number};
 
 use super::Table;
 use crate::cell::Change;
-use crate::fields::Fields;
+use crate::index::Entry;
 use crate::reference::Reference;
 use crate::word::Word;
 use ref_base::ObjNo;
@@ -138,40 +138,12 @@ impl<A: Allocator + Copy> Table<A> {
 
     /// Marks the object in the slot at this place, and answers it where it wasn't marked.
     #[inline(always)]
-    pub fn mark_in(&mut self, place: usize) -> Option<ObjNo>
+    pub fn mark_in(&mut self, place: usize) -> Option<Entry>
         requires { place < length self.old.slots }
-        ensures answer { result ≡ anew_if self.old (held_at self.old place) }
+        ensures answer { entry_number result ≡ anew_if self.old (held_at self.old place) }
         ensures after { self.new ≡ marked_if self.old (held_at self.old place) }
     {
         let value = self.slots[place];
-        self.mark_word(value)
-    }
-
-    /// Marks what the fields of the object of this number hold, and answers what wasn't marked before, in order:
-    /// nothing where there is no such object.
-    pub fn mark_fields(&mut self, no: ObjNo) -> Fields
-        ensures answer { result ≡ map Some (anew_each self.old (tabled_fields (tabled_at self.old.tabled no))) }
-        ensures after { self.new ≡ marked_each self.old (tabled_fields (tabled_at self.old.tabled no)) }
-    {
-        let words = self.words(no);
-        let mut anew = Fields::nulls(0);
-        for field in 0..words.len() {
-            let marked = self.mark_word(words.get(field));
-            anew.push_if_any(marked);
-        }
-        anew
-    }
-
-    // Marks what a word leads to, and answers it where it wasn't marked.
-    #[inline(always)]
-    fn mark_word(&mut self, value: Word) -> Option<ObjNo>
-        ensures answer { result ≡ anew_if self.old (target_of self.old value) }
-        ensures after { self.new ≡ marked_if self.old (target_of self.old value) }
-    {
-        if self.mark_by(value) {
-            self.name(value)
-        } else {
-            None
-        }
+        self.mark_by(value)
     }
 }

@@ -13,7 +13,8 @@ invariant_of-self-in_default-reference g c =
 
 pub invariant_of-self-then-is_none : goal.invariant_of-self-then-is_none
 invariant_of-self-then-is_none g c =
-    grind (arith, sound_skipped c.args.worker c.in_ok-look.ensures.refused c.self.invariant)
+    sound_skipped c.args.worker c.in_ok-look.ensures.refused c.self.invariant
+    (sym c.in-Some.is ∙ c.in_ok-look.ensures.answer) c.in-Some-reference.is (grind arith) c.in_ok-look.ensures.after
 
 pub invariant_of-self-then-not-is_cleared : goal.invariant_of-self-then-not-is_cleared
 invariant_of-self-then-not-is_cleared g c =

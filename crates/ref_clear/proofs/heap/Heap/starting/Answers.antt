@@ -5,14 +5,14 @@ use Rattle.ref_clear.proofs.heap.Heap.starting.Goals as goal
 pub invariant_of-result : goal.invariant_of-result
 invariant_of-result g c =
     search (first_sound c.args.config c.args.heap_no c.args.start c.in_ok-marker.ensures.made.1
-    c.in_ok-marker.ensures.stands c.in-Ok.ensures)
+    c.in_ok-marker.ensures.stands c.in-Ok.ensures.pending c.in-Ok.ensures.condemned)
 
 pub returns-in-Ok-clause-made : goal.returns-in-Ok-clause-made
 returns-in-Ok-clause-made g c =
     grind (
       arith,
       seen_first c.args.config c.args.heap_no c.args.start c.in_ok-marker.ensures.made.1
-          c.in-Ok.ensures,
+          c.in-Ok.ensures.pending,
     )
 
 pub returns-in-Ok-clause-stands : goal.returns-in-Ok-clause-stands

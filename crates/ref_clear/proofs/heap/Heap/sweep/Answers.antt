@@ -8,12 +8,12 @@ free_some-freed-requires g c = may_free c.self.invariant c.args.worker c.in_ok-c
 pub invariant_of-self : goal.invariant_of-self
 invariant_of-self g c =
     search (sound_swept c.self.invariant c.args.worker c.in_ok-check_work.ensures c.free_some-freed.ensures.after
-    c.free_some-freed.ensures.reached)
+    c.free_some-freed.ensures.listed c.free_some-freed.ensures.room)
 
 pub invariant_of-self-2 : goal.invariant_of-self-2
 invariant_of-self-2 g c =
     search (sound_swept c.self.invariant c.args.worker c.in_ok-check_work.ensures c.free_some-freed.ensures.after
-    c.free_some-freed.ensures.reached)
+    c.free_some-freed.ensures.listed c.free_some-freed.ensures.room)
 
 pub returns-then-freed-eq0 : goal.returns-then-freed-eq0
 returns-then-freed-eq0 g c =

@@ -15,7 +15,7 @@ returns-in_default-clause-does g c = grind (arith, unhook_cut c.self.invariant c
 pub invariant_of-self-in_err-hold : goal.invariant_of-self-in_err-hold
 invariant_of-self-in_err-hold g c =
     let mint = mint_refused c.self.inside.marker _ _ c.in_err-hold.ensures.answer c.in_err-hold.ensures.after in
-    subst (λ (k : CycleHeap). IsSoundHeap k c.self.inside.pending.items c.self.inside.swept_to) (sym mint.1)
+    subst (λ (k : CycleHeap). IsSoundHeap k c.self.inside.pending.items c.self.inside.condemned) (sym mint.1)
     c.self.invariant
 
 pub invariant_of-self-2 : goal.invariant_of-self-2

@@ -1,4 +1,5 @@
-use Rattle.ref_mark.proofs.Common.{sym, ◌∙◌, slot_at}
+use Rattle.ref_mark.proofs.Common.{sym, ap, ◌∙◌, slot_at}
+use Rattle.ref_space.specs.Worklists.{entry_number}
 use Rattle.ref_mark.proofs.MarkerLemmas.{sound_marked, may_grey_new}
 use Rattle.ref_mark.proofs.marker.Marker.bar.Goals as goal
 
@@ -10,5 +11,5 @@ invariant_of-self g c =
 pub push_grey-requires : goal.push_grey-requires
 push_grey-requires g c =
     may_grey_new (slot_at c.self.inside.objects.heap c.args.mutator c.args.slot) c.in-Ok-Some.ensures.after
-    c.self.invariant c.self.inside.policy c.self.inside.cycle c.in-Ok-Some.no
-    (sym c.in-Ok-Some.ensures.answer ∙ c.in-Ok-Some.field-0-is)
+    c.self.invariant c.self.inside.policy c.self.inside.cycle c.in-Ok-Some.anew.no
+    (sym c.in-Ok-Some.ensures.answer ∙ ap entry_number c.in-Ok-Some.field-0-is)

@@ -3,18 +3,18 @@ use Rattle.ref_mark.proofs.MarkerLemmas.{condemned_swept, sound_freed, seen_free
 use Rattle.ref_mark.proofs.marker.Marker.free.Goals as goal
 
 pub invariant_of-self : goal.invariant_of-self
-invariant_of-self g c = sound_freed c.args.no c.facts.ensures c.free.ensures.after c.self.invariant
+invariant_of-self g c = sound_freed c.args.entry.no c.facts.ensures c.free.ensures.after c.self.invariant
 
 pub returns-clause-answer : goal.returns-clause-answer
 returns-clause-answer g c =
     grind (
       arith,
       condemned_swept c.self.inside.objects c.self.inside.grey c.self.inside.found.items c.self.inside.phase
-          c.self.inside.policy c.self.inside.cycle c.args.no c.facts.ensures c.self.invariant,
+          c.self.inside.policy c.self.inside.cycle c.args.entry.no c.facts.ensures c.self.invariant,
     )
 
 pub returns-clause-after : goal.returns-clause-after
 returns-clause-after g c =
     rw (← c.self.view_is)
-    (seen_freed c.args.no c.facts.ensures c.free.ensures.after c.self.invariant c.self.inside.policy
+    (seen_freed c.args.entry.no c.facts.ensures c.free.ensures.after c.self.invariant c.self.inside.policy
     c.self.inside.cycle)

@@ -4,10 +4,10 @@ use Rattle.ref_mark.proofs.marker.Marker.push_grey.Goals as goal
 
 pub push-requires : goal.push-requires
 push-requires g c =
-    grey_has_room c.args.no (subst (λ (k : CycleHeap). MayGrey k c.args.no) (sym c.self.view_is) c.requires)
+    grey_has_room c.args.entry.no (subst (λ (k : CycleHeap). MayGrey k c.args.entry.no) (sym c.self.view_is) c.requires)
     c.self.invariant
 
 pub invariant_of-self : goal.invariant_of-self
 invariant_of-self g c =
-    sound_greyed c.args.no (subst (λ (k : CycleHeap). MayGrey k c.args.no) (sym c.self.view_is) c.requires)
+    sound_greyed c.args.entry.no (subst (λ (k : CycleHeap). MayGrey k c.args.entry.no) (sym c.self.view_is) c.requires)
     c.self.invariant c.push.ensures

@@ -1,30 +1,60 @@
-use Rattle.ref_mark.proofs.Common.{sym, ap, ◌∙◌, targets_at, is_kept, Heap, reference_at, CycleHeap, Ground}
-use Rattle.ref_mark.proofs.Common.{seen_marker}
-use Rattle.ref_mark.proofs.MarkerLemmas.{Greys, shaded_greys, sound_scanned, sound_healed, scan_may_find}
+use Rattle.ref_mark.proofs.Common.{◌∙◌, sym, ap, targets_at, is_kept, CycleHeap, seen_marker, with_found}
+use Rattle.ref_mark.specs.CycleHeaps.{cycle_healed}
+use Rattle.ref_space.specs.Worklists.{entry_number}
+use Rattle.ref_mark.proofs.MarkerLemmas.{may_grow, sound_scanned, sound_blackened, seen_blackened, refers_blackened}
+use Rattle.ref_mark.proofs.MarkerLemmas.{shaded_greys, scan_may_find, scan_done, found_nothing}
+use Rattle.ref_mark.proofs.marker.Marker.scan.Goals.{then-finds, else-finds}
 use Rattle.ref_mark.proofs.marker.Marker.scan.Goals as goal
 
-pub invariant_of-self-2 : goal.invariant_of-self-2
-invariant_of-self-2 g c =
-    sound_healed c.in-Some.no c.heal-reference.ensures.after
-    (sound_scanned c.take_first.ensures.after c.self.invariant)
+pub scan-finds-requires : goal.scan-finds-requires
+scan-finds-requires g c = may_grow c.facts.ensures (sound_scanned c.take_first.ensures.after c.self.invariant)
 
-pub list_found-requires-clause-reference : goal.list_found-requires-clause-reference
-list_found-requires-clause-reference g c =
-    let k : CycleHeap = seen_marker c.heal-reference.new.self c.take_first.new.self c.self.inside.found.items
-    c.self.inside.phase
-    c.self.inside.policy c.self.inside.cycle in
-    let grown : Greys k c.shade_targets.new.self =
-    shaded_greys k _ (targets_at (is_kept k.policy) k.heap.objects c.in-Some.no) c.shade_targets.ensures in
-    ap (λ (h : Heap). reference_at h c.in-Some.no) grown.heap
-    ∙ ap (λ (h : Ground). reference_at h.heap c.in-Some.no) c.heal-reference.ensures.after
-    ∙ sym c.heal-reference.ensures.answer
+pub invariant_of-self-then-finds : goal.invariant_of-self-then-finds
+invariant_of-self-then-finds g c =
+    sound_blackened c.self.inside.policy c.in-Some.entry.no c.scan-finds.ensures.after c.scan-finds.ensures.listed
+    (sound_scanned c.take_first.ensures.after c.self.invariant) c.facts-2.ensures
+
+pub invariant_of-self-else-finds : goal.invariant_of-self-else-finds
+invariant_of-self-else-finds g c =
+    sound_blackened c.self.inside.policy c.in-Some.entry.no c.scan-finds.ensures.after c.scan-finds.ensures.listed
+    (sound_scanned c.take_first.ensures.after c.self.invariant) c.facts-2.ensures
+
+pub list_found-requires-clause-white : goal.list_found-requires-clause-white
+list_found-requires-clause-white g c =
+    refers_blackened c.self.inside.policy c.in-Some.entry.no c.scan-finds.ensures.after c.scan-finds.ensures.listed
+    (sound_scanned c.take_first.ensures.after c.self.invariant) c.self.inside.cycle c.scan-finds.ensures.finds
+    ∙ c.if-finds.true
 
 pub list_found-requires-clause-may : goal.list_found-requires-clause-may
 list_found-requires-clause-may g c =
-    let k : CycleHeap = seen_marker c.heal-reference.new.self c.take_first.new.self c.self.inside.found.items
-    c.self.inside.phase
-    c.self.inside.policy c.self.inside.cycle in
-    let grown : Greys k c.shade_targets.new.self =
-    shaded_greys k _ (targets_at (is_kept k.policy) k.heap.objects c.in-Some.no) c.shade_targets.ensures in
-    scan_may_find c.args.worker c.in-Some.no c.self.view_is c.in_ok-check_work.ensures c.self.invariant
-    (sym c.take_first.ensures.answer ∙ c.in-Some.is) c.take_first.ensures.after c.heal-reference.ensures.after grown
+    let k : CycleHeap = seen_marker c.self.inside.objects c.take_first.new.self c.self.inside.found.items
+    c.self.inside.phase c.self.inside.policy c.self.inside.cycle in
+    scan_may_find c.args.worker c.in-Some.entry.no c.self.view_is c.in_ok-check_work.ensures c.self.invariant
+    (sym c.take_first.ensures.answer ∙ ap entry_number c.in-Some.is) c.take_first.ensures.after
+    (shaded_greys (cycle_healed k c.in-Some.entry.no) _
+    (targets_at (is_kept k.policy) k.heap.objects c.in-Some.entry.no)
+    (seen_blackened c.self.inside.policy c.in-Some.entry.no c.scan-finds.ensures.after c.scan-finds.ensures.listed
+    (sound_scanned c.take_first.ensures.after c.self.invariant) c.self.inside.cycle))
+
+pub returns : goal.returns
+returns g c =
+    let then : CycleHeap = seen_marker c.scan-finds.new.self c.scan-finds.new.grey c.self.inside.found.items
+    c.self.inside.phase c.self.inside.policy c.self.inside.cycle in
+    let seen =
+    seen_blackened c.self.inside.policy c.in-Some.entry.no c.scan-finds.ensures.after c.scan-finds.ensures.listed
+    (sound_scanned c.take_first.ensures.after c.self.invariant) c.self.inside.cycle in
+    scan_done c.self.inside.objects c.self.inside.grey c.self.inside.found.items c.args.worker c.in-Some.entry.no
+    c.self.view_is c.in_ok-check_work.ensures
+    (sym c.take_first.ensures.answer ∙ ap entry_number c.in-Some.is) c.take_first.ensures.after
+    (elim c.if-finds.branch [
+      | then-finds w ↦
+          w.self-is ∙ w.list_found.ensures
+          ∙ ap (λ (k : CycleHeap). with_found k c.args.worker c.in-Some.entry.no) seen
+      | else-finds w ↦
+          w.self-is
+          ∙ found_nothing then c.args.worker c.in-Some.entry.no
+          (refers_blackened c.self.inside.policy c.in-Some.entry.no c.scan-finds.ensures.after
+          c.scan-finds.ensures.listed (sound_scanned c.take_first.ensures.after c.self.invariant)
+          c.self.inside.cycle c.scan-finds.ensures.finds ∙ w.if-finds.false)
+          ∙ ap (λ (k : CycleHeap). with_found k c.args.worker c.in-Some.entry.no) seen
+    ])

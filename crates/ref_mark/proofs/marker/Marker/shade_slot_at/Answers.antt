@@ -1,4 +1,5 @@
-use Rattle.ref_mark.proofs.Common.{None, sym, ◌∙◌, slice_index_or}
+use Rattle.ref_mark.proofs.Common.{None, sym, ap, ◌∙◌, slice_index_or}
+use Rattle.ref_space.specs.Worklists.{entry_number}
 use Rattle.ref_mark.proofs.MarkerLemmas.{sound_marked, may_grey_new}
 use Rattle.ref_mark.proofs.marker.Marker.shade_slot_at.Goals as goal
 
@@ -8,5 +9,5 @@ invariant_of-self g c = search sound_marked
 pub push_grey-requires : goal.push_grey-requires
 push_grey-requires g c =
     may_grey_new (slice_index_or c.self.inside.objects.heap.slots c.args.place None) c.mark_slot_at.ensures.after
-    c.self.invariant c.self.inside.policy c.self.inside.cycle c.in-Some.no
-    (sym c.mark_slot_at.ensures.answer ∙ c.in-Some.is)
+    c.self.invariant c.self.inside.policy c.self.inside.cycle c.in-Some.anew.no
+    (sym c.mark_slot_at.ensures.answer ∙ ap entry_number c.in-Some.is)

@@ -5,12 +5,12 @@ use Rattle.ref_objects.proofs.MarkLemmas.{is_unmarked-tabled}
 use Rattle.ref_objects.proofs.objects.Objects.free.Goals as goal
 
 pub free-requires : goal.free-requires
-free-requires g c = condemned_unnamed c.self.invariant c.len-count.ensures.orderly.rising c.if-self.true c.args.no
+free-requires g c = condemned_unnamed c.self.invariant c.len-count.ensures.orderly.rising c.if-self.true c.args.entry.no
 
 pub invariant_of-self : goal.invariant_of-self
 invariant_of-self g c =
     rw c.free.ensures.after
-    (freed_sound c.self.invariant c.len-count.ensures.orderly.rising c.args.no c.if-self.true)
+    (freed_sound c.self.invariant c.len-count.ensures.orderly.rising c.args.entry.no c.if-self.true)
 
 pub returns-then-self-clause-answer : goal.returns-then-self-clause-answer
 returns-then-self-clause-answer g c = grind (arith, is_unmarked-tabled)
@@ -18,4 +18,4 @@ returns-then-self-clause-answer g c = grind (arith, is_unmarked-tabled)
 pub returns-then-self-clause-after : goal.returns-then-self-clause-after
 returns-then-self-clause-after g c =
     rw (c.free.ensures.after, ← c.self.view_is)
-    (freed_seen c.self.invariant c.len-count.ensures.orderly.rising c.args.no c.if-self.true)
+    (freed_seen c.self.invariant c.len-count.ensures.orderly.rising c.args.entry.no c.if-self.true)

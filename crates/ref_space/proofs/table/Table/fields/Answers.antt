@@ -5,8 +5,8 @@ use Rattle.ref_space.proofs.table.Table.fields.Goals as goal
 
 pub push-requires : goal.push-requires
 push-requires g c =
-    let size = length-map (take c.loop-field.field c.words-words.result) (target_of c.args.self.now) in
-    let less = length-take-le c.loop-field.field c.words-words.result in
+    let size = length-map (take c.loop-field.field c.words_by-words.result) (target_of c.args.self.now) in
+    let less = length-take-le c.loop-field.field c.words_by-words.result in
     grind (arith, size, less)
 
 pub loop-field-preserved : goal.loop-field-preserved
@@ -14,6 +14,6 @@ loop-field-preserved g c =
     grind (
       arith,
       map-append,
-      take_more c.words-words.result c.loop-field.field None
+      take_more c.words_by-words.result c.loop-field.field None
           (rw (← c.len-field-end.ensures.count) (omega (arith, c.loop-field-test.true))),
     )

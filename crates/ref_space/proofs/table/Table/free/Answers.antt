@@ -9,20 +9,20 @@ pub returns-in_default-clause-answer : goal.returns-in_default-clause-answer
 returns-in_default-clause-answer g c =
     rw (round_seen c.self.invariant c.self.view_is)
     (answered_nowhere c.self.invariant
-    (IsMissing-lent c.args.no c.deref.ensures.value c.deref-2.ensures.value c.in_default.ensures) c.self.view_is
+    (IsMissing-lent c.args.entry.no c.deref.ensures.value c.deref-2.ensures.value c.in_default.ensures) c.self.view_is
     (is_unmarked_in c.self.inside.round.number))
 
 pub returns-in_default-clause-after : goal.returns-in_default-clause-after
 returns-in_default-clause-after g c =
     freed_nowhere c.self.invariant
-    (IsMissing-lent c.args.no c.deref.ensures.value c.deref-2.ensures.value c.in_default.ensures) c.self.view_is
+    (IsMissing-lent c.args.entry.no c.deref.ensures.value c.deref-2.ensures.value c.in_default.ensures) c.self.view_is
 
 pub give-requires : goal.give-requires
 give-requires g c =
     grind (
       arith,
       has_page c.self.invariant
-          (IsPlaceOf-lent c.args.no c.deref.ensures.value c.deref-2.ensures.value c.in-Some.ensures),
+          (IsPlaceOf-lent c.args.entry.no c.deref.ensures.value c.deref-2.ensures.value c.in-Some.ensures),
     )
 
 pub overflow_sub-self : goal.overflow_sub-self
@@ -30,37 +30,37 @@ overflow_sub-self g c =
     omega (
       arith,
       one_fewer c.self.invariant
-          (IsPlaceOf-lent c.args.no c.deref.ensures.value c.deref-2.ensures.value c.in-Some.ensures),
+          (IsPlaceOf-lent c.args.entry.no c.deref.ensures.value c.deref-2.ensures.value c.in-Some.ensures),
     )
 
 pub invariant_of-self : goal.invariant_of-self
 invariant_of-self g c =
     sound_freed c.self.invariant
-    (IsPlaceOf-lent c.args.no c.deref.ensures.value c.deref-2.ensures.value c.in-Some.ensures)
+    (IsPlaceOf-lent c.args.entry.no c.deref.ensures.value c.deref-2.ensures.value c.in-Some.ensures)
     c.self.view_is c.index.ensures c.is_unmarked-goes.ensures c.if-goes.true c.vacate.ensures
     c.give.ensures c.requires
 
 pub returns-then-goes-clause-answer : goal.returns-then-goes-clause-answer
 returns-then-goes-clause-answer g c =
     goes_answer c.self.invariant
-    (IsPlaceOf-lent c.args.no c.deref.ensures.value c.deref-2.ensures.value c.in-Some.ensures)
+    (IsPlaceOf-lent c.args.entry.no c.deref.ensures.value c.deref-2.ensures.value c.in-Some.ensures)
     c.self.view_is c.index.ensures c.is_unmarked-goes.ensures
 
 pub returns-then-goes-clause-after : goal.returns-then-goes-clause-after
 returns-then-goes-clause-after g c =
     freed_there c.self.invariant
-    (IsPlaceOf-lent c.args.no c.deref.ensures.value c.deref-2.ensures.value c.in-Some.ensures)
+    (IsPlaceOf-lent c.args.entry.no c.deref.ensures.value c.deref-2.ensures.value c.in-Some.ensures)
     c.self.view_is c.index.ensures c.is_unmarked-goes.ensures c.if-goes.true c.vacate.ensures
     c.give.ensures c.requires
 
 pub returns-else-goes-clause-answer : goal.returns-else-goes-clause-answer
 returns-else-goes-clause-answer g c =
     goes_answer c.self.invariant
-    (IsPlaceOf-lent c.args.no c.deref.ensures.value c.deref-2.ensures.value c.in-Some.ensures)
+    (IsPlaceOf-lent c.args.entry.no c.deref.ensures.value c.deref-2.ensures.value c.in-Some.ensures)
     c.self.view_is c.index.ensures c.is_unmarked-goes.ensures
 
 pub returns-else-goes-clause-after : goal.returns-else-goes-clause-after
 returns-else-goes-clause-after g c =
     kept_there c.self.invariant
-    (IsPlaceOf-lent c.args.no c.deref.ensures.value c.deref-2.ensures.value c.in-Some.ensures)
+    (IsPlaceOf-lent c.args.entry.no c.deref.ensures.value c.deref-2.ensures.value c.in-Some.ensures)
     c.self.view_is c.index.ensures c.is_unmarked-goes.ensures c.if-goes.false

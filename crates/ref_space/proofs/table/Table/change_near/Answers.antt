@@ -1,0 +1,32 @@
+use Rattle.ref_space.proofs.Common.{arith, refl, leads_by, target_by, occupants_of, change_of, ◌∙◌, sym, ap, is_some}
+use Rattle.ref_space.proofs.CellChanges.{sound_there, left_there, lying_place, change_keeps, change_leaves}
+use Rattle.ref_space.proofs.CellChanges.{change-named, change_leads}
+use Rattle.ref_space.proofs.ScanLemmas.{unchanged_none}
+use Rattle.ref_space.proofs.table.Table.change_near.Goals as goal
+
+pub index_mut-requires : goal.index_mut-requires
+index_mut-requires g c =
+    let place = lying_place c.self.invariant c.self.view_is c.in-Some.ensures.lies in
+    omega (arith, c.self.inside.cells.ok.0, place.within)
+
+pub invariant_of-self : goal.invariant_of-self
+invariant_of-self g c =
+    sound_there c.self.invariant (lying_place c.self.invariant c.self.view_is c.in-Some.ensures.lies)
+    (change_of c.args.change) (change_of c.args.change) (change_keeps c.args.change) c.index_mut.ensures.value
+    c.change.ensures (change_leads c.self.inside.round.number
+    (leads_by c.self.inside.round.good c.self.inside.first_page (occupants_of c.self.inside.cells.items))
+    (λ b. refl)
+    c.args.change)
+    (change_leaves c.args.change)
+
+pub returns-in-Some : goal.returns-in-Some
+returns-in-Some g c =
+    left_there c.self.invariant (lying_place c.self.invariant c.self.view_is c.in-Some.ensures.lies)
+    (change_of c.args.change) (change_of c.args.change) (change_keeps c.args.change) c.index_mut.ensures.value
+    c.change.ensures c.self.view_is
+    (change-named (target_by c.self.inside.first_page (occupants_of c.self.inside.cells.items)) refl c.args.change)
+
+pub returns-in_default : goal.returns-in_default
+returns-in_default g c =
+    unchanged_none (change_of c.args.change) c.args.self.now c.args.entry.no
+    (sym c.place_near.ensures.there ∙ ap is_some c.in_default.is)
