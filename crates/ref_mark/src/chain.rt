@@ -30,10 +30,28 @@ impl Chain {
         Chain { first: 0, last: 0 }
     }
 
-    /// One more, last: the one that was last links to it. In constant time where that lies at this place, and else in
-    /// logarithmic time.
+    /// One more, last: the one that was last links to it. In logarithmic time.
     #[inline(always)]
-    pub fn push<A: Allocator + Copy>(&mut self, objects: &mut Objects<A>, no: ObjNo, place: u32)
+    pub fn push<A: Allocator + Copy>(&mut self, objects: &mut Objects<A>, no: ObjNo)
+        ensures links { objects.new ≡ record objects.old { tags = linked_last objects.old.tags self.old no } }
+        ensures chain { self.new ≡ chain_with self.old no }
+    {
+        if self.first == 0 {
+            self.first = no.0;
+        } else {
+            objects.set_link(ObjNo(self.last), no.0);
+        }
+        self.last = no.0;
+    }
+
+    /// The same. In constant time where the one that was last lies at this place.
+    #[inline(always)]
+    pub fn push_near<A: Allocator + Copy>(
+        &mut self,
+        objects: &mut Objects<A>,
+        no: ObjNo,
+        place: u32,
+    )
         ensures links { objects.new ≡ record objects.old { tags = linked_last objects.old.tags self.old no } }
         ensures chain { self.new ≡ chain_with self.old no }
     {

@@ -29,7 +29,12 @@ pub stamped_renewed : (h : Heap) (n : ℕ) (r : Reference) (value : Option ℕ) 
 stamped_renewed h n r None found soft some = absurd (false≢true some)
 stamped_renewed h n r (Some value) found soft some = grind (arith, changed_alike)
 
--- another reference isn't renewed
+-- none that answers nothing is renewed
+pub unread_renewed : (h : Heap) (n : ℕ) (value : Option ℕ) → is_some value ≡ false → h ≡ renewed h n value
+unread_renewed h n None none = refl
+unread_renewed h n (Some value) none = absurd (false≢true (sym none))
+
+-- nor is another reference
 pub unstamped_renewed : (h : Heap) (n : ℕ) (r : Reference) (value : Option ℕ) → reference_at h n ≡ Some r
     → is_soft r.strength ≡ false → h ≡ renewed h n value
 unstamped_renewed h n r None found other = refl
@@ -40,6 +45,12 @@ pub got_renewed : (h : Heap) (m d s n : ℕ) (value : Option ℕ) → slot_at h 
     → with_slot (renewed h n value) m d value ≡ got h m d s value
 got_renewed h m d s n None held = refl
 got_renewed h m d s n (Some value) held = grind arith
+
+pub got_unrenewed : (h : Heap) (m d s n : ℕ) (r : Reference) (value : Option ℕ) → slot_at h m s ≡ Some n
+    → reference_at h n ≡ Some r → is_soft r.strength ≡ false → with_slot h m d value ≡ got h m d s value
+got_unrenewed h m d s n r value held found other =
+    ap (λ (g : Heap). with_slot g m d value) (unstamped_renewed h n r value found other)
+    ∙ got_renewed h m d s n value held
 
 -- it refers to what it did
 changed_referent : (os : List Object) (n : ℕ) (f : Reference → Reference)

@@ -127,15 +127,15 @@ field_there (Some k) i has_it = refl
 
 pub word_seen : (s : Stored) → IsRising (numbers (objects_of s.table.tabled)) → (n i : ℕ) (bits : Option ℕ)
     → is_some bits ≡ has_field (tabled_at s.table.tabled n) i
-    → IfSome bits (IsWordHeld s.table.round.good s.table.first s.table.occupants
+    → IfSome bits (IsWordHeld s.table.round.good s.table.pages.uses s.table.occupants
     (is_healed_in s.table.round.number (tabled_at s.table.tabled n)) (field_held (tabled_at s.table.tabled n) i))
     → IfSome bits (IsWordIn (seen_ground s) n i)
 word_seen s rising n i None there word = tt
 word_seen s rising n i (Some b) there word =
     let same = healed-unhealed s.table.round.number s.table.tabled n rising (field_there
     (tabled_at s.table.tabled n) i there) in
-    subst (λ vs. IsWordHeld s.table.round.good s.table.first s.table.occupants
+    subst (λ vs. IsWordHeld s.table.round.good s.table.pages.uses s.table.occupants
     (not (has (unhealed_of s.table.round.number s.table.tabled) n)) (slice_index_or vs i None) b)
     (fields-tabled s.table.tabled n)
-    (subst (λ has_to. IsWordHeld s.table.round.good s.table.first s.table.occupants has_to
+    (subst (λ has_to. IsWordHeld s.table.round.good s.table.pages.uses s.table.occupants has_to
     (field_held (tabled_at s.table.tabled n) i) b) same word)

@@ -190,10 +190,10 @@ module _ {s : Stored} (sound : IsSoundObjects s) where
         marked_spared = grind (arith, has-marked_of, is_there-objects_of, is_unmarked-tabled)
 
 -- at first nothing is named
-pub first_sound : {config : Config} {heap_no : ℕ} {t : Table} {count first next : ℕ}
+pub first_sound : {config : Config} {heap_no : ℕ} {t : Table} {count next : ℕ} (first : ℕ)
     → is_within_limits config ≡ true → t ≡ empty_table config.cells count first → count ≡ 16 * config.mutators
     → 1 ≤ next → next ≤ 2 ^ 32 → IsSoundObjects (stored_fields config heap_no t 0 0 next false)
-first_sound {config} {heap_no} {t} {count} {first} {next} within made counted begins bounded = record {
+first_sound {config} {heap_no} {t} {count} {next} first within made counted begins bounded = record {
   ground = record {
     within = within;
     room = ap (λ (t : Table). t.room) made;

@@ -53,7 +53,7 @@ unhealed_of round = numbers_by (λ k. from_bool (not (is_healed round k)))
 -- where they lie
 abbrev pub space_of : Table → Space
 space_of t = record {
-  first = t.first;
+  pages = t.pages;
   cells = t.occupants;
   good = t.round.good;
   unhealed = unhealed_of

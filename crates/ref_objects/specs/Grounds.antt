@@ -20,7 +20,8 @@ use Rattle.ref_base.specs.declared.fault.Fault.TheVariants.{BadConfig, NoSuchObj
 use Rattle.ref_base.specs.declared.heap_step.HoldName.{HoldName}
 use Rattle.ref_space.specs.Naming.{IsWordHeld}
 use Rattle.std.specs.Prelude.{slice_index_or}
-use Rattle.ref_space.specs.Tables.{Tag, fields_in, scanned_values, with_occupant, without_occupant}
+use Rattle.ref_space.specs.Pages.{Pages, new_pages, with_placed}
+use Rattle.ref_space.specs.Tables.{Tag, fields_in, scanned_values, with_occupant, without_occupant, with_vacated}
 use Rattle.ref_space.specs.Worklists.{Worklist}
 use Rattle.ref_objects.specs.declared.start.Start.{Start}
 use Rattle.ref_objects.specs.declared.kind.Kind.{Kind}
@@ -30,10 +31,10 @@ use Rattle.ref_space.specs.declared.colour.Colour.TheVariants.{R}
 use Rattle.ref_space.specs.declared.linked.Linked.{Linked}
 use Rattle.ref_space.specs.declared.linked.Look.{Look}
 
--- Where the objects lie, and how words name them: the address of the first page; of each cell, 64 to a page, the
--- number of its object; the good colour; and, in order, the objects that may hold a word of another colour
+-- Where the objects lie, and how words name them: the pages; of each cell the number of its object, 64 cells to the
+-- frame of a page, from frame 0 on; the good colour; and, in order, the objects that may hold a word of another colour
 pub record Space : Type 0 where
-  pub first : ℕ
+  pub pages : Pages
   pub cells : List (Option ℕ)
   pub good : Colour
   pub unhealed : List ℕ
@@ -53,7 +54,7 @@ pub record Ground : Type 0 where
 -- no object lies there yet
 abbrev pub first_space : ℕ → ℕ → Space
 first_space cells page = record {
-  first = page;
+  pages = new_pages page ((cells + 63) / 64);
   cells = replicate (64 * ((cells + 63) / 64)) None;
   good = R;
   unhealed = [];
@@ -66,12 +67,15 @@ without_number (m ∷ ms) n = if m == n then without_number ms n else m ∷ with
 
 -- a new object lies in the first free cell, and is healed
 abbrev pub occupied : Space → ℕ → Space
-occupied s n = record s { cells = with_occupant s.cells n }
+occupied s n = record s { pages = with_placed s.pages; cells = with_occupant s.cells n }
 
 -- the cell of one that goes is free
 abbrev pub vacated : Space → ℕ → Space
-vacated s n =
-    record s { cells = without_occupant s.cells n; unhealed = without_number s.unhealed n }
+vacated s n = record s {
+  pages = with_vacated s.pages s.cells n;
+  cells = without_occupant s.cells n;
+  unhealed = without_number s.unhealed n;
+}
 
 -- another colour is good, and the words of all these objects may have the colour that was
 abbrev pub coloured_anew : Space → Colour → List ℕ → Space
@@ -193,7 +197,7 @@ kind_in (Some o) = Some (kind_by o.reference)
 -- the good colour unless object n is unhealed
 abbrev pub IsWordIn : Ground → ℕ → ℕ → ℕ → Type 0
 IsWordIn g n i =
-    IsWordHeld g.space.good g.space.first g.space.cells (not (has g.space.unhealed n))
+    IsWordHeld g.space.good g.space.pages.uses g.space.cells (not (has g.space.unhealed n))
     (slice_index_or (fields_in (object_at g.heap.objects n)) i None)
 
 -- the clock at which a reference was made or last got, or 0

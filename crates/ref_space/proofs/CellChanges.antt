@@ -5,7 +5,8 @@ use Rattle.ref_space.proofs.Common.{set, Option, Some, None, length-set, option_
 use Rattle.ref_space.proofs.Common.{tabled_linked, table_look, table_looked_at, ClearIn, Change, Tabled, Table}
 use Rattle.ref_space.proofs.Common.{tabled_at, tabled_by, place_in, place_if_live, seen_table, changed, Entry}
 use Rattle.ref_space.proofs.Common.{changed_tabled, marked_of, is_unmarked_in, table_freed, from_bool, ◌+◌, ◌^◌, ◌≤◌}
-use Rattle.ref_space.proofs.Common.{◌-◌, ◌/◌, ◌%◌, Use, with_cell}
+use Rattle.ref_space.proofs.Common.{◌-◌, ◌/◌, ◌%◌}
+use Rattle.ref_space.proofs.FreeLemmas.{own_place}
 use Rattle.ref_space.specs.Tables.{is_unmarked_at, look_by, more_held_if}
 use Rattle.ref_space.specs.declared.linked.Linked.{Linked}
 use Rattle.ref_space.specs.declared.linked.Look.{Look}
@@ -17,10 +18,9 @@ use Rattle.ref_space.proofs.ChangeLemmas.{tabled_by-freed, naming_changed, chang
 use Rattle.ref_space.proofs.ChangeLemmas.{missing_at as none_there}
 use Rattle.ref_space.proofs.NamingLemmas.{Keeps, good_anywhere, each_anyhow}
 use Rattle.ref_space.proofs.WordLemmas.{IsGood, good_leads, word_is_good}
-use Rattle.ref_space.specs.ColouredWords.{IsCell, word_in_colour}
-use Rattle.ref_space.proofs.TableLemmas.{has_address, word_place}
+use Rattle.ref_space.specs.ColouredWords.{IsCell}
+use Rattle.ref_space.proofs.TableLemmas.{has_word, word_place}
 use Rattle.ref_space.specs.Naming.{IsHealed, IsWordHeld}
-use Rattle.ref_space.specs.ColouredWords.{bits_held}
 use Rattle.ref_space.proofs.HealLemmas.{word_held}
 use Rattle.ref_space.specs.Tables.{is_healed, is_healed_in}
 use Rattle.ref_space.proofs.NamingLemmas.{tabled_at-named, tabled_if-named, each_set, each_at, each_held}
@@ -51,6 +51,19 @@ use Rattle.ref_base.specs.Heaps.{changed_reference, with_reference}
 use Rattle.ref_space.specs.Naming.{with_referent}
 use Rattle.ref_space.proofs.Common.{slice_index_or, ◌∷◌, []}
 use Rattle.ref_space.proofs.MarkCounts.{marks_same, marks_changed, marks_without, from_bool-le, length-unmarked_of}
+use Rattle.ref_space.proofs.Common.{Pages}
+use Rattle.ref_space.specs.Naming.{bits_told}
+use Rattle.ref_space.specs.ColouredWords.{word_of_place}
+use Rattle.ref_space.proofs.HealLemmas.{AreAddressed}
+use Rattle.ref_space.proofs.Common.{◌*◌}
+use Rattle.ref_space.specs.Pages.{with_given}
+use Rattle.ref_space.proofs.FreeLemmas.{length-free}
+use Rattle.ref_space.proofs.Common.{false≢true}
+use Rattle.ref_space.proofs.CallLemmas.{between_at}
+use Rattle.ref_space.proofs.Common.{suc, zero}
+use Rattle.ref_space.proofs.FreeLemmas.{length-free, own_place}
+use Rattle.ref_space.specs.Naming.{HasTarget}
+use Rattle.ref_space.proofs.Common.{occupant_at}
 
 -- ---- what is written of an object
 
@@ -63,8 +76,8 @@ change_leaves change k = grind arith
 -- ---- the count of the marked
 
 -- one more can be counted
-pub marks_fit : {round : Round} {cells : List (Option Tabled)} {es : List Entry} {ps : List Use}
-    {last room count index_room marked : ℕ} → IsSoundTable round cells es ps last room count index_room marked
+pub marks_fit : {round : Round} {cells : List (Option Tabled)} {es : List Entry} {pages : Pages}
+    {last room count index_room marked : ℕ} → IsSoundTable round cells es pages last room count index_room marked
     → (b : Bool) {more : ℕ} → more ≡ from_bool b → marked + more < 2 ^ 64
 marks_fit {round} {cells} {es} sound b one =
     omega (
@@ -263,25 +276,31 @@ held-named r name if_marked k = grind arith
 pub held_values : (r : ℕ) (p : Bool → Option ℕ → Bool) (if_marked : Bool) → Keeps r p (more_held_if r if_marked)
 held_values r p if_marked k each = grind arith
 
+-- where an object lies there is a place
+some_within : (os : List (Option ℕ)) (p : ℕ) → is_some (slice_index_or os p None) ≡ true → p < length os
+some_within [] p some = absurd (false≢true some)
+some_within (o ∷ os) zero some = omega arith
+some_within (o ∷ os) (suc p) some = let rest = some_within os p some in omega (arith, rest)
+
 -- ---- the cell of an object
 
-module _ {round : Round} {first : ℕ} {cells : List (Option Tabled)} {es : List Entry} {ps : List Use} {slots : List
+module _ {round : Round} {cells : List (Option Tabled)} {es : List Entry} {pages : Pages} {slots : List
     (Option ℕ)}
     {last room count index_room marked : ℕ}
-    (sound : IsSoundTable round cells es ps last room count index_room marked × IsSoundNaming round first cells es
+    (sound : IsSoundTable round cells es pages last room count index_room marked × IsSoundNaming round cells es
     slots) where
   abbrev name : Option ℕ → Option ℕ
-  name = target_by first (occupants_of cells)
+  name = target_by (occupants_of cells)
 
   abbrev leads : Bool → Option ℕ → Bool
-  leads = leads_by round.good first (occupants_of cells)
+  leads = leads_by round.good (occupants_of cells)
 
   -- a contract sees the same round
-  pub round_seen : {t : Table} → seen_table round first cells es slots last room ≡ t → t.round.number ≡ round.number
+  pub round_seen : {t : Table} → seen_table round pages cells es slots last room ≡ t → t.round.number ≡ round.number
   round_seen view = ap (λ (s : Table). s.round.number) (sym view)
 
   -- what lies at a place has that place
-  module _ {t : Table} (view : seen_table round first cells es slots last room ≡ t) {n p : ℕ} where
+  module _ {t : Table} (view : seen_table round pages cells es slots last room ≡ t) {n p : ℕ} where
     pub lying_place : LiesAt t n p → IsPlaceOf cells es n p
     lying_place lies =
         lies_there sound.1.listed n p (cell_at cells p) refl
@@ -294,7 +313,7 @@ module _ {round : Round} {first : ℕ} {cells : List (Option Tabled)} {es : List
         ∙ number_there sound.0.placed place
 
   -- where a search finds a place, the object lies there
-  pub found_lies : {t : Table} → seen_table round first cells es slots last room ≡ t → (n : ℕ) (place : Option ℕ)
+  pub found_lies : {t : Table} → seen_table round pages cells es slots last room ≡ t → (n : ℕ) (place : Option ℕ)
       → {borrowed : List (Option Tabled)} {lent : List Entry} → borrowed ≡ cells → lent ≡ es
       → place ≡ place_if_live borrowed (place_in lent n) n → IfSome place (LiesAt t n)
   found_lies view n None same_cells same_index is = tt
@@ -305,24 +324,24 @@ module _ {round : Round} {first : ℕ} {cells : List (Option Tabled)} {es : List
     pub one_fewer : 1 ≤ count
     one_fewer = omega (arith, sound.0.counted, one_there sound.0.placed place)
 
-    pub has_page : p / 64 < length ps
+    pub has_page : p / 64 < length pages.uses
     has_page = page_there sound.0.placed place
 
     -- its word leads to it
-    module _ {t : Table} (view : seen_table round first cells es slots last room ≡ t) where
-      module _ {w : Option ℕ} (is : w ≡ word_in_colour round.good (first + p / 64) (p % 64)) where
-        at : IsCell (first + p / 64) (p % 64)
-        at = has_address sound.1 p place.within
+    module _ {t : Table} (view : seen_table round pages cells es slots last room ≡ t) where
+      module _ {w : Option ℕ} (is : w ≡ word_of_place round.good p) where
+        at : IsCell (1 + p / 64) (p % 64)
+        at = has_word sound.0.placed.small p place.within
 
-        leads_here : place_by first w ≡ Some p
-        leads_here = rw is (word_place round.good p first at)
+        leads_here : place_by w ≡ Some p
+        leads_here = rw is (word_place round.good p at)
 
-        word_cell : cell_of_word cells first w ≡ get_or cells p None
+        word_cell : cell_of_word cells w ≡ get_or cells p None
         word_cell = ap (at_place cells) leads_here
 
         word_named : target_of t w ≡ Some n
         word_named =
-            ap (λ (s : Table). target_of s w) (sym view) ∙ named-cell cells first w ∙ ap occupant_in word_cell
+            ap (λ (s : Table). target_of s w) (sym view) ∙ named-cell cells w ∙ ap occupant_in word_cell
             ∙ number_there sound.0.placed place
 
         pub word_there : target_of t w ≡ (if is_some (tabled_at t.tabled n) then Some n else None)
@@ -337,11 +356,11 @@ module _ {round : Round} {first : ℕ} {cells : List (Option Tabled)} {es : List
         word_led =
             let same : t.round.good ≡ round.good = ap (λ (s : Table). s.round.good) (sym view) in
             rw (word_named, same)
-            (good_leads round.good w (subst (IsGood round.good) (sym is) (word_is_good round.good (first + p / 64)
+            (good_leads round.good w (subst (IsGood round.good) (sym is) (word_is_good round.good (1 + p / 64)
             (p % 64) at)))
 
     -- the object is looked at
-    module _ {t : Table} (view : seen_table round first cells es slots last room ≡ t) {cell also : Option Tabled}
+    module _ {t : Table} (view : seen_table round pages cells es slots last room ≡ t) {cell also : Option Tabled}
         (was : cell ≡ get_or cells p cell) (same : also ≡ get_or cells p also) {l : Linked}
         (told : l ≡ tabled_linked n (option_map (by_number (target_of t)) cell)) {r : Option Reference}
         (kept : r ≡ tabled_reference also) {b : Bool}
@@ -350,7 +369,7 @@ module _ {round : Round} {first : ℕ} {cells : List (Option Tabled)} {es : List
       object_here : {c : Option Tabled} → c ≡ get_or cells p c
           → option_map (by_number (target_of t)) c ≡ tabled_at t.tabled n
       object_here {c} reads =
-          ap (λ (s : Table). option_map (by_number (target_by s.first s.occupants)) c) (sym view)
+          ap (λ (s : Table). option_map (by_number (target_by s.occupants)) c) (sym view)
           ∙ told_of sound.0.placed place (option_map (by_number name)) reads
           ∙ sym (tabled_at-named name (tabled_by cells es) n) ∙ ap (λ (s : Table). tabled_at s.tabled n) view
 
@@ -368,10 +387,10 @@ module _ {round : Round} {first : ℕ} {cells : List (Option Tabled)} {es : List
 
       pub cleared_there : (cycle : ℕ) → b ≡ true → {old new : Option Tabled} → old ≡ get_or cells p old
           → new ≡ option_map (change_of (ClearIn cycle)) old
-          → seen_table round first (set cells p new) es slots last room ≡ table_looked_at t n cycle
+          → seen_table round pages (set cells p new) es slots last room ≡ table_looked_at t n cycle
       cleared_there cycle clears {old} {new} found change =
           seen_changed sound.0.placed place (change_of (ClearIn cycle)) (change_keeps (ClearIn cycle)) found change
-          round first slots room (change_of (ClearIn cycle)) (change-named name refl (ClearIn cycle))
+          round slots room (change_of (ClearIn cycle)) (change-named name refl (ClearIn cycle))
           ∙ ap (λ (s : Table). changed s n (change_of (ClearIn cycle))) view
           ∙ simp (sym (ap (λ (i : Look). i.is_cleared) look_told) ∙ clears) refl
 
@@ -379,7 +398,7 @@ module _ {round : Round} {first : ℕ} {cells : List (Option Tabled)} {es : List
       uncleared_there cycle spares = simp (sym (ap (λ (i : Look). i.is_cleared) look_told) ∙ spares) refl
 
     -- the object goes, and its place is free, where it isn't marked
-    module _ {t : Table} (view : seen_table round first cells es slots last room ≡ t) {cell : Option Tabled}
+    module _ {t : Table} (view : seen_table round pages cells es slots last room ≡ t) {cell : Option Tabled}
         (was : cell ≡ get_or cells p cell) {goes : Bool} (is : goes ≡ is_unmarked_in round.number cell) where
       pub goes_answer : goes ≡ is_unmarked_in t.round.number (tabled_at t.tabled n)
       goes_answer =
@@ -391,31 +410,31 @@ module _ {round : Round} {first : ℕ} {cells : List (Option Tabled)} {es : List
       pub kept_there : goes ≡ false → t ≡ table_freed t n
       kept_there stays = let kept = sym goes_answer ∙ stays in simp kept refl
 
-      module _ (leaves : goes ≡ true) {new : Option Tabled} (gone : new ≡ None) {qs : List Use}
-          (less : qs ≡ with_cell ps (p / 64) (p % 64) true)
+      module _ (leaves : goes ≡ true) {new : Option Tabled} (gone : new ≡ None) {fewer : Pages}
+          (less : fewer ≡ with_given pages (p / 64) (p % 64))
           (unnamed : is_unmarked_in t.round.number (tabled_at t.tabled n) ≡ true → IsUnnamed t n) where
-        nobody : IsUnnamed (seen_table round first cells es slots last room) n
+        nobody : IsUnnamed (seen_table round pages cells es slots last room) n
         nobody = subst (λ (s : Table). IsUnnamed s n) (sym view) (unnamed (sym goes_answer ∙ leaves))
 
-        pub freed_there : seen_table round first (set cells p new) es slots last room ≡ table_freed t n
+        pub freed_there : seen_table round fewer (set cells p new) es slots last room ≡ table_freed t n
         freed_there =
             seen_freed sound.0.placed place gone less sound.1 nobody.slots nobody.objects room
             ∙ ap (λ (s : Table). without_object s n) view
             ∙ (let goes = sym goes_answer ∙ leaves in simp goes refl)
 
         -- and the marked are as many as before
-        pub sound_freed : IsSoundTable round (set cells p new) es qs last room (count - 1) index_room marked
-            × IsSoundNaming round first (set cells p new) es slots
+        pub sound_freed : IsSoundTable round (set cells p new) es fewer last room (count - 1) index_room marked
+            × IsSoundNaming round (set cells p new) es slots
         sound_freed =
             let placed = placed_freed sound.0.placed place gone less in
-            let fewer = length-freed sound.0.placed place gone less in
+            let gone_one = length-freed sound.0.placed place gone less in
             let marks = marks_same round.number (tabled_by-freed sound.0.placed place gone less)
             (marks_without round.number (tabled_by cells es) n
             (sym leaves ∙ is ∙ told_of sound.0.placed place (is_unmarked_in round.number) was) sound.0.marks_counted) in
             (grind (arith, length-set), naming_freed sound.0.placed place gone less sound.1 nobody.slots nobody.objects)
 
     -- what is answered of the cell there is answered of the object
-    pub named_there : {t : Table} → seen_table round first cells es slots last room ≡ t
+    pub named_there : {t : Table} → seen_table round pages cells es slots last room ≡ t
         → {X : Type 0} (f : Option Tabled → X)
         {cell : Option Tabled} {x : X} → cell ≡ get_or cells p cell → x ≡ f (option_map (by_number name) cell)
         → x ≡ f (tabled_at t.tabled n)
@@ -423,7 +442,7 @@ module _ {round : Round} {first : ℕ} {cells : List (Option Tabled)} {es : List
         is ∙ told_of sound.0.placed place (λ c. f (option_map (by_number name) c)) was
         ∙ ap f (sym (tabled_at-named name (tabled_by cells es) n)) ∙ ap (λ (s : Table). f (tabled_at s.tabled n)) view
 
-    pub answered_there : {t : Table} → seen_table round first cells es slots last room ≡ t → {X : Type 0}
+    pub answered_there : {t : Table} → seen_table round pages cells es slots last room ≡ t → {X : Type 0}
         (f : Option Tabled → X)
         → ((name : Option ℕ → Option ℕ) (c : Option Tabled) → f (option_map (by_number name) c) ≡ f c)
         → {cell : Option Tabled} {x : X} → cell ≡ get_or cells p cell → x ≡ f cell → x ≡ f (tabled_at t.tabled n)
@@ -431,36 +450,36 @@ module _ {round : Round} {first : ℕ} {cells : List (Option Tabled)} {es : List
 
     module _ (f h : Tabled → Tabled) (keeps : (k : Tabled) → (f k).object.no ≡ k.object.no) {old new : Option Tabled}
         (was : old ≡ get_or cells p old) (is : new ≡ option_map f old) where
-      pub left_there : {t : Table} → seen_table round first cells es slots last room ≡ t
+      pub left_there : {t : Table} → seen_table round pages cells es slots last room ≡ t
           → ((k : Tabled) → by_number name (f k) ≡ h (by_number name k))
-          → seen_table round first (set cells p new) es slots last room ≡ changed t n h
+          → seen_table round pages (set cells p new) es slots last room ≡ changed t n h
       left_there view same =
-          seen_changed sound.0.placed place f keeps was is round first slots room h same
+          seen_changed sound.0.placed place f keeps was is round slots room h same
           ∙ ap (λ (s : Table). changed s n h) view
 
       module _ (holds : Keeps round.number leads f) where
         -- the marked are counted anew
         pub sound_counted : {marks : ℕ} → marks ≡ length (marked_of round.number (changed_tabled
             (tabled_by cells es) n f))
-            → IsSoundTable round (set cells p new) es ps last room count index_room marks
-            × IsSoundNaming round first (set cells p new) es slots
+            → IsSoundTable round (set cells p new) es pages last room count index_room marks
+            × IsSoundNaming round (set cells p new) es slots
         sound_counted counted =
             let placed = placed_changed sound.0.placed place f keeps was is in
             let same = tabled_by-changed sound.0.placed place f keeps was is in (
               grind (arith, length-set, length-changed_tabled),
-              naming_changed sound.0.placed place f keeps was is round first slots sound.1 holds,
+              naming_changed sound.0.placed place f keeps was is round slots sound.1 holds,
             )
 
         -- or stay as many, where the change leaves the mark
         pub sound_there : ((k : Tabled) → (f k).marked_in ≡ k.marked_in)
-            → IsSoundTable round (set cells p new) es ps last room count index_room marked
-            × IsSoundNaming round first (set cells p new) es slots
+            → IsSoundTable round (set cells p new) es pages last room count index_room marked
+            × IsSoundNaming round (set cells p new) es slots
         sound_there leaves =
             sound_counted (marks_changed round.number (tabled_by cells es) n f keeps leaves sound.0.marks_counted)
 
   -- a number without a place: what is answered of no cell is answered of it, and the table is left as it was
   module _ {n : ℕ} (missing : IsMissing cells es n) where
-    module _ {t : Table} (view : seen_table round first cells es slots last room ≡ t) where
+    module _ {t : Table} (view : seen_table round pages cells es slots last room ≡ t) where
       pub missing_at : tabled_at t.tabled n ≡ None
       missing_at =
           ap (λ (s : Table). tabled_at s.tabled n) (sym view) ∙ tabled_at-named name (tabled_by cells es) n
@@ -484,39 +503,39 @@ module _ {round : Round} {first : ℕ} {cells : List (Option Tabled)} {es : List
 
   -- ---- a word
 
-  module _ (v : Option ℕ) {t : Table} (view : seen_table round first cells es slots last room ≡ t) where
+  module _ (v : Option ℕ) {t : Table} (view : seen_table round pages cells es slots last room ≡ t) where
     pub named_seen : target_of t v ≡ name v
     named_seen = ap (λ (s : Table). target_of s v) (sym view)
 
     pub leads_seen : IsHealed t v → (b : Bool) → leads b v ≡ true
     leads_seen is b =
-        good_anywhere round.good first (occupants_of cells) b v
-        (ap (λ (s : Table). leads_by s.round.good s.first s.occupants true v) view ∙ is)
+        good_anywhere round.good (occupants_of cells) b v
+        (ap (λ (s : Table). leads_by s.round.good s.occupants true v) view ∙ is)
 
     -- its name is the number of the object in its cell
-    pub named_led : target_of t v ≡ occupant_in (cell_of_word cells first v)
-    named_led = ap (λ (s : Table). target_of s v) (sym view) ∙ named-cell cells first v
+    pub named_led : target_of t v ≡ occupant_in (cell_of_word cells v)
+    named_led = ap (λ (s : Table). target_of s v) (sym view) ∙ named-cell cells v
 
     -- and the object is what its cell holds
-    pub tabled_led : tabled_of t v ≡ option_map (by_number name) (cell_of_word cells first v)
+    pub tabled_led : tabled_of t v ≡ option_map (by_number name) (cell_of_word cells v)
     tabled_led =
         let ks = tabled_by cells es in
         ap (λ (s : Table). tabled_of s v) (sym view) ∙ tabled_if-named name ks (name v)
-        ∙ ap (λ n. option_map (by_number name) (tabled_if ks n)) (named-cell cells first v)
-        ∙ ap (option_map (by_number name)) (led_tabled cells es sound.1.listed sound.0.placed.rises (place_by first v))
+        ∙ ap (λ n. option_map (by_number name) (tabled_if ks n)) (named-cell cells v)
+        ∙ ap (option_map (by_number name)) (led_tabled cells es sound.1.listed sound.0.placed.rises (place_by v))
 
     -- so what is answered of the one is answered of the other
     pub answered_led : {X : Type 0} (f : Option Tabled → X)
         → ((name : Option ℕ → Option ℕ) (c : Option Tabled) → f (option_map (by_number name) c) ≡ f c) → {x : X}
-        → x ≡ f (cell_of_word cells first v) → x ≡ f (tabled_of t v)
-    answered_led f blind is = is ∙ sym (blind name (cell_of_word cells first v)) ∙ ap f (sym tabled_led)
+        → x ≡ f (cell_of_word cells v) → x ≡ f (tabled_of t v)
+    answered_led f blind is = is ∙ sym (blind name (cell_of_word cells v)) ∙ ap f (sym tabled_led)
 
     module _ {borrowed : List (Option Tabled)} (same : borrowed ≡ cells) where
       -- it leads to an object
-      module _ {p : ℕ} (found : Some p ≡ place_of_word borrowed first v) where
-        pub led : LeadsTo cells es (place_by first v) p
+      module _ {p : ℕ} (found : Some p ≡ place_of_word borrowed v) where
+        pub led : LeadsTo cells es (place_by v) p
         led =
-            leads_to cells es sound.1.listed (place_by first v) (found ∙ ap (λ cs. place_of_word cs first v) same)
+            leads_to cells es sound.1.listed (place_by v) (found ∙ ap (λ cs. place_of_word cs v) same)
 
         abbrev pub led_no : ℕ
         led_no = led.k.object.no
@@ -534,9 +553,9 @@ module _ {round : Round} {first : ℕ} {cells : List (Option Tabled)} {es : List
         changed_here h = sym (ap (λ n. changed_if t n h) named_here)
 
       -- or to none
-      module _ (found : None ≡ place_of_word borrowed first v) where
-        none_led : cell_of_word cells first v ≡ None
-        none_led = leads_nowhere cells (place_by first v) (found ∙ ap (λ cs. place_of_word cs first v) same)
+      module _ (found : None ≡ place_of_word borrowed v) where
+        none_led : cell_of_word cells v ≡ None
+        none_led = leads_nowhere cells (place_by v) (found ∙ ap (λ cs. place_of_word cs v) same)
 
         pub named_nowhere : target_of t v ≡ None
         named_nowhere = named_led ∙ ap occupant_in none_led
@@ -548,16 +567,16 @@ module _ {round : Round} {first : ℕ} {cells : List (Option Tabled)} {es : List
         left_led_nowhere h = sym (ap (λ n. changed_if t n h) (named_led ∙ ap occupant_in none_led))
 
       -- what is read of the cell is read of the object
-      module _ {c : Option Tabled} (reads : c ≡ cell_of_word borrowed first v) where
-        read_here : c ≡ cell_of_word cells first v
-        read_here = reads ∙ ap (λ cs. cell_of_word cs first v) same
+      module _ {c : Option Tabled} (reads : c ≡ cell_of_word borrowed v) where
+        read_here : c ≡ cell_of_word cells v
+        read_here = reads ∙ ap (λ cs. cell_of_word cs v) same
 
         pub number_read : occupant_in c ≡ target_of t v
         number_read = ap occupant_in read_here ∙ sym named_led
 
         pub object_read : option_map (by_number (target_of t)) c ≡ tabled_of t v
         object_read =
-            ap (λ (s : Table). option_map (by_number (target_by s.first s.occupants)) c) (sym view)
+            ap (λ (s : Table). option_map (by_number (target_by s.occupants)) c) (sym view)
             ∙ ap (option_map (by_number name)) read_here ∙ sym tabled_led
 
         pub blind_read : {X : Type 0} (f : Option Tabled → X)
@@ -566,21 +585,45 @@ module _ {round : Round} {first : ℕ} {cells : List (Option Tabled)} {es : List
         blind_read f blind = answered_led f blind (ap f read_here)
 
         -- and each word that it holds leads to an object
-        pub each_read : (k : Tabled) → c ≡ Some k → Each (leads_by t.round.good t.first t.occupants false) (values_in k)
+        pub each_read : (k : Tabled) → c ≡ Some k → Each (leads_by t.round.good t.occupants false) (values_in k)
         each_read k is =
             let at : tabled_at (tabled_by cells es) k.object.no ≡ Some k =
             ap (λ d. tabled_if (tabled_by cells es) (occupant_in d)) (sym is)
             ∙ ap (λ d. tabled_if (tabled_by cells es) (occupant_in d)) read_here
-            ∙ led_tabled cells es sound.1.listed sound.0.placed.rises (place_by first v) ∙ sym read_here ∙ is in
-            subst (λ (s : Table). Each (leads_by s.round.good s.first s.occupants false) (values_in k)) view
-            (each_anyhow round.good first (occupants_of cells) (is_healed round.number k) (values_in k)
+            ∙ led_tabled cells es sound.1.listed sound.0.placed.rises (place_by v) ∙ sym read_here ∙ is in
+            subst (λ (s : Table). Each (leads_by s.round.good s.occupants false) (values_in k)) view
+            (each_anyhow round.good (occupants_of cells) (is_healed round.number k) (values_in k)
             (each_held round.number leads (tabled_by cells es) k.object.no k at sound.1.led).2)
 
   -- ---- what is read of the cell of a number
 
-  held_in : (c : Option Tabled) (i : ℕ) {bits : Option ℕ} → bits ≡ option_map bits_held (field_in_cell c i)
+  addressed : AreAddressed pages.uses (occupants_of cells)
+  addressed frame cell some below =
+      let there : 64 * frame + cell < length (occupants_of cells) = some_within (occupants_of cells) (64 * frame + cell) some in
+      let page : frame < length pages.uses =
+      omega (arith, there, below, length-map cells occupant_in, length-free sound.0.placed.free) in
+      let own = own_place sound.0.placed.free frame page in
+      let between = between_at pages.uses frame 1 pages.next sound.0.placed.rising page in
+      rw own (between.0, omega (arith, between.1, sound.0.placed.addressed), below)
+
+  -- what a word leads to lies in a page
+  pub frame_there : {t : Table} → seen_table round pages cells es slots last room ≡ t → (v : Option ℕ) {place : ℕ}
+      → HasTarget t v → place_by v ≡ Some place → place / 64 < length pages.uses
+  frame_there view v {place} leads at =
+      let there = some_within (occupants_of cells) place
+      (ap (λ q. is_some (occupant_at (occupants_of cells) q)) (sym at)
+      ∙ led_there v at (ap (λ (s : Table). leads_by s.round.good s.occupants false v) view ∙ leads)) in
+      omega (arith, there, length-map cells occupant_in, length-free sound.0.placed.free)
+    where
+      led_there : (w : Option ℕ) → place_by w ≡ Some place → leads_by round.good (occupants_of cells) false w ≡ true
+          → is_some (target_by (occupants_of cells) w) ≡ true
+      led_there None none led = absurd (cc)
+      led_there (Some w) at led = grind arith
+
+  held_in : (c : Option Tabled) (i : ℕ) {bits : Option ℕ}
+      → bits ≡ option_map (bits_told pages.uses) (field_in_cell c i)
       → ((k : Tabled) → c ≡ Some k → Each (leads (is_healed round.number k)) (values_in k))
-      → IfSome bits (IsWordHeld round.good first (occupants_of cells) (is_healed_in round.number (option_map
+      → IfSome bits (IsWordHeld round.good pages.uses (occupants_of cells) (is_healed_in round.number (option_map
       (by_number name) c))
       (field_held (option_map (by_number name) c) i))
   held_in None i own each = rw own tt
@@ -589,15 +632,15 @@ module _ {round : Round} {first : ℕ} {cells : List (Option Tabled)} {es : List
       (elim (cases_Bool (nat_lt i (length k.object.fields))) [
         | inl within ↦
             simp within
-            (word_held round.good first (occupants_of cells) (is_healed round.number k)
+            (word_held round.good pages.uses (occupants_of cells) (is_healed round.number k)
             (slice_index_or k.object.fields i None)
-            (bits_held (slice_index_or k.object.fields i None)) refl
+            (bits_told pages.uses (slice_index_or k.object.fields i None)) addressed refl
             (each_at (leads (is_healed round.number k)) k.object.fields i refl (each k refl).1))
         | inr past ↦ simp past tt
       ])
 
-  pub some_bits : (c : Option Tabled) (i : ℕ) {bits : Option ℕ} → bits ≡ option_map bits_held (field_in_cell c i)
-      → is_some bits ≡ has_field c i
+  pub some_bits : (c : Option Tabled) (i : ℕ) {bits : Option ℕ}
+      → bits ≡ option_map (bits_told pages.uses) (field_in_cell c i) → is_some bits ≡ has_field c i
   some_bits None i own = rw own refl
   some_bits (Some k) i own =
       rw own
@@ -606,34 +649,44 @@ module _ {round : Round} {first : ℕ} {cells : List (Option Tabled)} {es : List
         | inr past ↦ simp past refl
       ])
 
-  module _ (n : ℕ) {t : Table} (view : seen_table round first cells es slots last room
+  module _ (n : ℕ) {t : Table} (view : seen_table round pages cells es slots last room
       ≡ t) {borrowed : List (Option Tabled)}
       {lent : List Entry} (same_cells : borrowed ≡ cells) (same_index : lent ≡ es) {c : Option Tabled}
       (reads : c ≡ tabled_at (tabled_by borrowed lent) n) where
     pub object_told : option_map (by_number (target_of t)) c ≡ tabled_at t.tabled n
     object_told =
-        ap (λ (s : Table). option_map (by_number (target_by s.first s.occupants)) c) (sym view)
+        ap (λ (s : Table). option_map (by_number (target_by s.occupants)) c) (sym view)
         ∙ ap (option_map (by_number name))
         (reads ∙ ap (λ cs. tabled_at (tabled_by cs lent) n) same_cells
         ∙ ap (λ gs. tabled_at (tabled_by cells gs) n) same_index)
         ∙ sym (tabled_at-named name (tabled_by cells es) n) ∙ ap (λ (s : Table). tabled_at s.tabled n) view
 
-    -- each word that it holds is what the object holds by number
-    pub word_told : (i : ℕ) {bits : Option ℕ} → bits ≡ option_map bits_held (field_in_cell c i)
-        → IfSome bits (IsWordHeld t.round.good t.first t.occupants (is_healed_in t.round.number (tabled_at t.tabled n))
+    here : c ≡ tabled_at (tabled_by cells es) n
+    here =
+        reads ∙ ap (λ cs. tabled_at (tabled_by cs lent) n) same_cells
+        ∙ ap (λ gs. tabled_at (tabled_by cells gs) n) same_index
+
+    -- each word that it holds leads to an object
+    pub told_leads : (i : ℕ) {value : Option ℕ} → Some value ≡ field_in_cell c i → HasTarget t value
+    told_leads i {value} found =
+        subst (λ (d : Option (Option ℕ)). IfSome d (λ v. HasTarget t v)) (sym found)
+        (field_of_each (leads_by t.round.good t.occupants false) refl c i
+        (λ k is. subst (λ (s : Table). Each (leads_by s.round.good s.occupants false) (values_in k)) view
+        (each_anyhow round.good (occupants_of cells) (is_healed round.number k) (values_in k)
+        (each_held round.number leads (tabled_by cells es) n k (sym here ∙ is) sound.1.led).2)))
+
+    -- and is what the object holds by number
+    pub word_told : (i : ℕ) {bits : Option ℕ} → bits ≡ option_map (bits_told t.pages.uses) (field_in_cell c i)
+        → IfSome bits (IsWordHeld t.round.good t.pages.uses t.occupants (is_healed_in t.round.number (tabled_at t.tabled n))
         (field_held (tabled_at t.tabled n) i))
     word_told i {bits} own =
-        subst (λ (s : Table). IfSome bits (IsWordHeld s.round.good s.first s.occupants (is_healed_in s.round.number
+        subst (λ (s : Table). IfSome bits (IsWordHeld s.round.good s.pages.uses s.occupants (is_healed_in s.round.number
         (tabled_at s.tabled n))
         (field_held (tabled_at s.tabled n) i))) view
         (rw (tabled_at-named name (tabled_by cells es) n)
-        (held_in (tabled_at (tabled_by cells es) n) i (own ∙ ap (λ d. option_map bits_held (field_in_cell d i)) here)
+        (held_in (tabled_at (tabled_by cells es) n) i (own ∙ ap (λ (s : Table). option_map (bits_told s.pages.uses) (field_in_cell c i)) (sym view)
+        ∙ ap (λ d. option_map (bits_told pages.uses) (field_in_cell d i)) here)
         (λ k at. (each_held round.number leads (tabled_by cells es) n k at sound.1.led).2)))
-      where
-        here : c ≡ tabled_at (tabled_by cells es) n
-        here =
-            reads ∙ ap (λ cs. tabled_at (tabled_by cs lent) n) same_cells
-            ∙ ap (λ gs. tabled_at (tabled_by cells gs) n) same_index
 
     pub blind_told : {X : Type 0} (f : Option Tabled → X)
         → ((name : Option ℕ → Option ℕ) (c : Option Tabled) → f (option_map (by_number name) c) ≡ f c)
@@ -641,7 +694,7 @@ module _ {round : Round} {first : ℕ} {cells : List (Option Tabled)} {es : List
     blind_told f blind = sym (blind (target_of t) c) ∙ ap f object_told
 
   -- a search finds a place exactly where there is an object
-  pub found_there : (n : ℕ) (place : Option ℕ) {t : Table} → seen_table round first cells es slots last room ≡ t
+  pub found_there : (n : ℕ) (place : Option ℕ) {t : Table} → seen_table round pages cells es slots last room ≡ t
       → {borrowed : List (Option Tabled)} {lent : List Entry} → borrowed ≡ cells → lent ≡ es
       → place ≡ place_if_live borrowed (place_in lent n) n → is_some place ≡ is_some (tabled_at t.tabled n)
   found_there n place view same_cells same_index is =

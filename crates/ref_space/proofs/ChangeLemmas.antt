@@ -4,7 +4,7 @@ use Rattle.ref_space.proofs.Common.{Option, Some, None, suc, arith, get_or_read,
 use Rattle.ref_space.proofs.Common.{cell_at, tabled_by, place_in, place_if_live, seen_table, IsPlaced, Tabled, Table}
 use Rattle.ref_space.proofs.Common.{tabled_at, has_field, holds_in, changed_tabled, without_tabled}
 use Rattle.ref_space.proofs.Common.{on_object, less_held, changed, with_field, Entry, nat_lt, is_none}
-use Rattle.ref_space.proofs.Common.{Use, with_cell, ◌/◌, ◌%◌, ◌==◌, map, inl, inr, cases_Bool, eq-eqb, eqb-true}
+use Rattle.ref_space.proofs.Common.{with_cell, ◌/◌, ◌%◌, ◌==◌, map, inl, inr, cases_Bool, eq-eqb, eqb-true}
 use Rattle.ref_space.proofs.Common.{false≢true, get_or-set_other, get_or-set_same, IsSoundNaming, AreIndexed, Each}
 use Rattle.ref_space.proofs.Common.{by_number, leads_by, target_by, occupant_in, occupants_of}
 use Rattle.std.proofs.lemmas.List.{set_past}
@@ -25,6 +25,11 @@ use Rattle.ref_space.proofs.Common.{at_place}
 use Rattle.ref_space.proofs.PlaceLemmas.{tabled_at-place, tabled_by-replaced, replaced, replaced-none}
 use Rattle.ref_space.proofs.PlaceLemmas.{replaced-changed, is_of-some, IsOwn, IsPlaceOf, IsPlaceOf-live}
 use Rattle.ref_space.proofs.PlaceLemmas.{IsPlaceOf-lent, IsMissing, IsMissing-lent}
+use Rattle.ref_space.proofs.Common.{Pages}
+use Rattle.ref_space.specs.Pages.{with_given}
+use Rattle.ref_space.proofs.CallLemmas.{between-with}
+use Rattle.ref_space.proofs.OccupantLemmas.{numbered}
+use Rattle.ref_space.proofs.FreeLemmas.{own_place}
 
 -- ---- the objects that are listed
 
@@ -66,19 +71,19 @@ changed-past t n i value past = ap (λ ks. record t { tabled = ks }) (changed_ta
 -- ---- a change of one object
 
 -- what a contract sees of a table, by the objects that the index leads to and those that the cells hold
-abbrev pub seen_by : Round → ℕ → ℕ → ℕ → List Tabled → List (Option ℕ) → List (Option ℕ) → Table
-seen_by round first last room ks slots occupants = record {
-  tabled = map (by_number (target_by first occupants)) ks;
+abbrev pub seen_by : Round → Pages → ℕ → ℕ → List Tabled → List (Option ℕ) → List (Option ℕ) → Table
+seen_by round pages last room ks slots occupants = record {
+  tabled = map (by_number (target_by occupants)) ks;
   room = room;
   last = last;
-  slots = map (target_by first occupants) slots;
-  first = first;
+  slots = map (target_by occupants) slots;
+  pages = pages;
   occupants = occupants;
   round = round;
 }
 
-module _ {cells : List (Option Tabled)} {es : List Entry} {ps : List Use} {last : ℕ}
-    (placed : IsPlaced cells es ps last) {n p : ℕ} (place : IsPlaceOf cells es n p) where
+module _ {cells : List (Option Tabled)} {es : List Entry} {pages : Pages} {last : ℕ}
+    (placed : IsPlaced cells es pages last) {n p : ℕ} (place : IsPlaceOf cells es n p) where
   -- the object that was found
   found_tabled : (k : Tabled) × (cell_at cells p ≡ Some k) × (k.object.no ≡ n)
   found_tabled = is_of-some (cell_at cells p) n place.own
@@ -109,7 +114,7 @@ module _ {cells : List (Option Tabled)} {es : List Entry} {ps : List Use} {last 
   number_there = let k = found_tabled in ap occupant_in k.1 ∙ ap Some k.2
 
   -- its page is there
-  pub page_there : p / 64 < length ps
+  pub page_there : p / 64 < length pages.uses
   page_there = omega (arith, place.within, length-free placed.free)
 
   module _ (f : Tabled → Tabled) (keeps : (k : Tabled) → (f k).object.no ≡ k.object.no) {old new : Option Tabled}
@@ -127,17 +132,17 @@ module _ {cells : List (Option Tabled)} {es : List Entry} {ps : List Use} {last 
     pub occupants-changed : occupants_of (set cells p new) ≡ occupants_of cells
     occupants-changed = map-set_same occupant_in cells p new None number-changed
 
-    module _ (round : Round) (first : ℕ) (slots : List (Option ℕ)) where
+    module _ (round : Round) (slots : List (Option ℕ)) where
       abbrev name : Option ℕ → Option ℕ
-      name = target_by first (occupants_of cells)
+      name = target_by (occupants_of cells)
 
       pub seen_changed : (room : ℕ) (h : Tabled → Tabled) → ((k : Tabled) → by_number name (f k) ≡ h (by_number name k))
-          → seen_table round first (set cells p new) es slots last room
-          ≡ changed (seen_table round first cells es slots last room) n h
+          → seen_table round pages (set cells p new) es slots last room
+          ≡ changed (seen_table round pages cells es slots last room) n h
       seen_changed room h same =
-          ap (seen_by round first last room (tabled_by (set cells p new) es) slots) occupants-changed
-          ∙ ap (λ ks. seen_by round first last room ks slots (occupants_of cells)) tabled_by-changed
-          ∙ ap (λ ks. record (seen_table round first cells es slots last room) { tabled = ks })
+          ap (seen_by round pages last room (tabled_by (set cells p new) es) slots) occupants-changed
+          ∙ ap (λ ks. seen_by round pages last room ks slots (occupants_of cells)) tabled_by-changed
+          ∙ ap (λ ks. record (seen_table round pages cells es slots last room) { tabled = ks })
           (changed-named name f h keeps same (tabled_by cells es) n)
 
       listed_own : (q : ℕ) (k : Tabled) → q ≡ p → cell_at (set cells p new) q ≡ Some k
@@ -160,27 +165,24 @@ module _ {cells : List (Option Tabled)} {es : List Entry} {ps : List Use} {last 
                 (sym (get_or-set_other cells p q new None (λ same. false≢true (sym other ∙ eq-eqb q p same))) ∙ at)
           ]
 
-      pub naming_changed : IsSoundNaming round first cells es slots
-          → Keeps round.number (leads_by round.good first (occupants_of cells)) f
-          → IsSoundNaming round first (set cells p new) es slots
+      pub naming_changed : IsSoundNaming round cells es slots
+          → Keeps round.number (leads_by round.good (occupants_of cells)) f
+          → IsSoundNaming round (set cells p new) es slots
       naming_changed naming holds = record {
-        begins = naming.begins;
-        addresses = rw (length-set cells p new) naming.addresses;
         listed = listed_changed naming.listed;
         rooted = rw occupants-changed naming.rooted;
         begun = naming.begun;
         led = rw (occupants-changed, tabled_by-changed)
-            (held_changed round.number (leads_by round.good first (occupants_of cells)) f holds
+            (held_changed round.number (leads_by round.good (occupants_of cells)) f holds
             (tabled_by cells es) n naming.led);
       }
 
-    pub placed_changed : IsPlaced (set cells p new) es ps last
+    pub placed_changed : IsPlaced (set cells p new) es pages last
     placed_changed =
         let free = AreFree-changed placed.free p new in
         grind (arith, length-set, tabled_by-changed, length-changed_tabled, is_none-mapped, get_or_read)
 
-  module _ {new : Option Tabled} (is : new ≡ None) {qs : List Use}
-      (less : qs ≡ with_cell ps (p / 64) (p % 64) true) where
+  module _ {new : Option Tabled} (is : new ≡ None) {less : Pages} (given : less ≡ with_given pages (p / 64) (p % 64)) where
     pub tabled_by-freed : tabled_by (set cells p new) es ≡ without_tabled (tabled_by cells es) n
     tabled_by-freed =
         ap (λ c. tabled_by (set cells p c) es) is ∙ tabled_by-written None tt ∙ replaced-none (tabled_by cells es) n
@@ -189,59 +191,61 @@ module _ {cells : List (Option Tabled)} {es : List Entry} {ps : List Use} {last 
     length-freed = grind (arith, length-without_tabled, found_at, tabled_by-freed)
 
     -- what names another object names it still
-    module _ {round : Round} {first : ℕ} {slots : List (Option ℕ)} (naming : IsSoundNaming round first cells es slots)
-        (free_slots : has (present (named_slots first cells slots)) n ≡ false)
-        (free_objects : NoneNames (named_tabled first cells es) n) where
+    module _ {round : Round} {slots : List (Option ℕ)} (naming : IsSoundNaming round cells es slots)
+        (free_slots : has (present (named_slots cells slots)) n ≡ false)
+        (free_objects : NoneNames (named_tabled cells es) n) where
       abbrev then : List (Option ℕ)
       then = occupants_of (set cells p new)
 
       -- leads to an object, and not to that
       abbrev stays : Bool → Option ℕ → Bool
-      stays b v = leads_by round.good first (occupants_of cells) b v && not (is_number (target_by first
+      stays b v = leads_by round.good (occupants_of cells) b v && not (is_number (target_by
           (occupants_of cells) v) n)
 
       occupants-freed : then ≡ set (occupants_of cells) p None
       occupants-freed = ap (λ c. occupants_of (set cells p c)) is ∙ map-set occupant_in cells p None
 
       named_still : (b : Bool) (v : Option ℕ) → stays b v ≡ true
-          → target_by first then v ≡ target_by first (occupants_of cells) v
+          → target_by then v ≡ target_by (occupants_of cells) v
       named_still b v is_other =
-          ap (λ os. target_by first os v) occupants-freed
-          ∙ given_at (occupants_of cells) p n None (place_by first v)
+          ap (λ os. target_by os v) occupants-freed
+          ∙ given_at (occupants_of cells) p n None (place_by v)
           (get_or-map occupant_in cells p None ∙ number_there) (grind arith)
 
-      leads_still : (b : Bool) (v : Option ℕ) → stays b v ≡ true → leads_by round.good first then b v ≡ true
+      leads_still : (b : Bool) (v : Option ℕ) → stays b v ≡ true → leads_by round.good then b v ≡ true
       leads_still b v is_other = rw (named_still b v is_other) (grind arith)
 
       held_still : EachHeld round.number stays (tabled_by cells es)
       held_still =
-          held_unnamed (target_by first (occupants_of cells)) n round.number (leads_by round.good first
+          held_unnamed (target_by (occupants_of cells)) n round.number (leads_by round.good
           (occupants_of cells)) refl
           (tabled_by cells es) naming.led free_objects
 
       slots_still : Each (stays true) slots
       slots_still =
-          each_unnamed (target_by first (occupants_of cells)) n (leads_by round.good first
+          each_unnamed (target_by (occupants_of cells)) n (leads_by round.good
           (occupants_of cells) true) slots
           naming.rooted free_slots
 
       pub seen_freed : (room : ℕ)
-          → seen_table round first (set cells p new) es slots last room
-          ≡ without_object (seen_table round first cells es slots last room) n
+          → seen_table round less (set cells p new) es slots last room
+          ≡ without_object (seen_table round pages cells es slots last room) n
       seen_freed room =
-          ap (λ ks. seen_by round first last room ks slots then) tabled_by-freed
+          ap (λ ks. seen_by round less last room ks slots then) tabled_by-freed
           ∙ (λ i. record {
-            tabled = (named_same round.number stays (target_by first then) (target_by first
+            tabled = (named_same round.number stays (target_by then) (target_by
                 (occupants_of cells)) named_still
                 (without_tabled (tabled_by cells es) n) (held_without round.number stays
                 (tabled_by cells es) n held_still)
-                ∙ without-named (target_by first (occupants_of cells)) (tabled_by cells es) n) i;
+                ∙ without-named (target_by (occupants_of cells)) (tabled_by cells es) n) i;
             room = room;
             last = last;
-            slots = map_same round.number stays (target_by first then) (target_by first
+            slots = map_same round.number stays (target_by then) (target_by
                 (occupants_of cells)) named_still true slots
                 slots_still i;
-            first = first;
+            pages = (given
+                ∙ ap (λ q. with_given pages (q / 64) (q % 64))
+                (sym (numbered cells es n p naming.listed place.listed number_there))) i;
             occupants = (occupants-freed ∙ sym (vacated cells es n p naming.listed place.listed number_there)) i;
             round = round;
           })
@@ -259,26 +263,31 @@ module _ {cells : List (Option Tabled)} {es : List Entry} {ps : List Use} {last 
                 (sym (get_or-set_other cells p q new None (λ same. false≢true (sym other ∙ eq-eqb q p same))) ∙ at)
           ]
 
-      pub naming_freed : IsSoundNaming round first (set cells p new) es slots
+      pub naming_freed : IsSoundNaming round (set cells p new) es slots
       naming_freed = record {
-        begins = naming.begins;
-        addresses = rw (length-set cells p new) naming.addresses;
         listed = listed_freed;
         begun = naming.begun;
-        rooted = each_to round.number stays (leads_by round.good first then) leads_still true slots slots_still;
+        rooted = each_to round.number stays (leads_by round.good then) leads_still true slots slots_still;
         led = rw tabled_by-freed
-            (held_without round.number (leads_by round.good first then) (tabled_by cells es) n
-            (held_to round.number stays (leads_by round.good first then) leads_still (tabled_by cells es) held_still));
+            (held_without round.number (leads_by round.good then) (tabled_by cells es) n
+            (held_to round.number stays (leads_by round.good then) leads_still (tabled_by cells es) held_still));
       }
 
-    pub placed_freed : IsPlaced (set cells p new) es qs last
-    placed_freed =
-        let given = given_back placed.free (p / 64) (p % 64) p (omega arith) (omega arith) place.within
-        (ap is_none found_tabled.1) in
-        grind (arith, length-set, length-freed, given)
+    uses : less.uses ≡ with_cell pages.uses (p / 64) (p % 64) true
+    uses =
+        ap (λ (s : Pages). s.uses) given
+        ∙ ap (λ page. with_cell pages.uses page (p % 64) true) (own_place placed.free (p / 64) page_there)
 
-module _ {cells : List (Option Tabled)} {es : List Entry} {ps : List Use} {last : ℕ}
-    (placed : IsPlaced cells es ps last) {n : ℕ} (missing : IsMissing cells es n) where
+    pub placed_freed : IsPlaced (set cells p new) es less last
+    placed_freed =
+        let back = given_back placed.free (p / 64) (p % 64) p (omega arith) (omega arith) place.within
+        (ap is_none found_tabled.1) in
+        let rising = between-with pages.uses (p / 64) (p % 64) true 1 pages.next placed.rising in
+        let next : less.next ≡ pages.next = ap (λ (s : Pages). s.next) given in
+        grind (arith, length-set, length-freed, back, uses, rising, next)
+
+module _ {cells : List (Option Tabled)} {es : List Entry} {pages : Pages} {last : ℕ}
+    (placed : IsPlaced cells es pages last) {n : ℕ} (missing : IsMissing cells es n) where
   -- a number that has no place has no object
   pub missing_at : tabled_at (tabled_by cells es) n ≡ None
   missing_at = tabled_at-place cells es n placed.rises ∙ ap (at_place cells) missing.none
@@ -288,8 +297,8 @@ module _ {cells : List (Option Tabled)} {es : List Entry} {ps : List Use} {last 
   told_of_none f = sym (ap f missing_at)
 
 -- a search finds a place exactly where there is an object
-pub found_where_there : {cells borrowed : List (Option Tabled)} {es lent : List Entry} {ps : List Use} {last : ℕ}
-    (n : ℕ) (place : Option ℕ) → IsPlaced cells es ps last → borrowed ≡ cells → lent ≡ es
+pub found_where_there : {cells borrowed : List (Option Tabled)} {es lent : List Entry} {pages : Pages} {last : ℕ}
+    (n : ℕ) (place : Option ℕ) → IsPlaced cells es pages last → borrowed ≡ cells → lent ≡ es
     → place ≡ place_if_live borrowed (place_in lent n) n → is_some place ≡ is_some (tabled_at (tabled_by cells es) n)
 found_where_there n None placed same_cells same_index is =
     told_of_none placed (IsMissing-lent n same_cells same_index is) is_some

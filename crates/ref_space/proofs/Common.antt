@@ -23,7 +23,8 @@ pub use Rattle.ref_space.specs.ColouredWords.{place_by}
 pub use Rattle.ref_space.specs.Naming.{Each, EachHeld, by_number, changed_of, leads_by, target_of, target_by}
 pub use Rattle.ref_space.specs.Naming.{occupant_in}
 pub use Rattle.ref_space.specs.Naming.{occupant_at, occupants_of, reference_by_number, tabled_of}
-pub use Rattle.ref_space.specs.Pages.{Use, after_placing, next_place, taken_of, with_cell}
+pub use Rattle.ref_space.specs.Pages.{Pages, Use, after_placing, next_cell, next_place, place_of, placing, taken_of}
+pub use Rattle.ref_space.specs.Pages.{with_cell}
 pub use Rattle.ref_space.specs.Places.{AllAbove, AreFree, AreIndexed, IsPlaced, IsSoundNaming, IsSoundTable, NoneAbove}
 pub use Rattle.ref_space.specs.Places.{Rises, at_place, before, blanked_cell, cell_at, cell_of_word, count_below}
 pub use Rattle.ref_space.specs.Places.{first_entry, is_live, is_of, named_slots, named_tabled, place_if_live}

@@ -1,7 +1,7 @@
 -- What the cells hold as each object is changed: no mark is left, or what isn't marked refers to nothing.
 use Rattle.ref_space.proofs.Common.{◌≡◌, ℕ, refl, ◌∙◌, ap, List, [], ◌∷◌, length, map, Option, Some, None, arith}
 use Rattle.ref_space.proofs.Common.{length-map, option_map, nulls, IsSoundTable, numbers_by, blanked_unless_marked}
-use Rattle.ref_space.proofs.Common.{cell_at, before, tabled_by, seen_table, IsPlaced, Tabled, Table, Use, marked_of}
+use Rattle.ref_space.proofs.Common.{cell_at, before, tabled_by, seen_table, IsPlaced, Tabled, Table, marked_of}
 use Rattle.ref_space.proofs.Common.{Entry, is_none}
 use Rattle.ref_space.proofs.Common.{sym, AreIndexed, Each, IsSoundNaming, by_number, leads_by, target_by, occupants_of}
 use Rattle.ref_space.proofs.Common.{place_in, values_in}
@@ -23,6 +23,7 @@ use Rattle.ref_space.proofs.Common.{subst}
 use Rattle.ref_space.specs.ColouredWords.{recoloured}
 use Rattle.ref_space.proofs.HealLemmas.{slots_healed, slots-healed}
 use Rattle.ref_space.specs.declared.round.Round.{Round}
+use Rattle.ref_space.proofs.Common.{Pages}
 
 -- items that are lent to be changed each
 pub items_mapped : {X Z : Type 0} (g : X → X) (v : Vec X Z) {lent now : List X} → length v.items ≡ v.len
@@ -92,43 +93,41 @@ module _ (f : Tabled → Tabled) (keeps : (k : Tabled) → (f k).object.no ≡ k
     pub occupants-all : occupants_of ds ≡ occupants_of cells
     occupants-all = ap occupants_of is ∙ entry_number-each cells
 
-    module _ (round : Round) (first : ℕ) (slots : List (Option ℕ)) where
-      pub seen_all : (last room : ℕ)
-          → ((k : Tabled) → by_number (target_by first (occupants_of cells)) (f k)
-          ≡ f (by_number (target_by first (occupants_of cells)) k))
-          → seen_table round first ds es slots last room
-          ≡ (let t : Table = seen_table round first cells es slots last room in record t { tabled = map f t.tabled })
-      seen_all last room same =
-          ap (seen_by round first last room (tabled_by ds es) slots) occupants-all
-          ∙ ap (λ ks. seen_by round first last room ks slots (occupants_of cells)) tabled_by-all
-          ∙ ap (λ ks. record (seen_table round first cells es slots last room) { tabled = ks })
-          (map_commutes (by_number (target_by first (occupants_of cells))) same (tabled_by cells es))
+    module _ (round : Round) (slots : List (Option ℕ)) where
+      pub seen_all : (pages : Pages) (last room : ℕ)
+          → ((k : Tabled) → by_number (target_by (occupants_of cells)) (f k)
+          ≡ f (by_number (target_by (occupants_of cells)) k))
+          → seen_table round pages ds es slots last room
+          ≡ (let t : Table = seen_table round pages cells es slots last room in record t { tabled = map f t.tabled })
+      seen_all pages last room same =
+          ap (seen_by round pages last room (tabled_by ds es) slots) occupants-all
+          ∙ ap (λ ks. seen_by round pages last room ks slots (occupants_of cells)) tabled_by-all
+          ∙ ap (λ ks. record (seen_table round pages cells es slots last room) { tabled = ks })
+          (map_commutes (by_number (target_by (occupants_of cells))) same (tabled_by cells es))
 
       pub listed_all : AreIndexed cells es → AreIndexed ds es
       listed_all listed p k at = listed_each cells es listed p (cell_at cells p) refl k (sym (cell_at-all p) ∙ at)
 
-      pub naming_all : IsSoundNaming round first cells es slots
-          → Keeps round.number (leads_by round.good first (occupants_of cells)) f
-          → IsSoundNaming round first ds es slots
+      pub naming_all : IsSoundNaming round cells es slots
+          → Keeps round.number (leads_by round.good (occupants_of cells)) f
+          → IsSoundNaming round ds es slots
       naming_all naming holds = record {
-        begins = naming.begins;
-        addresses = rw length-all naming.addresses;
         listed = listed_all naming.listed;
         begun = naming.begun;
         rooted = rw occupants-all naming.rooted;
         led = rw (occupants-all, tabled_by-all)
-            (held_map round.number (leads_by round.good first (occupants_of cells)) round.number
-            (leads_by round.good first (occupants_of cells)) f holds
+            (held_map round.number (leads_by round.good (occupants_of cells)) round.number
+            (leads_by round.good (occupants_of cells)) f holds
             (tabled_by cells es) naming.led);
       }
 
-    pub placed_all : {ps : List Use} {last : ℕ} → IsPlaced cells es ps last → IsPlaced ds es ps last
-    placed_all {ps} {last} placed = grind (arith, tabled_by-all, length-map, is_none-each)
+    pub placed_all : {pages : Pages} {last : ℕ} → IsPlaced cells es pages last → IsPlaced ds es pages last
+    placed_all {pages} {last} placed = grind (arith, tabled_by-all, length-map, is_none-each)
 
-    pub sound_all : {round next : Round} {ps : List Use} {last room count index_room marked marks : ℕ}
-        → IsSoundTable round cells es ps last room count index_room marked
+    pub sound_all : {round next : Round} {pages : Pages} {last room count index_room marked marks : ℕ}
+        → IsSoundTable round cells es pages last room count index_room marked
         → marks ≡ length (marked_of next.number (map f (tabled_by cells es)))
-        → IsSoundTable next ds es ps last room count index_room marks
+        → IsSoundTable next ds es pages last room count index_room marks
     sound_all sound counted = search (placed_all, length-all, tabled_by-all, length-map)
 
   -- what is counted of each object is counted of it changed
@@ -194,33 +193,33 @@ blanked_leads r p null k held =
 
 -- ---- a round begins
 
-held_next : (n : ℕ) (old new : Colour) (first : ℕ) (os : List (Option ℕ)) (ks : List Tabled)
-    → EachHeld n (leads_by old first os) ks → EachHeld (n + 1) (leads_by new first os) ks
-held_next n old new first os [] held = tt
-held_next n old new first os (k ∷ ks) held =
+held_next : (n : ℕ) (old new : Colour) (os : List (Option ℕ)) (ks : List Tabled)
+    → EachHeld n (leads_by old os) ks → EachHeld (n + 1) (leads_by new os) ks
+held_next n old new os [] held = tt
+held_next n old new os (k ∷ ks) held =
     let other : (k.healed_in == n + 1) ≡ false = ne_eqb k.healed_in (n + 1) (λ same. omega (arith, held.0.1, same)) in (
       (
         omega (arith, held.0.0),
         omega (arith, held.0.1),
-        subst (λ b. Each (leads_by new first os b) (values_in k)) (sym other)
-            (each_in_none old new first os (is_healed n k) (values_in k) held.0.2),
+        subst (λ b. Each (leads_by new os b) (values_in k)) (sym other)
+            (each_in_none old new os (is_healed n k) (values_in k) held.0.2),
       ),
-      held_next n old new first os ks held.1,
+      held_next n old new os ks held.1,
     )
 
-held_anew : (n : ℕ) (old new : Colour) (first : ℕ) (os : List (Option ℕ)) (k : Tabled)
-    → IsHeldIn n (leads_by old first os) k → IsHeldIn 1 (leads_by new first os) (with_nothing_done k)
-held_anew n old new first os k held =
-    (omega arith, omega arith, each_in_none old new first os (is_healed n k) (values_in k) held.2)
+held_anew : (n : ℕ) (old new : Colour) (os : List (Option ℕ)) (k : Tabled)
+    → IsHeldIn n (leads_by old os) k → IsHeldIn 1 (leads_by new os) (with_nothing_done k)
+held_anew n old new os k held =
+    (omega arith, omega arith, each_in_none old new os (is_healed n k) (values_in k) held.2)
 
-module _ (old : Round) (new : Colour) (first : ℕ) (cells : List (Option Tabled)) (es : List Entry)
+module _ (old : Round) (new : Colour) (cells : List (Option Tabled)) (es : List Entry)
     (slots : List (Option ℕ)) {healed : List (Option ℕ)} (recolours : healed ≡ map (recoloured new) slots) where
   -- the next
   module _ (less : old.number < 2 ^ 64 - 1) {next : Round} (is : next ≡ record { number = old.number + 1; good = new })
     where
-      pub sound_next : {ps : List Use} {last room count index_room marked : ℕ}
-          → IsSoundTable old cells es ps last room count index_room marked → IsSoundNaming old first cells es slots
-          → IsSoundTable next cells es ps last room count index_room 0
+      pub sound_next : {pages : Pages} {last room count index_room marked : ℕ}
+          → IsSoundTable old cells es pages last room count index_room marked → IsSoundNaming old cells es slots
+          → IsSoundTable next cells es pages last room count index_room 0
       sound_next sound naming = record {
         placed = sound.placed;
         cells_fit = sound.cells_fit;
@@ -228,64 +227,60 @@ module _ (old : Round) (new : Colour) (first : ℕ) (cells : List (Option Tabled
         within = sound.within;
         index_fits = sound.index_fits;
         marks_counted = rw is
-            (sym (ap length (marked_of-next old.number (leads_by old.good first (occupants_of cells))
+            (sym (ap length (marked_of-next old.number (leads_by old.good (occupants_of cells))
             (tabled_by cells es)
             naming.led)));
       }
 
-      pub naming_next : IsSoundNaming old first cells es slots → IsSoundNaming next first cells es healed
+      pub naming_next : IsSoundNaming old cells es slots → IsSoundNaming next cells es healed
       naming_next naming = record {
-        begins = naming.begins;
-        addresses = naming.addresses;
         listed = naming.listed;
-        rooted = rw (is, recolours) (slots_healed new first (occupants_of cells) old.good slots naming.rooted);
+        rooted = rw (is, recolours) (slots_healed new (occupants_of cells) old.good slots naming.rooted);
         begun = rw is (omega arith);
-        led = rw is (held_next old.number old.good new first (occupants_of cells) (tabled_by cells es) naming.led);
+        led = rw is (held_next old.number old.good new (occupants_of cells) (tabled_by cells es) naming.led);
       }
 
-      pub seen_next : (last room : ℕ)
-          → seen_table next first cells es healed last room ≡ table_begun
-          (seen_table old first cells es slots last room) new
-      seen_next last room =
+      pub seen_next : (pages : Pages) (last room : ℕ)
+          → seen_table next pages cells es healed last room ≡ table_begun
+          (seen_table old pages cells es slots last room) new
+      seen_next pages last room =
           let own : nat_lt old.number (2 ^ 64 - 1) ≡ true =
           lt-ltb old.number (2 ^ 64 - 1) less in
-          ap (λ r. seen_table r first cells es healed last room) is
-          ∙ ap (λ vs. record (seen_table (record { number = old.number + 1; good = new }) first cells es slots last
+          ap (λ r. seen_table r pages cells es healed last room) is
+          ∙ ap (λ vs. record (seen_table (record { number = old.number + 1; good = new }) pages cells es slots last
           room) {
             slots = vs;
           })
-          (ap (map (target_by first (occupants_of cells))) recolours
-          ∙ slots-healed new first (occupants_of cells) slots)
+          (ap (map (target_by (occupants_of cells))) recolours
+          ∙ slots-healed new (occupants_of cells) slots)
           ∙ simp own refl
 
   -- the first again, once all numbers are spent
   module _ {ds : List (Option Tabled)} (each : ds ≡ map (option_map with_nothing_done) cells) {next : Round}
       (is : next ≡ record { number = 1; good = new }) where
-    pub naming_anew : IsSoundNaming old first cells es slots → IsSoundNaming next first ds es healed
+    pub naming_anew : IsSoundNaming old cells es slots → IsSoundNaming next ds es healed
     naming_anew naming = record {
-      begins = naming.begins;
-      addresses = rw (length-all with_nothing_done (λ k. refl) cells each es) naming.addresses;
-      listed = listed_all with_nothing_done (λ k. refl) cells each es old first slots naming.listed;
+      listed = listed_all with_nothing_done (λ k. refl) cells each es old slots naming.listed;
       rooted = rw (is, recolours, occupants-all with_nothing_done (λ k. refl) cells each es)
-          (slots_healed new first (occupants_of cells) old.good slots naming.rooted);
+          (slots_healed new (occupants_of cells) old.good slots naming.rooted);
       begun = rw is (omega arith);
       led = rw (
         is,
         occupants-all with_nothing_done (λ k. refl) cells each es,
         tabled_by-all with_nothing_done (λ k. refl) cells each es,
       )
-          (held_map old.number (leads_by old.good first (occupants_of cells)) 1
-          (leads_by new first (occupants_of cells)) with_nothing_done
-          (held_anew old.number old.good new first (occupants_of cells)) (tabled_by cells es) naming.led);
+          (held_map old.number (leads_by old.good (occupants_of cells)) 1
+          (leads_by new (occupants_of cells)) with_nothing_done
+          (held_anew old.number old.good new (occupants_of cells)) (tabled_by cells es) naming.led);
     }
 
-    pub seen_anew : 2 ^ 64 - 1 ≤ old.number → (last room : ℕ)
-        → seen_table next first ds es healed last room ≡ table_begun (seen_table old first cells es slots last room) new
-    seen_anew spent last room =
+    pub seen_anew : 2 ^ 64 - 1 ≤ old.number → (pages : Pages) (last room : ℕ)
+        → seen_table next pages ds es healed last room ≡ table_begun (seen_table old pages cells es slots last room) new
+    seen_anew spent pages last room =
         let own : nat_lt old.number (2 ^ 64 - 1) ≡ false = le-ltb old.number (2 ^ 64 - 1) spent in
-        ap (λ r. seen_table r first ds es healed last room) is
-        ∙ ap (λ vs. record (seen_table (record { number = 1; good = new }) first ds es slots last room) { slots = vs })
-        (ap (map (target_by first (occupants_of ds))) recolours ∙ slots-healed new first (occupants_of ds) slots)
+        ap (λ r. seen_table r pages ds es healed last room) is
+        ∙ ap (λ vs. record (seen_table (record { number = 1; good = new }) pages ds es slots last room) { slots = vs })
+        (ap (map (target_by (occupants_of ds))) recolours ∙ slots-healed new (occupants_of ds) slots)
         ∙ ap (λ (t : Table). record t { round = record { number = 1; good = new } })
-        (seen_all with_nothing_done (λ k. refl) cells each es old first slots last room (λ k. refl))
+        (seen_all with_nothing_done (λ k. refl) cells each es old slots pages last room (λ k. refl))
         ∙ simp own refl

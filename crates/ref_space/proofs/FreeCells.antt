@@ -54,10 +54,10 @@ next_place_free ps at whole is = grind (arith, is_next_place ps, free_cell ps at
 
 -- ---- new pages
 
-pub free_in-fresh : (first count : ℕ) → free_in (fresh_pages first count) ≡ replicate (64 * count) true
+pub free_in-fresh : (first frame count : ℕ) → free_in (fresh_pages first frame count) ≡ replicate (64 * count) true
 unfolding all_free
-free_in-fresh first zero = refl
-free_in-fresh first (suc count) =
+free_in-fresh first frame zero = refl
+free_in-fresh first frame (suc count) =
     let more : 64 + 64 * count ≡ 64 * suc count = omega arith in
-    ap (λ fs. replicate 64 true ++ fs) (free_in-fresh (suc first) count)
+    ap (λ fs. replicate 64 true ++ fs) (free_in-fresh (suc first) (suc frame) count)
     ∙ replicate-append-replicate 64 (64 * count) true ∙ ap (λ n. replicate n true) more

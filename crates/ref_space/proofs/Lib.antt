@@ -3,9 +3,14 @@ pub mod WordLemmas
 pub mod BitLemmas
 pub mod PageLemmas
 pub mod NextPlaces
+pub mod FrameLemmas
+pub mod CallLemmas
+pub mod MoveLemmas
 pub mod RoomLemmas
+pub mod RelocationLemmas
 pub mod ScanLemmas
 pub mod WorklistLemmas
+pub mod UnmovedLemmas
 pub mod FreeCells
 pub mod IndexLemmas
 pub mod PlaceLemmas
@@ -29,4 +34,5 @@ pub mod TableMarks
 pub mod FieldLemmas
 mod WordExamples
 mod PageExamples
+mod MoveExamples
 mod TableExamples

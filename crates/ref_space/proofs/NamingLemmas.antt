@@ -156,38 +156,38 @@ given_at os p n new (Some q) own other = grind (arith, get_or-set_other)
 
 -- ---- what has to have the good colour
 
-module _ (good : Colour) (first : ℕ) (os : List (Option ℕ)) where
+module _ (good : Colour) (os : List (Option ℕ)) where
   -- a word of the good colour may stand anywhere, and each word where none has to have it
-  pub good_anywhere : (b : Bool) (v : Option ℕ) → leads_by good first os true v ≡ true
-      → leads_by good first os b v ≡ true
+  pub good_anywhere : (b : Bool) (v : Option ℕ) → leads_by good os true v ≡ true
+      → leads_by good os b v ≡ true
   good_anywhere true v leads = leads
   good_anywhere false None leads = refl
   good_anywhere false (Some w) leads = grind arith
 
-  pub good_word : (n : ℕ) (v : Option ℕ) → target_by first os v ≡ Some n → IsGood good v
-      → leads_by good first os true v ≡ true
+  pub good_word : (n : ℕ) (v : Option ℕ) → target_by os v ≡ Some n → IsGood good v
+      → leads_by good os true v ≡ true
   good_word n v named is = rw named (good_leads good v is)
 
-  pub leads_anyhow : (b : Bool) (v : Option ℕ) → leads_by good first os b v ≡ true
-      → leads_by good first os false v ≡ true
+  pub leads_anyhow : (b : Bool) (v : Option ℕ) → leads_by good os b v ≡ true
+      → leads_by good os false v ≡ true
   leads_anyhow false v leads = leads
   leads_anyhow true v leads = good_anywhere false v leads
 
-  pub each_anyhow : (b : Bool) (vs : List (Option ℕ)) → Each (leads_by good first os b) vs
-      → Each (leads_by good first os false) vs
+  pub each_anyhow : (b : Bool) (vs : List (Option ℕ)) → Each (leads_by good os b) vs
+      → Each (leads_by good os false) vs
   each_anyhow b [] each = tt
   each_anyhow b (v ∷ vs) each = (leads_anyhow b v each.0, each_anyhow b vs each.1)
 
 -- where none has to have the good colour, it is all the same which one that is
-module _ (old new : Colour) (first : ℕ) (os : List (Option ℕ)) where
-  in_none : (v : Option ℕ) → leads_by old first os false v ≡ true → leads_by new first os false v ≡ true
+module _ (old new : Colour) (os : List (Option ℕ)) where
+  in_none : (v : Option ℕ) → leads_by old os false v ≡ true → leads_by new os false v ≡ true
   in_none None leads = leads
   in_none (Some w) leads = leads
 
-  pub each_in_none : (b : Bool) (vs : List (Option ℕ)) → Each (leads_by old first os b) vs
-      → Each (leads_by new first os false) vs
+  pub each_in_none : (b : Bool) (vs : List (Option ℕ)) → Each (leads_by old os b) vs
+      → Each (leads_by new os false) vs
   each_in_none b [] each = tt
-  each_in_none b (v ∷ vs) each = (in_none v (leads_anyhow old first os b v each.0), each_in_none b vs each.1)
+  each_in_none b (v ∷ vs) each = (in_none v (leads_anyhow old os b v each.0), each_in_none b vs each.1)
 
 -- ---- what nothing names
 

@@ -1,11 +1,11 @@
 -- The next place is that of the first free cell; and which cells are free once one was taken or given back.
-use Rattle.std.proofs.Common.{◌≡◌, ℕ, zero, suc, ◌<◌, Bool, true, false, refl, ap, arith}
+use Rattle.std.proofs.Common.{◌≡◌, ℕ, zero, suc, ◌<◌, Bool, true, false, not, ◌&&◌, refl, ap, arith}
 use Rattle.std.proofs.Common.{List, [], ◌∷◌, length, get_or, Option, Some, None}
 use Rattle.std.proofs.lemmas.Bool.{true≢false, false≢true}
 use Rattle.std.proofs.lemmas.List.{get_or-set_same, get_or-set_other}
 use Rattle.std.specs.Option.{option_map}
 use Rattle.ref_space.specs.Bits.{first_set, any_set}
-use Rattle.ref_space.specs.Pages.{Use, use_at, is_free_at, with_cell, page_later, next_place}
+use Rattle.ref_space.specs.Pages.{Use, use_at, is_free_at, is_open_at, with_cell, has_open_cell, page_later, next_place}
 use Rattle.ref_space.specs.Pages.{AreWhole, IsFirstFree, IsNextPlace}
 
 -- ---- one page
@@ -40,9 +40,13 @@ none_set (true ∷ bs) i none = absurd (true≢false none)
 none_set (false ∷ bs) zero none = refl
 none_set (false ∷ bs) (suc i) none = none_set bs i none
 
+-- a page without room has no free cell where it is open
+none_open : (p : Use) (own : ℕ) → has_open_cell p ≡ false → (not p.chosen && get_or p.free own false) ≡ false
+none_open p own none = grind (arith, none_set)
+
 -- ---- all pages
 
-is_first_free-later : (p : Use) (ps : List Use) (page cell : ℕ) → any_set p.free ≡ false → IsFirstFree ps page cell
+is_first_free-later : (p : Use) (ps : List Use) (page cell : ℕ) → has_open_cell p ≡ false → IsFirstFree ps page cell
     → IsFirstFree (p ∷ ps) (suc page) cell
 is_first_free-later p ps page cell none next = record {
   is_free = next.is_free;
@@ -50,11 +54,11 @@ is_first_free-later p ps page cell none next = record {
   below = next.below;
 }
   where
-    in_front : (other own : ℕ) → other < suc page → is_free_at (p ∷ ps) other own ≡ false
-    in_front zero own less = none_set p.free own none
+    in_front : (other own : ℕ) → other < suc page → is_open_at (p ∷ ps) other own ≡ false
+    in_front zero own less = none_open p own none
     in_front (suc other) own less = next.in_front other own (omega arith)
 
-next-later : (p : Use) (ps : List Use) (at : Option (ℕ × ℕ)) → any_set p.free ≡ false → IsNextPlace ps at
+next-later : (p : Use) (ps : List Use) (at : Option (ℕ × ℕ)) → has_open_cell p ≡ false → IsNextPlace ps at
     → IsNextPlace (p ∷ ps) (page_later at)
 next-later p ps None none next = (none, next)
 next-later p ps (Some at) none next = is_first_free-later p ps at.0 at.1 none next

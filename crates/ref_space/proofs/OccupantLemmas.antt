@@ -5,8 +5,8 @@ use Rattle.ref_space.proofs.Common.{option_map, false≢true, Tabled, Use, next_
 use Rattle.ref_space.proofs.Common.{AreIndexed, Entry, place_in, eq-eqb, cases_Bool, inl, inr}
 use Rattle.std.proofs.Math.ListN.{get_or-map}
 use Rattle.ref_space.specs.Bits.{first_set, any_set}
-use Rattle.ref_space.specs.Pages.{free_in, in_first, page_later, AreWhole}
-use Rattle.ref_space.specs.Tables.{with_occupant, without_occupant, is_number}
+use Rattle.ref_space.specs.Pages.{free_in, in_first, page_later, chosen_frames, AreWhole}
+use Rattle.ref_space.specs.Tables.{with_occupant, without_occupant, is_number, place_of_number}
 
 -- ---- the first free cell
 
@@ -33,9 +33,9 @@ abbrev place_at : ℕ × ℕ → ℕ
 place_at at = 64 * at.0 + at.1
 
 -- the next place is the first that is free
-pub first_free : (ps : List Use) (at : ℕ × ℕ) → AreWhole ps → next_place ps ≡ Some at
+pub first_free : (ps : List Use) (at : ℕ × ℕ) → AreWhole ps → chosen_frames ps ≡ [] → next_place ps ≡ Some at
     → first_set (free_in ps) ≡ Some (64 * at.0 + at.1)
-first_free ps at whole next = all ps whole ∙ ap (option_map place_at) next
+first_free ps at whole open_all next = all ps whole open_all ∙ ap (option_map place_at) next
   where
     in_page : (i : Option ℕ) → i ≡ option_map place_at (in_first i)
     in_page None = refl
@@ -47,16 +47,24 @@ first_free ps at whole next = all ps whole ∙ ap (option_map place_at) next
     behind p (Some at) whole =
         let same : length p.free + (64 * at.0 + at.1) ≡ 64 * suc at.0 + at.1 = omega (arith, whole) in ap Some same
 
-    all : (ps : List Use) → AreWhole ps → first_set (free_in ps) ≡ option_map place_at (next_place ps)
-    all [] whole = refl
-    all (p ∷ ps) whole =
+    stays : (p : Use) (ps : List Use) → chosen_frames (p ∷ ps) ≡ [] → p.chosen ≡ false
+    stays p ps none = grind arith
+
+    rest : (p : Use) (ps : List Use) → chosen_frames (p ∷ ps) ≡ [] → chosen_frames ps ≡ []
+    rest p ps none = grind arith
+
+    all : (ps : List Use) → AreWhole ps → chosen_frames ps ≡ []
+        → first_set (free_in ps) ≡ option_map place_at (next_place ps)
+    all [] whole open_all = refl
+    all (p ∷ ps) whole open_all =
+        let own = stays p ps open_all in
         elim (cases_Bool (any_set p.free)) [
           | inl any ↦
-              first_set-front p.free (free_in ps) any ∙ in_page (first_set p.free) ∙ simp any refl
+              first_set-front p.free (free_in ps) any ∙ in_page (first_set p.free) ∙ simp (own, any) refl
           | inr none ↦
               first_set-behind p.free (free_in ps) none
-              ∙ ap (option_map (λ i. length p.free + i)) (all ps whole.1)
-              ∙ behind p (next_place ps) whole.0 ∙ simp none refl
+              ∙ ap (option_map (λ i. length p.free + i)) (all ps whole.1 (rest p ps open_all))
+              ∙ behind p (next_place ps) whole.0 ∙ simp (own, none) refl
         ]
 
 pub occupied_first : (os : List (Option ℕ)) (n p : ℕ) → first_set (map is_none os) ≡ Some p
@@ -97,21 +105,36 @@ vacated_at (o ∷ os) n (suc p) own once =
     simp other
     (ap (λ xs. o ∷ xs) (vacated_at os n p own (λ q at. let same = once (suc q) at in omega (arith, same))))
 
+-- the place of a number is that of the only cell that has it
+numbered_at : (os : List (Option ℕ)) (n p : ℕ) → slice_index_or os p None ≡ Some n
+    → ((q : ℕ) → slice_index_or os q None ≡ Some n → q ≡ p) → place_of_number os n ≡ p
+numbered_at [] n p own once = absurd (cc)
+numbered_at (o ∷ os) n zero own once =
+    let is : is_number o n ≡ true = ap (λ x. is_number x n) own ∙ eq-eqb n n refl in simp is refl
+numbered_at (o ∷ os) n (suc p) own once =
+    let other : is_number o n ≡ false = not_of o n (λ here. absurd (omega (arith, once 0 here))) in
+    simp other (ap suc (numbered_at os n p own (λ q at. let same = once (suc q) at in omega (arith, same))))
+
 abbrev occupant_or : Option ℕ → ℕ
 occupant_or None = 0
 occupant_or (Some n) = n
 
 -- where each object has its entry, no other cell has its number
-pub vacated : (cells : List (Option Tabled)) (es : List Entry) (n p : ℕ) → AreIndexed cells es
-    → place_in es n ≡ Some p → occupant_in (cell_at cells p) ≡ Some n
-    → without_occupant (occupants_of cells) n ≡ set (occupants_of cells) p None
-vacated cells es n p listed at own =
-    vacated_at (occupants_of cells) n p (get_or-map occupant_in cells p None ∙ own)
-    (λ q here. only q (cell_at cells q) refl (sym (get_or-map occupant_in cells q None) ∙ here))
-  where
-    only : (q : ℕ) (c : Option Tabled) → cell_at cells q ≡ c → occupant_in (cell_at cells q) ≡ Some n → q ≡ p
-    only q None is here = absurd (cc)
-    only q (Some k) is here =
-        let number : Some k.object.no ≡ Some n = sym (ap occupant_in is) ∙ here in
-        let same : Some q ≡ Some p = sym (listed q k is) ∙ ap (place_in es) (ap occupant_or number) ∙ at in
-        ap occupant_or same
+module _ (cells : List (Option Tabled)) (es : List Entry) (n p : ℕ) (listed : AreIndexed cells es)
+    (at : place_in es n ≡ Some p) (own : occupant_in (cell_at cells p) ≡ Some n) where
+  only_here : (q : ℕ) (c : Option Tabled) → cell_at cells q ≡ c → occupant_in (cell_at cells q) ≡ Some n → q ≡ p
+  only_here q None is here = absurd (cc)
+  only_here q (Some k) is here =
+      let number : Some k.object.no ≡ Some n = sym (ap occupant_in is) ∙ here in
+      let same : Some q ≡ Some p = sym (listed q k is) ∙ ap (place_in es) (ap occupant_or number) ∙ at in
+      ap occupant_or same
+
+  pub vacated : without_occupant (occupants_of cells) n ≡ set (occupants_of cells) p None
+  vacated =
+      vacated_at (occupants_of cells) n p (get_or-map occupant_in cells p None ∙ own)
+      (λ q here. only_here q (cell_at cells q) refl (sym (get_or-map occupant_in cells q None) ∙ here))
+
+  pub numbered : place_of_number (occupants_of cells) n ≡ p
+  numbered =
+      numbered_at (occupants_of cells) n p (get_or-map occupant_in cells p None ∙ own)
+      (λ q here. only_here q (cell_at cells q) refl (sym (get_or-map occupant_in cells q None) ∙ here))

@@ -21,13 +21,13 @@ no_later_one_is_the_first is = let which = same_Some 1 2 is in absurd (omega (ar
 -- ---- pages
 
 abbrev full_page : Use
-full_page = record { address = 7; free = false ∷ false ∷ [] }
+full_page = record { address = 7; frame = 0; chosen = false; free = false ∷ false ∷ [] }
 
 abbrev half_page : Use
-half_page = record { address = 8; free = false ∷ true ∷ [] }
+half_page = record { address = 8; frame = 1; chosen = false; free = false ∷ true ∷ [] }
 
 abbrev empty_page : Use
-empty_page = record { address = 9; free = true ∷ true ∷ [] }
+empty_page = record { address = 9; frame = 2; chosen = false; free = true ∷ true ∷ [] }
 
 abbrev three : List Use
 three = full_page ∷ half_page ∷ empty_page ∷ []
@@ -89,16 +89,16 @@ they_are_not_in_one packed = let none = packed.0 in absurd (omega (arith, none))
 a_page_of_two_cells_is_not_whole : ¬ (AreWhole three)
 a_page_of_two_cells_is_not_whole whole = let size : 2 ≡ 64 = whole.0 in absurd (omega (arith, size))
 
-a_new_page_is_whole : AreWhole (fresh_pages 5 2)
+a_new_page_is_whole : AreWhole (fresh_pages 5 0 2)
 unfolding all_free
 a_new_page_is_whole = (refl, (refl, tt))
 
-its_address_follows_the_one_before : (use_at (fresh_pages 5 2) 1).address ≡ 6
+its_address_follows_the_one_before : (use_at (fresh_pages 5 0 2) 1).address ≡ 6
 its_address_follows_the_one_before = refl
 
-there_is_no_third : use_at (fresh_pages 5 2) 2 ≡ record { address = 0; free = [] }
+there_is_no_third : use_at (fresh_pages 5 0 2) 2 ≡ record { address = 0; frame = 0; chosen = false; free = [] }
 there_is_no_third = refl
 
-its_first_cell_is_the_next_place : next_place (fresh_pages 5 2) ≡ Some (0, 0)
+its_first_cell_is_the_next_place : next_place (fresh_pages 5 0 2) ≡ Some (0, 0)
 unfolding all_free
 its_first_cell_is_the_next_place = refl

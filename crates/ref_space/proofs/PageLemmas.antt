@@ -2,38 +2,41 @@
 use Rattle.std.proofs.Common.{◌≡◌, ℕ, zero, suc, ◌+◌, ◌<◌, ◌≤◌, Bool, true, false, refl, sym, ap, subst, ◌∙◌, arith}
 use Rattle.std.proofs.Common.{List, [], ◌∷◌, ◌++◌, length, get_or, set, take, Some, None}
 use Rattle.std.proofs.lemmas.List.{length-set, get_or_read}
-use Rattle.ref_space.specs.Bits.{first_set, any_set}
-use Rattle.ref_space.specs.Pages.{Use, use_at, all_free, fresh_page, fresh_pages, with_free, with_cell}
+use Rattle.ref_space.specs.Bits.{first_set}
+use Rattle.ref_space.specs.Pages.{Use, use_at, all_free, fresh_page, fresh_pages, with_free, with_cell, has_open_cell}
 use Rattle.ref_space.specs.Pages.{in_first, page_later, next_place, after_placing, NoneHasRoom, AreWhole}
-use Rattle.ref_space.specs.PageViews.{ArePages}
 
 -- ---- new pages
 
-fresh_pages-suc : (first count : ℕ)
-    → fresh_pages first (suc count) ≡ fresh_pages first count ++ fresh_page (first + count) ∷ []
-fresh_pages-suc first zero = let e : first ≡ first + 0 = omega arith in ap (λ a. fresh_page a ∷ []) e
-fresh_pages-suc first (suc count) = grind (arith, fresh_pages-suc (suc first) count)
+fresh_pages-suc : (first frame count : ℕ)
+    → fresh_pages first frame (suc count)
+    ≡ fresh_pages first frame count ++ fresh_page (first + count) (frame + count) ∷ []
+fresh_pages-suc first frame zero =
+    let address : first ≡ first + 0 = omega arith in
+    let same : frame ≡ frame + 0 = omega arith in
+    (λ i. fresh_page (address i) (same i) ∷ [])
+fresh_pages-suc first frame (suc count) = grind (arith, fresh_pages-suc (suc first) (suc frame) count)
 
 -- the next new page is put behind those that are there
-pub fresh_pages-next : (first count : ℕ) (ps qs : List Use) (p : Use) → qs ≡ ps ++ p ∷ [] → ps ≡ fresh_pages first count
-    → p ≡ fresh_page (first + count) → qs ≡ fresh_pages first (count + 1)
+pub fresh_pages-next : (first count : ℕ) (ps qs : List Use) (p : Use) → qs ≡ ps ++ p ∷ []
+    → ps ≡ fresh_pages first 0 count → p ≡ fresh_page (first + count) count → qs ≡ fresh_pages first 0 (count + 1)
 fresh_pages-next first count ps qs p put are is = grind (arith, fresh_pages-suc)
 
-pub length-fresh : (first count : ℕ) → length (fresh_pages first count) ≡ count
-length-fresh first zero = refl
-length-fresh first (suc count) = ap suc (length-fresh (suc first) count)
+pub length-fresh : (first frame count : ℕ) → length (fresh_pages first frame count) ≡ count
+length-fresh first frame zero = refl
+length-fresh first frame (suc count) = ap suc (length-fresh (suc first) (suc frame) count)
 
-pub fresh_address : (first count page : ℕ) → page < count
-    → (use_at (fresh_pages first count) page).address ≡ first + page
-fresh_address first zero page below = absurd (omega arith)
-fresh_address first (suc count) zero below = omega arith
-fresh_address first (suc count) (suc page) below =
-    let rest = fresh_address (suc first) count page (omega arith) in omega (arith, rest)
+pub fresh_address : (first frame count page : ℕ) → page < count
+    → (use_at (fresh_pages first frame count) page).address ≡ first + page
+fresh_address first frame zero page below = absurd (omega arith)
+fresh_address first frame (suc count) zero below = omega arith
+fresh_address first frame (suc count) (suc page) below =
+    let rest = fresh_address (suc first) (suc frame) count page (omega arith) in omega (arith, rest)
 
-pub fresh_whole : (first count : ℕ) → AreWhole (fresh_pages first count)
+pub fresh_whole : (first frame count : ℕ) → AreWhole (fresh_pages first frame count)
 unfolding all_free
-fresh_whole first zero = tt
-fresh_whole first (suc count) = (refl, fresh_whole (suc first) count)
+fresh_whole first frame zero = tt
+fresh_whole first frame (suc count) = (refl, fresh_whole (suc first) (suc frame) count)
 
 pub whole_with : (ps : List Use) (page cell : ℕ) (is_free : Bool) → AreWhole ps
     → AreWhole (with_cell ps page cell is_free)
@@ -45,7 +48,7 @@ whole_with (p ∷ ps) (suc page) cell is_free whole = (whole.0, whole_with ps pa
 
 -- the place that a page has, which comes behind so many without room
 found_at : (k : ℕ) (ps : List Use) (p : Use) (cell : ℕ) → NoneHasRoom (take k ps) → k < length ps
-    → p ≡ get_or ps k p → any_set p.free ≡ true → first_set p.free ≡ Some cell → next_place ps ≡ Some (k, cell)
+    → p ≡ get_or ps k p → has_open_cell p ≡ true → first_set p.free ≡ Some cell → next_place ps ≡ Some (k, cell)
 found_at k [] p cell none within is room_there first = absurd (omega arith)
 found_at zero (q ∷ ps) p cell none within is room_there first =
     subst (λ (o : Use). next_place (o ∷ ps) ≡ Some (0, cell)) is (simp room_there (ap in_first first))
@@ -63,7 +66,7 @@ with_cell-set (q ∷ ps) zero cell is_free p is = ap (λ (o : Use). with_free ce
 with_cell-set (q ∷ ps) (suc page) cell is_free p is = ap (λ os. q ∷ os) (with_cell-set ps page cell is_free p is)
 
 -- a change at a page changes none in front
-none_in_front : (k page : ℕ) (ps : List Use) (q : Use) → k ≤ page → NoneHasRoom (take k ps)
+pub none_in_front : (k page : ℕ) (ps : List Use) (q : Use) → k ≤ page → NoneHasRoom (take k ps)
     → NoneHasRoom (take k (set ps page q))
 none_in_front zero page ps q before none = tt
 none_in_front (suc k) page [] q before none = none
@@ -78,14 +81,14 @@ none_shorter (suc j) (suc k) [] fewer none = none
 none_shorter (suc j) (suc k) (p ∷ ps) fewer none = (none.0, none_shorter j k ps (omega arith) none.1)
 
 -- one more in front that has no room
-none_longer : (k : ℕ) (ps : List Use) (p : Use) → k < length ps → p ≡ get_or ps k p → any_set p.free ≡ false
+none_longer : (k : ℕ) (ps : List Use) (p : Use) → k < length ps → p ≡ get_or ps k p → has_open_cell p ≡ false
     → NoneHasRoom (take k ps) → NoneHasRoom (take (suc k) ps)
 none_longer k [] p within is full none = absurd (omega arith)
-none_longer zero (q ∷ ps) p within is full none = (subst (λ (o : Use). any_set o.free ≡ false) is full, tt)
+none_longer zero (q ∷ ps) p within is full none = (subst (λ (o : Use). has_open_cell o ≡ false) is full, tt)
 none_longer (suc k) (q ∷ ps) p within is full none = (none.0, none_longer k ps p (omega arith) is full none.1)
 
 pub none_up_to : (j k : ℕ) (ps : List Use) (p : Use) → j ≡ k + 1 → k < length ps → p ≡ get_or ps k p
-    → any_set p.free ≡ false → NoneHasRoom (take k ps) → NoneHasRoom (take j ps)
+    → has_open_cell p ≡ false → NoneHasRoom (take k ps) → NoneHasRoom (take j ps)
 none_up_to j k ps p is within own full none =
     let next : suc k ≡ j = omega (arith, is) in
     subst (λ i. NoneHasRoom (take i ps)) next (none_longer k ps p within own full none)
@@ -94,7 +97,7 @@ none_up_to j k ps p is within own full none =
 
 -- nothing in front of a page has room, and that it has is its lowest free cell
 pub placed : (ps : List Use) (page : ℕ) (p : Use) (cell : ℕ) → NoneHasRoom (take page ps) → page < length ps
-    → p ≡ get_or ps page p → any_set (use_at ps page).free ≡ true → first_set p.free ≡ Some cell
+    → p ≡ get_or ps page p → has_open_cell (use_at ps page) ≡ true → first_set p.free ≡ Some cell
     → next_place ps ≡ Some (page, cell)
 placed ps page p cell none within is there first = grind (arith, found_at, get_or_read)
 
@@ -102,10 +105,3 @@ pub placed_after : (ps : List Use) (page : ℕ) (p q : Use) (cell : ℕ) → nex
     → p ≡ get_or ps page p → q ≡ with_free cell false p → set ps page q ≡ after_placing ps (next_place ps)
 placed_after ps page p q cell at is taken =
     ap (λ (o : Use). set ps page o) taken ∙ sym (with_cell-set ps page cell false p is) ∙ ap (after_placing ps) (sym at)
-
--- a cell is taken or given back in no page in front of the one that a search begins at
-pub are_pages-with : (ps : List Use) (first page cell : ℕ) (is_free : Bool) (p q : Use) → AreWhole ps
-    → first ≤ length ps → NoneHasRoom (take first ps) → first ≤ page → p ≡ get_or ps page p
-    → q ≡ with_free cell is_free p → ArePages (set ps page q) first
-are_pages-with ps first page cell is_free p q whole within full before is with_q =
-    grind (arith, length-set, with_cell-set, whole_with, none_in_front)

@@ -184,9 +184,9 @@ named-at : (cells : List (Option Tabled)) (place : Option ℕ)
 named-at cells None = refl
 named-at cells (Some p) = get_or-map occupant_in cells p None
 
-pub named-cell : (cells : List (Option Tabled)) (first : ℕ) (v : Option ℕ)
-    → target_by first (occupants_of cells) v ≡ occupant_in (cell_of_word cells first v)
-named-cell cells first v = named-at cells (place_by first v)
+pub named-cell : (cells : List (Option Tabled)) (v : Option ℕ)
+    → target_by (occupants_of cells) v ≡ occupant_in (cell_of_word cells v)
+named-cell cells v = named-at cells (place_by v)
 
 -- a word leads to the object that its cell holds
 pub record LeadsTo (cells : List (Option Tabled)) (es : List Entry) (place : Option ℕ) (p : ℕ) : Type 0 where

@@ -2,19 +2,21 @@
 use Rattle.ref_space.proofs.Common.{◌≡◌, ℕ, ◌+◌, ◌*◌, ◌<◌, ◌==◌, refl, sym, ◌∙◌, ap, subst, List, [], ◌∷◌, ◌++◌}
 use Rattle.ref_space.proofs.Common.{length, set, Option, Some, inl, inr, arith, cases_Bool, eq-eqb, false≢true}
 use Rattle.ref_space.proofs.Common.{get_or-set_same, length-set, length_push, filter, is_live, tabled_by, seen_table}
-use Rattle.ref_space.proofs.Common.{IsPlaced, IsSoundTable, Table, Tabled, with_tabled, Entry, Use, next_place}
-use Rattle.ref_space.proofs.Common.{after_placing, is_none, is_some, true, not, from_bool, ◌≤◌}
+use Rattle.ref_space.proofs.Common.{IsPlaced, IsSoundTable, Table, Tabled, with_tabled, Entry, next_place}
+use Rattle.ref_space.proofs.Common.{after_placing, next_cell, is_none, is_some, true, not, from_bool, ◌≤◌}
 use Rattle.ref_space.proofs.Common.{AreIndexed, Each, IsSoundNaming, Reference, by_number, leads_by, made_entry, map}
 use Rattle.ref_space.proofs.Common.{map-append, target_of, target_by, occupant_in, occupant_at, occupants_of, place_by}
 use Rattle.ref_space.proofs.Common.{place_in}
 use Rattle.ref_space.proofs.Common.{values_in, cell_at, is_of, None, Bool, eqb-true, get_or-set_other, length-map}
 use Rattle.ref_space.proofs.ChangeLemmas.{seen_by}
 use Rattle.ref_space.proofs.Common.{option_map, reference_by_number}
-use Rattle.ref_space.proofs.TableLemmas.{map-nulls, has_address, word_place}
+use Rattle.ref_space.proofs.TableLemmas.{map-nulls, has_word, word_place}
 use Rattle.ref_space.proofs.NamingLemmas.{each_set, each_to, held_push, held_to, map_same, named_same, taken_at}
 use Rattle.std.proofs.lemmas.List.{map-set}
 use Rattle.ref_space.proofs.WordLemmas.{IsGood, good_leads, word_is_good}
-use Rattle.ref_space.specs.ColouredWords.{IsCell, word_in_colour}
+use Rattle.ref_space.specs.ColouredWords.{IsCell, word_of_place}
+use Rattle.ref_space.specs.Pages.{Pages, AreBetween, with_placed}
+use Rattle.ref_space.proofs.CallLemmas.{between-placed}
 use Rattle.ref_space.proofs.Common.{◌/◌, ◌%◌}
 use Rattle.std.proofs.Math.ListN.{get_or-map}
 use Rattle.std.proofs.lemmas.List.Filters.{length-filter_both}
@@ -29,7 +31,7 @@ use Rattle.ref_space.specs.declared.colour.Colour.{Colour}
 use Rattle.ref_space.specs.declared.round.Round.{Round}
 use Rattle.ref_space.proofs.OccupantLemmas.{none-occupants, occupied_first}
 use Rattle.ref_space.proofs.RoomLemmas.{always_room}
-use Rattle.ref_space.proofs.FreeLemmas.{length-free, taken_next, IsTaken}
+use Rattle.ref_space.proofs.FreeLemmas.{all_open, answered_next, length-free, taken_next, IsTaken}
 use Rattle.ref_space.proofs.MarkCounts.{marks_made}
 use Rattle.ref_space.proofs.IndexLemmas.{place_in-new, Rises-push, NoneAbove-push, Rises-filter, NoneAbove-filter}
 use Rattle.ref_space.proofs.PlaceLemmas.{tabled_by-set, tabled_by-push, tabled_by-filter, length-filter_live}
@@ -38,11 +40,11 @@ use Rattle.ref_space.proofs.PlaceLemmas.{tabled_by-set, tabled_by-push, tabled_b
 
 -- closed gaps change nothing that is seen; the cells are looked at through a slice that was lent
 pub seen_closed : {cells borrowed : List (Option Tabled)} {fs : List Entry} (es : List Entry) (round : Round)
-    (first last room : ℕ)
+    (pages : Pages) (last room : ℕ)
     (slots : List (Option ℕ)) → borrowed ≡ cells → fs ≡ filter (is_live borrowed) es
-    → seen_table round first cells fs slots last room ≡ seen_table round first cells es slots last room
-seen_closed {cells} {borrowed} {fs} es round first last room slots same is =
-    ap (λ ks. seen_by round first last room ks slots (occupants_of cells))
+    → seen_table round pages cells fs slots last room ≡ seen_table round pages cells es slots last room
+seen_closed {cells} {borrowed} {fs} es round pages last room slots same is =
+    ap (λ ks. seen_by round pages last room ks slots (occupants_of cells))
     (ap (tabled_by cells) (is ∙ ap (λ cs. filter (is_live cs) es) same) ∙ tabled_by-filter cells es)
 
 -- an entry of an object stays
@@ -58,30 +60,28 @@ listed_filter cells es listed p k at =
     place_in-filter cells es k.object.no p (listed p k at) (rw at own)
 
 -- closed gaps leave what words lead to
-pub naming_relisted : {round : Round} {first : ℕ} {cells : List (Option Tabled)} {es fs : List Entry} {slots : List
+pub naming_relisted : {round : Round} {cells : List (Option Tabled)} {es fs : List Entry} {slots : List
     (Option ℕ)}
-    → IsSoundNaming round first cells es slots → AreIndexed cells fs → tabled_by cells fs ≡ tabled_by cells es
-    → IsSoundNaming round first cells fs slots
+    → IsSoundNaming round cells es slots → AreIndexed cells fs → tabled_by cells fs ≡ tabled_by cells es
+    → IsSoundNaming round cells fs slots
 naming_relisted naming listed same = record {
-  begins = naming.begins;
-  addresses = naming.addresses;
   listed = listed;
   begun = naming.begun;
   rooted = naming.rooted;
   led = rw same naming.led;
 }
 
-pub naming_closed : {round : Round} {first : ℕ} {cells borrowed : List (Option Tabled)} {es fs : List Entry}
-    {slots : List (Option ℕ)} → IsSoundNaming round first cells es slots → borrowed ≡ cells
-    → fs ≡ filter (is_live borrowed) es → IsSoundNaming round first cells fs slots
-naming_closed {first} {cells} {borrowed} {es} {fs} naming same is =
+pub naming_closed : {round : Round} {cells borrowed : List (Option Tabled)} {es fs : List Entry}
+    {slots : List (Option ℕ)} → IsSoundNaming round cells es slots → borrowed ≡ cells
+    → fs ≡ filter (is_live borrowed) es → IsSoundNaming round cells fs slots
+naming_closed {round} {cells} {borrowed} {es} {fs} naming same is =
     let closed : fs ≡ filter (is_live cells) es = is ∙ ap (λ cs. filter (is_live cs) es) same in
     naming_relisted naming (subst (AreIndexed cells) (sym closed) (listed_filter cells es naming.listed))
     (ap (tabled_by cells) closed ∙ tabled_by-filter cells es)
 
-pub placed_closed : {cells borrowed : List (Option Tabled)} {es fs : List Entry} {ps : List Use} {last : ℕ}
-    → IsPlaced cells es ps last → borrowed ≡ cells → fs ≡ filter (is_live borrowed) es → IsPlaced cells fs ps last
-placed_closed {cells} {borrowed} {es} {fs} {ps} {last} placed same is =
+pub placed_closed : {cells borrowed : List (Option Tabled)} {es fs : List Entry} {pages : Pages} {last : ℕ}
+    → IsPlaced cells es pages last → borrowed ≡ cells → fs ≡ filter (is_live borrowed) es → IsPlaced cells fs pages last
+placed_closed {cells} {borrowed} {es} {fs} {pages} {last} placed same is =
     grind (
       arith,
       length-filter_both (is_live cells) (λ e. not (is_live cells e)) (λ e. refl) es,
@@ -91,26 +91,26 @@ placed_closed {cells} {borrowed} {es} {fs} {ps} {last} placed same is =
       NoneAbove-filter,
     )
 
-pub counted_closed : {round : Round} {cells borrowed : List (Option Tabled)} {es fs : List Entry} {ps : List Use}
-    {last room count index_room marked : ℕ} → IsSoundTable round cells es ps last room count index_room marked
+pub counted_closed : {round : Round} {cells borrowed : List (Option Tabled)} {es fs : List Entry} {pages : Pages}
+    {last room count index_room marked : ℕ} → IsSoundTable round cells es pages last room count index_room marked
     → borrowed ≡ cells → fs ≡ filter (is_live borrowed) es → {capacity : ℕ} → capacity ≡ index_room
-    → IsSoundTable round cells fs ps last room count capacity marked
+    → IsSoundTable round cells fs pages last room count capacity marked
 counted_closed {round} {cells} {borrowed} {es} {fs} sound same is fits =
     let seen : tabled_by cells fs ≡ tabled_by cells es =
     ap (tabled_by cells) (is ∙ ap (λ cs. filter (is_live cs) es) same) ∙ tabled_by-filter cells es in
     grind (arith, placed_closed sound.placed same is, seen)
 
 -- where not every cell has an object, the index has room for one more entry once its gaps are closed
-pub record HasRoom (cells : List (Option Tabled)) (es fs : List Entry) (ps : List Use) (last : ℕ) : Type 0 where
-  pub placed : IsPlaced cells fs ps last
+pub record HasRoom (cells : List (Option Tabled)) (es fs : List Entry) (pages : Pages) (last : ℕ) : Type 0 where
+  pub placed : IsPlaced cells fs pages last
   pub same : tabled_by cells fs ≡ tabled_by cells es
   pub room : length fs < 2 * length cells
   pub listed : AreIndexed cells es → AreIndexed cells fs
 
-has_room : (cells : List (Option Tabled)) (es fs : List Entry) (ps : List Use) (last most : ℕ)
+has_room : (cells : List (Option Tabled)) (es fs : List Entry) (pages : Pages) (last most : ℕ)
     → most ≡ 2 * length cells → fs ≡ with_room most cells es → length (tabled_by cells es) < length cells
-    → IsPlaced cells es ps last → HasRoom cells es fs ps last
-has_room cells es fs ps last most limit is spare placed =
+    → IsPlaced cells es pages last → HasRoom cells es fs pages last
+has_room cells es fs pages last most limit is spare placed =
     elim (cases_Bool (length es == most)) [
       | inl full ↦
           let closed : fs ≡ filter (is_live cells) es = is ∙ simp full refl in
@@ -126,7 +126,7 @@ has_room cells es fs ps last most limit is spare placed =
           let size : length fs ≡ length es = ap length unchanged in
           let ne : length es ≡ most → ⊥ = λ same. false≢true (sym others ∙ eq-eqb (length es) most same) in
           record {
-            placed = subst (λ gs. IsPlaced cells gs ps last) (sym unchanged) placed;
+            placed = subst (λ gs. IsPlaced cells gs pages last) (sym unchanged) placed;
             same = ap (tabled_by cells) unchanged;
             room = omega (arith, placed.few, size, ne, limit);
             listed = subst (AreIndexed cells) (sym unchanged);
@@ -173,15 +173,15 @@ made_marked q n count kept true begun = eq-eqb q q refl
 made_marked q n count kept false begun = ne_eqb 0 q (λ same. omega (arith, begun, same))
 
 -- and healed: what it holds has the good colour
-pub made_held : (q : ℕ) (good : Colour) (first : ℕ) (os : List (Option ℕ)) (n count : ℕ) (kept : Option Reference)
-    (marked : Bool) → leads_by good first os true (referent_of kept) ≡ true
-    → IsHeldIn q (leads_by good first os) (made_entry q n count kept marked)
-made_held q good first os n count kept marked leads =
+pub made_held : (q : ℕ) (good : Colour) (os : List (Option ℕ)) (n count : ℕ) (kept : Option Reference)
+    (marked : Bool) → leads_by good os true (referent_of kept) ≡ true
+    → IsHeldIn q (leads_by good os) (made_entry q n count kept marked)
+made_held q good os n count kept marked leads =
     let own : (q == q) ≡ true = eq-eqb q q refl in (
       dated marked,
       omega arith,
-      subst (λ b. Each (leads_by good first os b) (values_in (made_entry q n count kept marked))) (sym own)
-          (leads, all_null (leads_by good first os true) refl count),
+      subst (λ b. Each (leads_by good os b) (values_in (made_entry q n count kept marked))) (sym own)
+          (leads, all_null (leads_by good os true) refl count),
     )
   where
     dated : (marked : Bool) → (made_entry q n count kept marked).marked_in ≤ q
@@ -189,48 +189,56 @@ made_held q good first os n count kept marked leads =
     dated false = omega arith
 
 -- an object may be made: there may be one more, its place was taken, and the index has room
-pub record CanMake (cells : List (Option Tabled)) (es fs : List Entry) (ps qs : List Use) (last room p : ℕ) : Type 0
+pub record CanMake (cells : List (Option Tabled)) (es fs : List Entry) (pages more : Pages) (last room p : ℕ)
+    : Type 0
   where
     pub fewer : length (tabled_by cells es) < room
-    pub closed : HasRoom cells es fs ps last
-    pub taken : IsTaken cells ps qs p
+    pub closed : HasRoom cells es fs pages last
+    pub taken : IsTaken cells pages.uses more.uses p
+    pub placed : more ≡ with_placed pages
 
-module _ {round : Round} {first : ℕ} {cells : List (Option Tabled)} {es : List Entry} {ps : List Use} {slots : List
+module _ {round : Round} {cells : List (Option Tabled)} {es : List Entry} {pages : Pages} {slots : List
     (Option ℕ)}
     {last room count index_room marked : ℕ}
-    (sound : IsSoundTable round cells es ps last room count index_room marked × IsSoundNaming round first cells es
+    (sound : IsSoundTable round cells es pages last room count index_room marked × IsSoundNaming round cells es
     slots)
-    {t : Table} (view : seen_table round first cells es slots last room ≡ t) where
+    {t : Table} (view : seen_table round pages cells es slots last room ≡ t) where
   module _ (spare : length t.tabled < t.room) where
     fewer : length (tabled_by cells es) < room
     fewer =
-        let seen : length (map (by_number (target_by first (occupants_of cells))) (tabled_by cells es)) < room =
+        let seen : length (map (by_number (target_by (occupants_of cells))) (tabled_by cells es)) < room =
         subst (λ (s : Table). length s.tabled < s.room) (sym view) spare in
-        omega (arith, seen, length-map (tabled_by cells es) (by_number (target_by first (occupants_of cells))))
+        omega (arith, seen, length-map (tabled_by cells es) (by_number (target_by (occupants_of cells))))
 
     -- there is a next place
-    pub has_place : is_some (next_place ps) ≡ true
+    has_place : is_some (next_place pages.uses) ≡ true
     has_place =
-        always_room ps sound.0.placed.free.whole
-        (omega (arith, fewer, sound.0.cells_fit, sound.0.placed.taken, length-free sound.0.placed.free))
+        always_room pages.uses sound.0.placed.free.whole
+        (rw (all_open sound.0.placed.free)
+        (omega (arith, fewer, sound.0.cells_fit, sound.0.placed.taken, length-free sound.0.placed.free)))
 
-    pub can_make : {borrowed : List (Option Tabled)} {fs : List Entry} {qs : List Use} {size : ℕ}
+    pub has_cell : is_some (next_cell pages.uses) ≡ true
+    has_cell = ap is_some (answered_next sound.0.placed.free) ∙ has_place
+
+    pub can_make : {borrowed : List (Option Tabled)} {fs : List Entry} {more : Pages} {size : ℕ}
         {next : Option (ℕ × ℕ)} {at : ℕ × ℕ} → borrowed ≡ cells → size ≡ length cells
-        → fs ≡ with_room (2 * size) borrowed es → next ≡ next_place ps → qs ≡ after_placing ps (next_place ps)
-        → next ≡ Some at → CanMake cells es fs ps qs last room (64 * at.0 + at.1)
-    can_make {borrowed} {fs} {qs} {size} {next} {at} same all made_room is after found =
-        let place = sym is ∙ found in
+        → fs ≡ with_room (2 * size) borrowed es → next ≡ next_cell pages.uses → more ≡ with_placed pages
+        → next ≡ Some at → CanMake cells es fs pages more last room (64 * at.0 + at.1)
+    can_make {borrowed} {fs} {more} {size} {next} {at} same all made_room is after found =
+        let place = sym (answered_next sound.0.placed.free) ∙ sym is ∙ found in
         record {
           fewer = fewer;
-          closed = has_room cells es fs ps last (2 * size) (omega (arith, all))
+          closed = has_room cells es fs pages last (2 * size) (omega (arith, all))
               (made_room ∙ ap (λ cs. with_room (2 * size) cs es) same) (omega (arith, fewer, sound.0.cells_fit))
               sound.0.placed;
-          taken = subst (λ rs. IsTaken cells ps rs (64 * at.0 + at.1)) (sym (after ∙ ap (after_placing ps) place))
+          taken = subst (λ rs. IsTaken cells pages.uses rs (64 * at.0 + at.1))
+              (sym (ap (λ (s : Pages). s.uses) after ∙ ap (after_placing pages.uses) place))
               (taken_next sound.0.placed.free at place);
+          placed = after;
         }
 
   -- it is made
-  module _ {fs gs : List Entry} {qs : List Use} {p : ℕ} (can : CanMake cells es fs ps qs last room p) (k : Tabled)
+  module _ {fs gs : List Entry} {more : Pages} {p : ℕ} (can : CanMake cells es fs pages more last room p) (k : Tabled)
       (rises : t.last < k.object.no) {c : Option Tabled} (is : c ≡ Some k)
       (pushed : gs ≡ fs ++ record { no = k.object.no; place = p } ∷ []) where
     new : last < k.object.no
@@ -242,21 +250,25 @@ module _ {round : Round} {first : ℕ} {cells : List (Option Tabled)} {es : List
     length-made : length (tabled_by (set cells p c) gs) ≡ length (tabled_by cells es) + 1
     length-made = grind (arith, tabled_by-made, length_push)
 
-    placed_made : IsPlaced (set cells p c) gs qs k.object.no
+    placed_made : IsPlaced (set cells p c) gs more k.object.no
     placed_made =
         let free = can.taken.free c (ap is_none is) in
-        grind (arith, new, length-set, length_push, Rises-push, NoneAbove-push, length-made)
+        let rising : AreBetween 1 more.uses more.next =
+        subst (λ (s : Pages). AreBetween 1 s.uses s.next) (sym can.placed)
+        (between-placed pages.uses (next_place pages.uses) 1 pages.next sound.0.placed.rising) in
+        let next : more.next ≡ pages.next = ap (λ (s : Pages). s.next) can.placed in
+        grind (arith, new, length-set, length_push, Rises-push, NoneAbove-push, length-made, rising, next)
 
-    table_made : {capacity more : ℕ} → index_room ≤ capacity → more ≡ from_bool (is_marked round.number k)
-        → IsSoundTable round (set cells p c) gs qs k.object.no room (count + 1) capacity (marked + more)
-    table_made {capacity} {more} fits one =
-        let marks = marks_made round.number (tabled_by cells es) k tabled_by-made one sound.0.marks_counted in
+    table_made : {capacity marks : ℕ} → index_room ≤ capacity → marks ≡ from_bool (is_marked round.number k)
+        → IsSoundTable round (set cells p c) gs more k.object.no room (count + 1) capacity (marked + marks)
+    table_made {capacity} {marks} fits one =
+        let counted = marks_made round.number (tabled_by cells es) k tabled_by-made one sound.0.marks_counted in
         grind (arith, placed_made, length-set, length-made)
 
     -- ---- what words lead to then
 
     abbrev leads : Bool → Option ℕ → Bool
-    leads = leads_by round.good first (occupants_of cells)
+    leads = leads_by round.good (occupants_of cells)
 
     abbrev then : List (Option ℕ)
     then = occupants_of (set cells p c)
@@ -266,28 +278,28 @@ module _ {round : Round} {first : ℕ} {cells : List (Option Tabled)} {es : List
         ap (λ c. occupants_of (set cells p c)) is ∙ map-set occupant_in cells p (Some k)
 
     named_still : (b : Bool) (v : Option ℕ) → leads b v ≡ true
-        → target_by first then v ≡ target_by first (occupants_of cells) v
+        → target_by then v ≡ target_by (occupants_of cells) v
     named_still b None led = refl
     named_still b (Some w) led =
-        ap (λ os. target_by first os (Some w)) occupants-made
-        ∙ taken_at (occupants_of cells) p (Some k.object.no) (place_by first (Some w))
+        ap (λ os. target_by os (Some w)) occupants-made
+        ∙ taken_at (occupants_of cells) p (Some k.object.no) (place_by (Some w))
         (get_or-map occupant_in cells p None ∙ ap occupant_in can.taken.none) (grind arith)
 
-    leads_still : (b : Bool) (v : Option ℕ) → leads b v ≡ true → leads_by round.good first then b v ≡ true
+    leads_still : (b : Bool) (v : Option ℕ) → leads b v ≡ true → leads_by round.good then b v ≡ true
     leads_still b v led = rw (named_still b v led) led
 
     module _ (holds : IsHeldIn round.number leads k) (into : ℕ) {w : Option ℕ}
-        (made : w ≡ word_in_colour round.good (first + p / 64) (p % 64)) where
-      at : IsCell (first + p / 64) (p % 64)
-      at = has_address sound.1 p can.taken.within
+        (made : w ≡ word_of_place round.good p) where
+      at : IsCell (1 + p / 64) (p % 64)
+      at = has_word sound.0.placed.small p can.taken.within
 
-      word : place_by first w ≡ Some p
-      word = rw made (word_place round.good p first at)
+      word : place_by w ≡ Some p
+      word = rw made (word_place round.good p at)
 
       is_good : IsGood round.good w
-      is_good = subst (IsGood round.good) (sym made) (word_is_good round.good (first + p / 64) (p % 64) at)
+      is_good = subst (IsGood round.good) (sym made) (word_is_good round.good (1 + p / 64) (p % 64) at)
 
-      named_new : target_by first then w ≡ Some k.object.no
+      named_new : target_by then w ≡ Some k.object.no
       named_new =
           ap (occupant_at then) word ∙ ap (occupant_at_place p) occupants-made
           ∙ get_or-set_same (occupants_of cells) p (Some k.object.no) None
@@ -295,7 +307,7 @@ module _ {round : Round} {first : ℕ} {cells : List (Option Tabled)} {es : List
 
       pub seen_made : (r : Option Reference) (n : ℕ) (marks : Bool)
           → by_number (target_of t) k ≡ made_entry round.number k.object.no n r marks
-          → seen_table round first (set cells p c) gs (set slots into w) k.object.no room
+          → seen_table round more (set cells p c) gs (set slots into w) k.object.no room
           ≡ with_tabled t into (made_entry round.number k.object.no n r marks)
       seen_made r n marks entry =
           (λ i. record {
@@ -303,7 +315,7 @@ module _ {round : Round} {first : ℕ} {cells : List (Option Tabled)} {es : List
             room = room;
             last = k.object.no;
             slots = slots_then i;
-            first = first;
+            pages = can.placed i;
             occupants = occupants_then i;
             round = round;
           })
@@ -316,24 +328,24 @@ module _ {round : Round} {first : ℕ} {cells : List (Option Tabled)} {es : List
               ∙ sym (occupied_first (occupants_of cells) k.object.no p
               (ap first_set (none-occupants cells) ∙ can.taken.first))
 
-          tabled_then : map (by_number (target_by first then)) (tabled_by (set cells p c) gs)
-              ≡ map (by_number (target_by first (occupants_of cells))) (tabled_by cells es)
-              ++ by_number (target_by first (occupants_of cells)) k ∷ []
+          tabled_then : map (by_number (target_by then)) (tabled_by (set cells p c) gs)
+              ≡ map (by_number (target_by (occupants_of cells))) (tabled_by cells es)
+              ++ by_number (target_by (occupants_of cells)) k ∷ []
           tabled_then =
-              ap (map (by_number (target_by first then))) tabled_by-made
-              ∙ named_same round.number leads (target_by first then) (target_by first (occupants_of cells)) named_still
+              ap (map (by_number (target_by then))) tabled_by-made
+              ∙ named_same round.number leads (target_by then) (target_by (occupants_of cells)) named_still
               (tabled_by cells es ++ k ∷ []) (held_push round.number leads (tabled_by cells es) k sound.1.led holds)
-              ∙ map-append (by_number (target_by first (occupants_of cells))) (tabled_by cells es) (k ∷ [])
+              ∙ map-append (by_number (target_by (occupants_of cells))) (tabled_by cells es) (k ∷ [])
 
-          slots_then : map (target_by first then) (set slots into w)
-              ≡ set (map (target_by first (occupants_of cells)) slots) into (Some k.object.no)
+          slots_then : map (target_by then) (set slots into w)
+              ≡ set (map (target_by (occupants_of cells)) slots) into (Some k.object.no)
           slots_then =
-              map-set (target_by first then) slots into w
-              ∙ ap (λ vs. set vs into (target_by first then w))
-              (map_same round.number leads (target_by first then) (target_by first
+              map-set (target_by then) slots into w
+              ∙ ap (λ vs. set vs into (target_by then w))
+              (map_same round.number leads (target_by then) (target_by
               (occupants_of cells)) named_still true slots
               sound.1.rooted)
-              ∙ ap (set (map (target_by first (occupants_of cells)) slots) into) named_new
+              ∙ ap (set (map (target_by (occupants_of cells)) slots) into) named_new
 
       listed_made : AreIndexed (set cells p c) gs
       listed_made q l here =
@@ -354,21 +366,19 @@ module _ {round : Round} {first : ℕ} {cells : List (Option Tabled)} {es : List
                 (sym (get_or-set_other cells p q c None (λ same. false≢true (sym other ∙ eq-eqb q p same))) ∙ here))
           ])
 
-      pub sound_made : {capacity more : ℕ} → index_room ≤ capacity → more ≡ from_bool (is_marked round.number k)
-          → IsSoundTable round (set cells p c) gs qs k.object.no room (count + 1) capacity (marked + more)
-          × IsSoundNaming round first (set cells p c) gs (set slots into w)
+      pub sound_made : {capacity marks : ℕ} → index_room ≤ capacity → marks ≡ from_bool (is_marked round.number k)
+          → IsSoundTable round (set cells p c) gs more k.object.no room (count + 1) capacity (marked + marks)
+          × IsSoundNaming round (set cells p c) gs (set slots into w)
       sound_made fits one = (
         table_made fits one,
         record {
-          begins = sound.1.begins;
-          addresses = rw (length-set cells p c) sound.1.addresses;
           listed = listed_made;
           begun = sound.1.begun;
-          rooted = each_set (leads_by round.good first then true) slots into w (rw named_new
+          rooted = each_set (leads_by round.good then true) slots into w (rw named_new
               (good_leads round.good w is_good))
-              (each_to round.number leads (leads_by round.good first then) leads_still true slots sound.1.rooted);
+              (each_to round.number leads (leads_by round.good then) leads_still true slots sound.1.rooted);
           led = rw tabled_by-made
-              (held_to round.number leads (leads_by round.good first then) leads_still (tabled_by cells es ++ k ∷ [])
+              (held_to round.number leads (leads_by round.good then) leads_still (tabled_by cells es ++ k ∷ [])
               (held_push round.number leads (tabled_by cells es) k sound.1.led holds));
         },
       )

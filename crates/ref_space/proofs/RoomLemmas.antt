@@ -1,15 +1,18 @@
 -- How many cells are taken: one more with each that is placed, and no place is left only where all are.
-use Rattle.std.proofs.Common.{◌≡◌, ℕ, zero, suc, ◌*◌, ◌<◌, ◌≤◌, Bool, true, false, refl, ap, arith}
-use Rattle.std.proofs.Common.{List, [], ◌∷◌, length, get_or, set, Option, Some, None, is_some}
-use Rattle.std.proofs.lemmas.Bool.{true≢false, false≢true}
-use Rattle.ref_space.specs.Bits.{any_set, count_clear}
-use Rattle.ref_space.specs.Pages.{Use, is_free_at, with_cell, next_place, after_placing}
+use Rattle.std.proofs.Common.{◌≡◌, ℕ, zero, suc, ◌*◌, ◌<◌, ◌≤◌, Bool, true, false, not, refl, sym, ap, subst, ◌∙◌}
+use Rattle.std.proofs.Common.{arith}
+use Rattle.std.proofs.Common.{List, [], ◌∷◌, length, get_or, set, Option, Some, None, is_some, inl, inr}
+use Rattle.std.proofs.lemmas.Bool.{cases_Bool, and_parts, true≢false, false≢true}
+use Rattle.ref_space.specs.Bits.{first_set, any_set, count_clear}
+use Rattle.ref_space.specs.Pages.{Use, use_at, is_free_at, with_cell, next_place, after_placing, placing, has_open_cell}
 use Rattle.ref_space.specs.Pages.{all_free, fresh_pages, NoneHasRoom, AreWhole, IsNextPlace, taken_of, Packed}
+use Rattle.ref_space.specs.Pages.{opened, chosen_frames, in_first, page_later}
 use Rattle.ref_space.proofs.NextPlaces.{is_next_place}
+use Rattle.ref_space.proofs.MoveLemmas.{opened_all, chosen-opened, chosen-fresh}
 
 -- ---- one page
 
-none_clear : (bs : List Bool) → any_set bs ≡ false → count_clear bs ≡ length bs
+pub none_clear : (bs : List Bool) → any_set bs ≡ false → count_clear bs ≡ length bs
 none_clear [] none = refl
 none_clear (true ∷ bs) none = absurd (true≢false none)
 none_clear (false ∷ bs) none = ap suc (none_clear bs none)
@@ -55,51 +58,148 @@ taken_fewer (p ∷ ps) zero cell whole within small taken = grind (arith, count_
 taken_fewer (p ∷ ps) (suc page) cell whole within small taken =
     let fewer = taken_fewer ps page cell whole.1 (omega arith) small taken in omega (arith, fewer)
 
-pub fresh_taken : (first count : ℕ) → taken_of (fresh_pages first count) ≡ 0
+pub fresh_taken : (first frame count : ℕ) → taken_of (fresh_pages first frame count) ≡ 0
 unfolding all_free
-fresh_taken first zero = refl
-fresh_taken first (suc count) = let none = fresh_taken (suc first) count in omega (arith, none)
+fresh_taken first frame zero = refl
+fresh_taken first frame (suc count) = let none = fresh_taken (suc first) (suc frame) count in omega (arith, none)
 
 -- ---- room
 
-full_taken : (ps : List Use) → AreWhole ps → NoneHasRoom ps → taken_of ps ≡ 64 * length ps
+full_taken : (ps : List Use) → AreWhole ps → NoneHasRoom ps → taken_of (opened ps) ≡ 64 * length (opened ps)
 full_taken [] whole none = omega arith
 full_taken (p ∷ ps) whole none = grind (arith, none_clear, full_taken ps whole.1 none.1)
 
-room-next : (ps : List Use) (at : Option (ℕ × ℕ)) → AreWhole ps → taken_of ps < 64 * length ps → IsNextPlace ps at
-    → is_some at ≡ true
+room-next : (ps : List Use) (at : Option (ℕ × ℕ)) → AreWhole ps → taken_of (opened ps) < 64 * length (opened ps)
+    → IsNextPlace ps at → is_some at ≡ true
 room-next ps None whole few none = let full = full_taken ps whole none in absurd (omega (arith, few, full))
 room-next ps (Some at) whole few next = refl
 
-pub always_room : (ps : List Use) → AreWhole ps → taken_of ps < 64 * length ps → is_some (next_place ps) ≡ true
+pub always_room : (ps : List Use) → AreWhole ps → taken_of (opened ps) < 64 * length (opened ps)
+    → is_some (next_place ps) ≡ true
 always_room ps whole few = room-next ps (next_place ps) whole few (is_next_place ps)
 
 taken-next : (ps : List Use) (at : Option (ℕ × ℕ)) → IsNextPlace ps at → is_some at ≡ true
     → taken_of (after_placing ps at) ≡ suc (taken_of ps)
 taken-next ps None none there = absurd (false≢true there)
-taken-next ps (Some at) next there = taken_more ps at.0 at.1 next.is_free
+taken-next ps (Some at) next there =
+    taken_more ps at.0 at.1 (and_parts (not (use_at ps at.0).chosen) (is_free_at ps at.0 at.1) next.is_free).1
 
-pub taken_placing : (ps : List Use) → is_some (next_place ps) ≡ true
-    → taken_of (after_placing ps (next_place ps)) ≡ suc (taken_of ps)
+pub taken_placing : (ps : List Use) → is_some (next_place ps) ≡ true → taken_of (placing ps) ≡ suc (taken_of ps)
 taken_placing ps there = taken-next ps (next_place ps) (is_next_place ps) there
+
+-- ---- placing passes over chosen pages
+
+after-later : (p : Use) (ps : List Use) (at : Option (ℕ × ℕ))
+    → after_placing (p ∷ ps) (page_later at) ≡ p ∷ after_placing ps at
+after-later p ps None = refl
+after-later p ps (Some at) = refl
+
+placing-later : (p : Use) (ps : List Use) → has_open_cell p ≡ false → placing (p ∷ ps) ≡ p ∷ placing ps
+placing-later p ps none = simp none (after-later p ps (next_place ps))
+
+after-here : (p : Use) (ps : List Use) (cell : Option ℕ) → p.chosen ≡ false
+    → opened (after_placing (p ∷ ps) (in_first cell)) ≡ after_placing (p ∷ opened ps) (in_first cell)
+after-here p ps None stays = simp stays refl
+after-here p ps (Some cell) stays = simp stays refl
+
+opened-cons : (p : Use) (ps : List Use) → p.chosen ≡ false → opened (p ∷ ps) ≡ p ∷ opened ps
+opened-cons p ps stays = simp stays refl
+
+pub opened-placing : (ps : List Use) → opened (placing ps) ≡ placing (opened ps)
+opened-placing [] = refl
+opened-placing (p ∷ ps) =
+    elim (cases_Bool p.chosen) [
+      | inl chosen ↦
+          ap opened (placing-later p ps (simp chosen refl)) ∙ simp chosen (opened-placing ps)
+      | inr stays ↦
+          elim (cases_Bool (any_set p.free)) [
+            | inl any ↦ simp (stays, any) (after-here p ps (first_set p.free) stays)
+            | inr none ↦
+                let full : has_open_cell p ≡ false = simp (stays, none) refl in
+                ap opened (placing-later p ps full) ∙ opened-cons p (placing ps) stays
+                ∙ ap (λ us. p ∷ us) (opened-placing ps) ∙ sym (placing-later p (opened ps) full)
+                ∙ ap placing (sym (opened-cons p ps stays))
+          ]
+    ]
+
+some-later : (at : Option (ℕ × ℕ)) → is_some (page_later at) ≡ is_some at
+some-later None = refl
+some-later (Some at) = refl
+
+pub some-opened : (ps : List Use) → is_some (next_place (opened ps)) ≡ is_some (next_place ps)
+some-opened [] = refl
+some-opened (p ∷ ps) = grind (arith, some-later, some-opened ps)
+
+pub whole_opened : (ps : List Use) → AreWhole ps → AreWhole (opened ps)
+whole_opened [] whole = tt
+whole_opened (p ∷ ps) whole = grind (arith, whole_opened ps whole.1)
+
+-- an object that is placed takes one more cell of an open page
+pub open_taken : (ps : List Use) → is_some (next_place ps) ≡ true
+    → taken_of (opened (placing ps)) ≡ suc (taken_of (opened ps))
+open_taken ps there =
+    ap taken_of (opened-placing ps) ∙ taken_placing (opened ps) (some-opened ps ∙ there)
 
 -- ---- pages in front that have all taken cells
 
-pub packed_placing : (c : ℕ) (ps : List Use) → AreWhole ps → Packed c ps → taken_of ps < 64 * c
-    → Packed c (after_placing ps (next_place ps))
-packed_placing zero ps whole packed few = absurd (omega arith)
-packed_placing (suc c) [] whole packed few = tt
-packed_placing (suc c) (p ∷ ps) whole packed few = grind (arith, none_clear, packed_placing c ps whole.1 packed)
+packed_open : (c : ℕ) (ps : List Use) → AreWhole ps → chosen_frames ps ≡ [] → Packed c ps → taken_of ps < 64 * c
+    → Packed c (placing ps)
+packed_open zero ps whole open_all packed few = absurd (omega arith)
+packed_open (suc c) [] whole open_all packed few = tt
+packed_open (suc c) (p ∷ ps) whole open_all packed few =
+    elim (cases_Bool p.chosen) [
+      | inl chosen ↦ absurd (some_frame p ps chosen open_all)
+      | inr stays ↦
+          let rest : chosen_frames ps ≡ [] = simp stays at open_all in
+          elim (cases_Bool (any_set p.free)) [
+            | inl any ↦ simp (stays, any) (here (first_set p.free))
+            | inr none ↦
+                let full = none_clear p.free none in
+                subst (Packed (suc c)) (sym (placing-later p ps (simp (stays, none) refl)))
+                (packed_open c ps whole.1 rest packed (let size = whole.0 in omega (arith, few, full, size)))
+          ]
+    ]
+  where
+    some_frame : (p : Use) (ps : List Use) → p.chosen ≡ true → chosen_frames (p ∷ ps) ≡ [] → ⊥
+    some_frame p ps chosen none = grind arith
 
-pub packed_giving : (c : ℕ) (ps : List Use) (page cell : ℕ) → Packed c ps → Packed c (with_cell ps page cell true)
+    here : (cell : Option ℕ) → Packed (suc c) (after_placing (p ∷ ps) (in_first cell))
+    here None = packed
+    here (Some cell) = packed
+
+pub packed_placing : (c : ℕ) (ps : List Use) → AreWhole ps → Packed c (opened ps) → taken_of (opened ps) < 64 * c
+    → Packed c (opened (placing ps))
+packed_placing c ps whole packed few =
+    subst (Packed c) (sym (opened-placing ps))
+    (packed_open c (opened ps) (whole_opened ps whole) (chosen-opened ps) packed few)
+
+packed_given : (c : ℕ) (ps : List Use) (page cell : ℕ) → Packed c ps → Packed c (with_cell ps page cell true)
+packed_given c [] page cell packed = packed
+packed_given zero (p ∷ ps) zero cell packed = grind (arith, count_given_most)
+packed_given zero (p ∷ ps) (suc page) cell packed = (packed.0, packed_given zero ps page cell packed.1)
+packed_given (suc c) (p ∷ ps) zero cell packed = packed
+packed_given (suc c) (p ∷ ps) (suc page) cell packed = packed_given c ps page cell packed
+
+pub packed_giving : (c : ℕ) (ps : List Use) (page cell : ℕ) → Packed c (opened ps)
+    → Packed c (opened (with_cell ps page cell true))
 packed_giving c [] page cell packed = packed
-packed_giving zero (p ∷ ps) zero cell packed = grind (arith, count_given_most)
-packed_giving zero (p ∷ ps) (suc page) cell packed = (packed.0, packed_giving zero ps page cell packed.1)
-packed_giving (suc c) (p ∷ ps) zero cell packed = packed
-packed_giving (suc c) (p ∷ ps) (suc page) cell packed = packed_giving c ps page cell packed
+packed_giving c (p ∷ ps) zero cell packed =
+    elim (cases_Bool p.chosen) [
+      | inl chosen ↦ simp chosen (simp chosen at packed)
+      | inr stays ↦ simp stays (packed_given c (p ∷ opened ps) 0 cell (simp stays at packed))
+    ]
+packed_giving zero (p ∷ ps) (suc page) cell packed = grind (arith, packed_giving zero ps page cell)
+packed_giving (suc c) (p ∷ ps) (suc page) cell packed =
+    grind (arith, packed_giving c ps page cell, packed_giving (suc c) ps page cell)
 
-pub packed_fresh : (c first count : ℕ) → Packed c (fresh_pages first count)
+packed_new : (c first frame count : ℕ) → Packed c (fresh_pages first frame count)
 unfolding all_free
-packed_fresh c first zero = tt
-packed_fresh zero first (suc count) = (refl, packed_fresh zero (suc first) count)
-packed_fresh (suc c) first (suc count) = packed_fresh c (suc first) count
+packed_new c first frame zero = tt
+packed_new zero first frame (suc count) = (refl, packed_new zero (suc first) (suc frame) count)
+packed_new (suc c) first frame (suc count) = packed_new c (suc first) (suc frame) count
+
+pub packed_fresh : (c first frame count : ℕ) → Packed c (opened (fresh_pages first frame count))
+packed_fresh c first frame count =
+    subst (Packed c)
+    (sym (opened_all (fresh_pages first frame count) (chosen-fresh first frame count)))
+    (packed_new c first frame count)

@@ -2,53 +2,55 @@
 use Rattle.ref_space.proofs.Common.{◌≡◌, ℕ, refl, true, false, false≢true, sym, [], ◌∷◌, Option, Some, None, List}
 use Rattle.ref_space.proofs.Common.{Table}
 use Rattle.ref_space.proofs.Common.{IsUnnamed, Tabled, leads_by, target_by}
-use Rattle.ref_space.specs.ColouredWords.{word_in_colour, recoloured, colour_number}
+use Rattle.ref_space.specs.ColouredWords.{word_in_colour, word_of_place, recoloured, colour_number}
 use Rattle.ref_space.specs.declared.colour.Colour.{Colour}
 use Rattle.std.proofs.lemmas.Option.{none-some}
-use Rattle.ref_space.proofs.Common.{subst, ap, slice_index_or, ◌+◌, ◌-◌, ◌*◌}
-use Rattle.ref_space.specs.Naming.{IsWordHeld}
+use Rattle.ref_space.proofs.Common.{subst, ap, slice_index_or, ◌+◌, ◌*◌}
+use Rattle.ref_space.specs.Naming.{IsWordHeld, bits_told}
+use Rattle.ref_space.specs.Pages.{Use, fresh_page, use_of}
+use Rattle.ref_space.proofs.Common.{zero, suc}
 use Rattle.ref_space.specs.Tables.{with_occupant, without_occupant}
 use Rattle.ref_space.proofs.Common.{arith}
 use Rattle.ref_space.specs.declared.colour.Colour.TheVariants.{A, R}
 
--- ---- the first two cells of the page at address 3, with objects 7 and none
+-- ---- the first two cells of frame 0, with objects 7 and none, and its page, at address 5
 
 abbrev occupants : List (Option ℕ)
 occupants = Some 7 ∷ None ∷ []
 
-its_word_leads_to_object_7 : target_by 3 occupants (word_in_colour R 3 0) ≡ Some 7
+its_word_leads_to_object_7 : target_by occupants (word_of_place R 0) ≡ Some 7
 its_word_leads_to_object_7 = refl
 
-so_does_that_of_another_colour : target_by 3 occupants (word_in_colour A 3 0) ≡ Some 7
+so_does_that_of_another_colour : target_by occupants (word_of_place A 0) ≡ Some 7
 so_does_that_of_another_colour = refl
 
-null_leads_nowhere : target_by 3 occupants None ≡ None
+null_leads_nowhere : target_by occupants None ≡ None
 null_leads_nowhere = refl
 
--- null may be held, and no word of a free cell, of another page, or of one in front of the first
-null_may_be_held : leads_by R 3 occupants true None ≡ true
+-- null may be held, and no word of a free cell, of another frame, or of no frame, in front of the first
+null_may_be_held : leads_by R occupants true None ≡ true
 null_may_be_held = refl
 
-no_word_of_a_free_cell : leads_by R 3 occupants false (word_in_colour R 3 1) ≡ true → ⊥
+no_word_of_a_free_cell : leads_by R occupants false (word_of_place R 1) ≡ true → ⊥
 no_word_of_a_free_cell leads = false≢true leads
 
-no_word_of_another_page : leads_by R 3 occupants false (word_in_colour R 4 0) ≡ true → ⊥
-no_word_of_another_page leads = false≢true leads
+no_word_of_another_frame : leads_by R occupants false (word_of_place R 64) ≡ true → ⊥
+no_word_of_another_frame leads = false≢true leads
 
-no_word_in_front_of_the_first : leads_by R 3 occupants false (word_in_colour R 2 63) ≡ true → ⊥
+no_word_in_front_of_the_first : leads_by R occupants false (word_in_colour R 0 63) ≡ true → ⊥
 no_word_in_front_of_the_first leads = false≢true leads
 
 -- it has to have the good colour where a slot or a healed object holds it
-a_slot_may_hold_it : leads_by R 3 occupants true (word_in_colour R 3 0) ≡ true
+a_slot_may_hold_it : leads_by R occupants true (word_of_place R 0) ≡ true
 a_slot_may_hold_it = refl
 
-no_slot_holds_it_in_another_colour : leads_by R 3 occupants true (word_in_colour A 3 0) ≡ true → ⊥
+no_slot_holds_it_in_another_colour : leads_by R occupants true (word_of_place A 0) ≡ true → ⊥
 no_slot_holds_it_in_another_colour leads = false≢true leads
 
-it_is_healed_by_the_good_colour : recoloured R (word_in_colour A 3 0) ≡ word_in_colour R 3 0
+it_is_healed_by_the_good_colour : recoloured R (word_of_place A 0) ≡ word_of_place R 0
 it_is_healed_by_the_good_colour = refl
 
--- ---- its bits, in hexadecimal c0000000000000c0
+-- ---- its bits, in hexadecimal c000000000000140
 
 abbrev page_in : Option (Colour × ℕ × ℕ) → ℕ
 page_in None = 0
@@ -62,34 +64,46 @@ abbrev colour_in : Option (Colour × ℕ × ℕ) → ℕ
 colour_in None = 0
 colour_in (Some parts) = colour_number parts.0
 
-its_bits : IsWordHeld R 3 occupants true (Some 7) 13835058055282163904
+abbrev pages : List Use
+pages = fresh_page 5 0 ∷ []
+
+its_bits : IsWordHeld R pages occupants true (Some 7) 13835058055282164032
 its_bits = record {
   colour = R;
-  page = 3;
+  frame = 0;
   cell = 0;
   parts = refl;
-  front = omega arith;
   lies = refl;
   healed = λ
       has_to. refl;
 }
 
--- none of another cell, of another colour where it has to have the good one, or of null
-no_bits_of_another_cell : IsWordHeld R 3 occupants false (Some 7) 13835058055282163905 → ⊥
-no_bits_of_another_cell is =
-    let page : 3 ≡ is.page = ap page_in is.parts in
-    let cell : 1 ≡ is.cell = ap cell_in is.parts in
-    let there : slice_index_or occupants (64 * (is.page - 3) + 1) None ≡ Some 7 =
-    subst (λ c. slice_index_or occupants (64 * (is.page - 3) + c) None ≡ Some 7) (sym cell) is.lies in
-    none-some 7 (subst (λ p. slice_index_or occupants (64 * (p - 3) + 1) None ≡ Some 7) (sym page) there)
+they_are_told : bits_told pages (word_of_place R 0) ≡ 13835058055282164032
+they_are_told = refl
 
-no_bits_of_another_colour : IsWordHeld R 3 occupants true (Some 7) 4611686018427388096 → ⊥
+-- none of its frame in the place of the address, of another cell, of another colour where it has to have the good one,
+-- or of null
+no_bits_of_its_frame : bits_told pages (word_of_place R 0) ≡ 13835058055282163776 → ⊥
+no_bits_of_its_frame same = absurd (omega (arith, same))
+
+no_bits_of_another_cell : IsWordHeld R pages occupants false (Some 7) 13835058055282164033 → ⊥
+no_bits_of_another_cell is =
+    let cell : 1 ≡ is.cell = ap cell_in is.parts in
+    let address : 5 ≡ (use_of pages is.frame).address = ap page_in is.parts in
+    at_odds is.frame is.cell address cell is.lies
+  where
+    at_odds : (frame cell : ℕ) → 5 ≡ (use_of pages frame).address → 1 ≡ cell → slice_index_or occupants (64 * frame + cell) None ≡ Some 7 → ⊥
+    at_odds zero cell address one lies = none-some 7 (subst (λ c. slice_index_or occupants (0 + c) None ≡ Some 7) (sym one) lies)
+    at_odds (suc frame) cell address one lies =
+        let nowhere : (use_of pages (suc frame)).address ≡ 0 = grind arith in absurd (omega (arith, address, nowhere))
+
+no_bits_of_another_colour : IsWordHeld R pages occupants true (Some 7) 4611686018427388224 → ⊥
 no_bits_of_another_colour is =
     let colour : 1 ≡ colour_number is.colour = ap colour_in is.parts in
     let good : colour_number is.colour ≡ 3 = ap colour_number (is.healed refl) in
     absurd (omega (arith, colour, good))
 
-null_has_no_word : IsWordHeld R 3 occupants true None 13835058055282163904 → ⊥
+null_has_no_word : IsWordHeld R pages occupants true None 13835058055282164032 → ⊥
 null_has_no_word is = absurd (omega (arith, is))
 
 -- ---- where objects lie
@@ -122,7 +136,7 @@ table = record {
   room = 1;
   last = 9;
   slots = None ∷ Some 7 ∷ [];
-  first = 3;
+  pages = record { uses = pages; next = 6 };
   occupants = occupants;
   round = record { number = 1; good = R };
 }

@@ -1,21 +1,24 @@
 -- What holds of every table, and of a new one.
 use Rattle.ref_space.proofs.Common.{◌≡◌, ℕ, ◌<◌, ◌≤◌, ◌^◌, ◌∙◌, ◌*◌, ap, List, [], ◌∷◌, length, replicate, Option}
 use Rattle.ref_space.proofs.Common.{Some, None, arith, length-replicate, numbers, IsRising, cell_at, before}
-use Rattle.ref_space.proofs.Common.{tabled_by, seen_table, AllAbove, NoneAbove, Rises, IsSoundTable, Tabled, Use}
+use Rattle.ref_space.proofs.Common.{tabled_by, seen_table, AllAbove, NoneAbove, Rises, IsSoundTable, Tabled}
 use Rattle.ref_space.proofs.Common.{objects_of, AllUpTo, IsOrderlyTable, Entry}
 use Rattle.ref_space.proofs.Common.{by_number, target_by, occupants_of, map, length-map, refl}
 use Rattle.ref_space.proofs.Common.{Each, IsSoundNaming, leads_by, occupant_in, place_by, zero, suc, Bool, true}
 use Rattle.ref_space.proofs.Common.{◌+◌, ◌/◌, ◌%◌}
 use Rattle.ref_space.specs.Tables.{empty_table}
-use Rattle.ref_space.specs.ColouredWords.{IsCell, word_in_colour}
+use Rattle.ref_space.specs.ColouredWords.{IsCell}
 use Rattle.ref_space.specs.declared.colour.Colour.TheVariants.{R}
 use Rattle.ref_space.specs.declared.round.Round.{Round}
 use Rattle.ref_space.specs.declared.colour.Colour.{Colour}
 use Rattle.ref_space.proofs.WordLemmas.{place_by-word}
-use Rattle.ref_space.specs.Pages.{fresh_pages}
 use Rattle.ref_space.proofs.RoomLemmas.{fresh_taken}
 use Rattle.ref_space.proofs.FreeLemmas.{AreFree-fresh}
 use Rattle.ref_space.proofs.NamingLemmas.{dated}
+use Rattle.ref_space.specs.ColouredWords.{word_of_place}
+use Rattle.ref_space.proofs.Common.{Pages}
+use Rattle.ref_space.specs.Pages.{new_pages}
+use Rattle.ref_space.proofs.CallLemmas.{between-fresh}
 
 -- ---- numbers that rise
 
@@ -66,45 +69,43 @@ numbers-named : (name : Option ℕ → Option ℕ) (ks : List Tabled)
 numbers-named name [] = refl
 numbers-named name (k ∷ ks) = ap (λ ns. k.object.no ∷ ns) (numbers-named name ks)
 
-pub orderly : {round : Round} {first : ℕ} {cells : List (Option Tabled)} {es : List Entry} {ps : List Use}
+pub orderly : {round : Round} {cells : List (Option Tabled)} {es : List Entry} {pages : Pages}
     (slots : List (Option ℕ))
-    {last room count index_room marked : ℕ} → IsSoundTable round cells es ps last room count index_room marked
-    → IsSoundNaming round first cells es slots → IsOrderlyTable (seen_table round first cells es slots last room)
-orderly {round} {first} {cells} {es} {ps} slots {last} {room} sound naming =
-    let name = target_by first (occupants_of cells) in
+    {last room count index_room marked : ℕ} → IsSoundTable round cells es pages last room count index_room marked
+    → IsSoundNaming round cells es slots → IsOrderlyTable (seen_table round pages cells es slots last room)
+orderly {round} {cells} {es} {pages} slots {last} {room} sound naming =
+    let name = target_by (occupants_of cells) in
     let numbers = numbers-named name (tabled_by cells es) in
     record {
       rising = rw numbers (IsRising-tabled_by cells es sound.placed.rises);
       given = rw numbers (AllUpTo-tabled_by cells es last sound.placed.given);
       few = omega (arith, length-map (tabled_by cells es) (by_number name), sound.counted, sound.within);
       begun = naming.begun;
-      dated = dated round.number (leads_by round.good first (occupants_of cells)) name (tabled_by cells es) naming.led;
+      dated = dated round.number (leads_by round.good (occupants_of cells)) name (tabled_by cells es) naming.led;
     }
 
 -- ---- addresses
 
 -- each cell has a word
-pub has_address : {round : Round} {first : ℕ} {cells : List (Option Tabled)} {es : List Entry} {slots : List (Option ℕ)}
-    → IsSoundNaming round first cells es slots → (place : ℕ) → place < length cells
-    → IsCell (first + place / 64) (place % 64)
-has_address naming place within =
-    (omega (arith, naming.begins), omega (arith, naming.addresses, within), omega arith)
+pub has_word : {size : ℕ} → size ≤ 2 ^ 16 → (place : ℕ) → place < size → IsCell (1 + place / 64) (place % 64)
+has_word small place within = (omega arith, omega (arith, small, within), omega arith)
 
-pub word_place : (colour : Colour) (place first : ℕ) → IsCell (first + place / 64) (place % 64)
-    → place_by first (word_in_colour colour (first + place / 64) (place % 64)) ≡ Some place
-word_place colour place first at =
+pub word_place : (colour : Colour) (place : ℕ) → IsCell (1 + place / 64) (place % 64)
+    → place_by (word_of_place colour place) ≡ Some place
+word_place colour place at =
     let same : 64 * (place / 64) + place % 64 ≡ place = omega arith in
-    place_by-word colour first (place / 64) (place % 64) at ∙ ap Some same
+    place_by-word colour (place / 64) (place % 64) at ∙ ap Some same
 
 -- ---- a new table
 
-pub sound_new : {round : Round} {cells : List (Option Tabled)} {es : List Entry} {ps : List Use}
+pub sound_new : {round : Round} {cells : List (Option Tabled)} {es : List Entry} {pages : Pages}
     (first count room index_room : ℕ)
     → room ≤ 64 * count → 64 * count ≤ 2 ^ 16 → 128 * count ≤ index_room → cells ≡ replicate (64 * count) None
-    → es ≡ [] → ps ≡ fresh_pages first count → IsSoundTable round cells es ps 0 room 0 index_room 0
-sound_new {round} {cells} {es} {ps} first count room index_room fits small index_fits are none new =
+    → es ≡ [] → 1 ≤ first → first + count ≤ 2 ^ 32 → pages ≡ new_pages first count → IsSoundTable round cells es pages 0 room 0 index_room 0
+sound_new {round} {cells} {es} {pages} first count room index_room fits small index_fits are none begins addresses new =
     let size : length cells ≡ 64 * count = ap length are ∙ length-replicate (64 * count) None in
-    grind (arith, AreFree-fresh first count, fresh_taken first count, size)
+    let rising = between-fresh 1 first 0 count begins in
+    grind (arith, AreFree-fresh first count, fresh_taken first 0 count, size, rising)
 
 none_taken : (n p : ℕ) → cell_at (replicate n None) p ≡ None
 none_taken zero p = refl
@@ -116,19 +117,16 @@ all_null p null zero = tt
 all_null p null (suc n) = (null, all_null p null n)
 
 pub naming_new : {round : Round} {cells : List (Option Tabled)} {es : List Entry} {slots : List (Option ℕ)}
-    (first count n : ℕ)
-    → 1 ≤ round.number → 1 ≤ first → first + count ≤ 2 ^ 32 → cells ≡ replicate (64 * count) None → es ≡ []
+    (count n : ℕ)
+    → 1 ≤ round.number → cells ≡ replicate (64 * count) None → es ≡ []
     → slots ≡ replicate n None
-    → IsSoundNaming round first cells es slots
-naming_new {round} {cells} {es} {slots} first count n begun begins addresses are none nulls =
-    let size : length cells ≡ 64 * count = ap length are ∙ length-replicate (64 * count) None in
+    → IsSoundNaming round cells es slots
+naming_new {round} {cells} {es} {slots} count n begun are none nulls =
     record {
-      begins = begins;
       begun = begun;
-      addresses = omega (arith, size, addresses);
       listed = λ p k at.
           let free : cell_at cells p ≡ None = ap (λ cs. cell_at cs p) are ∙ none_taken (64 * count) p in absurd (cc);
-      rooted = rw nulls (all_null (leads_by round.good first (occupants_of cells) true) refl n);
+      rooted = rw nulls (all_null (leads_by round.good (occupants_of cells) true) refl n);
       led = rw none tt;
     }
 
@@ -137,20 +135,20 @@ pub map-nulls : {X : Type 0} (f : X → Option ℕ) (x : X) → f x ≡ None →
 map-nulls f x is zero = refl
 map-nulls f x is (suc n) = ap (λ v. v ∷ map f (replicate n x)) is ∙ ap (λ vs. None ∷ vs) (map-nulls f x is n)
 
-pub seen_new : {cells : List (Option Tabled)} {es : List Entry} {slots : List (Option ℕ)} (first count n room : ℕ)
-    → count ≡ (room + 63) / 64 → cells ≡ replicate (64 * count) None → es ≡ [] → slots ≡ replicate n None
-    → seen_table (record { number = 1; good = R }) first cells es slots 0 room ≡ empty_table room n first
-seen_new {cells} {es} {slots} first count n room fills are none nulls =
+pub seen_new : {cells : List (Option Tabled)} {es : List Entry} {slots : List (Option ℕ)} {pages : Pages}
+    (first count n room : ℕ) → count ≡ (room + 63) / 64 → pages ≡ new_pages first count → cells ≡ replicate (64 * count) None → es ≡ [] → slots ≡ replicate n None
+    → seen_table (record { number = 1; good = R }) pages cells es slots 0 room ≡ empty_table room n first
+seen_new {cells} {es} {slots} {pages} first count n room fills new are none nulls =
     let occupants = ap occupants_of are ∙ map-nulls occupant_in None refl (64 * count)
     ∙ ap (λ m. replicate (64 * m) None) fills in
-    let held = ap (map (target_by first (occupants_of cells))) nulls
-    ∙ map-nulls (target_by first (occupants_of cells)) None refl n in
+    let held = ap (map (target_by (occupants_of cells))) nulls
+    ∙ map-nulls (target_by (occupants_of cells)) None refl n in
     rw none (λ i. record {
       tabled = [];
       room = room;
       last = 0;
       slots = held i;
-      first = first;
+      pages = (new ∙ ap (new_pages first) fills) i;
       occupants = occupants i;
       round = record { number = 1; good = R };
     })

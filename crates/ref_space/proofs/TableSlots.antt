@@ -3,21 +3,22 @@ use Rattle.ref_space.specs.declared.round.Round.{Round}
 use Rattle.ref_space.proofs.Common.{◌≡◌, ℕ, ◌<◌, true, refl, sym, ◌∙◌, ap, subst, arith, List, length, get_or, set}
 use Rattle.ref_space.proofs.Common.{Option}
 use Rattle.ref_space.proofs.Common.{None, slice_index_or, get_or_read, length-map, IsSoundTable, IsSoundNaming, Tabled}
-use Rattle.ref_space.proofs.Common.{Entry, Use, Table, seen_table, slotted, held_at, target_of, target_by, occupants_of}
+use Rattle.ref_space.proofs.Common.{Entry, Table, seen_table, slotted, held_at, target_of, target_by, occupants_of}
 use Rattle.ref_space.proofs.Common.{leads_by}
 use Rattle.std.proofs.Math.ListN.{get_or-map}
 use Rattle.std.proofs.lemmas.List.{map-set}
 use Rattle.ref_space.specs.Naming.{IsHealed}
 use Rattle.ref_space.proofs.NamingLemmas.{each_at, each_set}
+use Rattle.ref_space.proofs.Common.{Pages}
 
-module _ {round : Round} {first : ℕ} {cells : List (Option Tabled)} {es : List Entry} {ps : List Use} {slots : List
+module _ {round : Round} {cells : List (Option Tabled)} {es : List Entry} {pages : Pages} {slots : List
     (Option ℕ)}
     {last room count index_room marked : ℕ}
-    (sound : IsSoundTable round cells es ps last room count index_room marked × IsSoundNaming round first cells es
+    (sound : IsSoundTable round cells es pages last room count index_room marked × IsSoundNaming round cells es
     slots)
-    {t : Table} (view : seen_table round first cells es slots last room ≡ t) (place : ℕ) where
+    {t : Table} (view : seen_table round pages cells es slots last room ≡ t) (place : ℕ) where
   abbrev name : Option ℕ → Option ℕ
-  name = target_by first (occupants_of cells)
+  name = target_by (occupants_of cells)
 
   -- ---- what a slot holds
 
@@ -32,7 +33,7 @@ module _ {round : Round} {first : ℕ} {cells : List (Option Tabled)} {es : List
     pub slot_leads : IsHealed t v
     slot_leads =
         subst (λ (s : Table). IsHealed s v) view
-        (rw read (each_at (leads_by round.good first (occupants_of cells) true) slots place refl sound.1.rooted))
+        (rw read (each_at (leads_by round.good (occupants_of cells) true) slots place refl sound.1.rooted))
 
     pub slot_named : target_of t v ≡ held_at t place
     slot_named =
@@ -43,23 +44,21 @@ module _ {round : Round} {first : ℕ} {cells : List (Option Tabled)} {es : List
 
   module _ (v : Option ℕ) where
     pub slot_sound : IsHealed t v
-        → IsSoundTable round cells es ps last room count index_room marked × IsSoundNaming round first cells es
+        → IsSoundTable round cells es pages last room count index_room marked × IsSoundNaming round cells es
         (set slots place v)
     slot_sound leads = (
       sound.0,
       record {
-        begins = sound.1.begins;
-        addresses = sound.1.addresses;
         listed = sound.1.listed;
         begun = sound.1.begun;
-        rooted = each_set (leads_by round.good first (occupants_of cells) true) slots place v
-            (ap (λ (s : Table). leads_by s.round.good s.first s.occupants true v) view ∙ leads) sound.1.rooted;
+        rooted = each_set (leads_by round.good (occupants_of cells) true) slots place v
+            (ap (λ (s : Table). leads_by s.round.good s.occupants true v) view ∙ leads) sound.1.rooted;
         led = sound.1.led;
       },
     )
 
     pub slot_seen : {n : Option ℕ} → target_of t v ≡ n
-        → seen_table round first cells es (set slots place v) last room ≡ slotted t place n
+        → seen_table round pages cells es (set slots place v) last room ≡ slotted t place n
     slot_seen {n} is =
-        ap (λ ns. record (seen_table round first cells es slots last room) { slots = ns }) (map-set name slots place v)
+        ap (λ ns. record (seen_table round pages cells es slots last room) { slots = ns }) (map-set name slots place v)
         ∙ ap (λ (s : Table). slotted s place (target_of s v)) view ∙ ap (slotted t place) is

@@ -29,10 +29,10 @@ coloured-same c d page other cell own at there same = grind arith
 
 -- ---- what is held
 
--- the cell's place among those of the pages from the first one on
-pub place_by-word : (colour : Colour) (first page cell : ℕ) → IsCell (first + page) cell
-    → place_by first (word_in_colour colour (first + page) cell) ≡ Some (64 * page + cell)
-place_by-word colour first page cell at = grind arith
+-- the cell's place
+pub place_by-word : (colour : Colour) (frame cell : ℕ) → IsCell (1 + frame) cell
+    → place_by (word_in_colour colour (1 + frame) cell) ≡ Some (64 * frame + cell)
+place_by-word colour frame cell at = grind arith
 
 -- it is the word of a cell, in this colour
 pub record IsGood (colour : Colour) (value : Option ℕ) : Type 0 where
@@ -58,10 +58,9 @@ good_leads colour None is = refl
 good_leads colour (Some word) is = both (is_word (Some word)) (has_colour colour (Some word)) is.word is.coloured
 
 -- the word of the same cell in another colour
-pub place_by-recoloured : (colour : Colour) (first : ℕ) (value : Option ℕ)
-    → place_by first (recoloured colour value) ≡ place_by first value
-place_by-recoloured colour first None = refl
-place_by-recoloured colour first (Some word) =
+pub place_by-recoloured : (colour : Colour) (value : Option ℕ) → place_by (recoloured colour value) ≡ place_by value
+place_by-recoloured colour None = refl
+place_by-recoloured colour (Some word) =
     let same : (colour_number colour * 2 ^ 62 + word % 2 ^ 62) % 2 ^ 62 ≡ word % 2 ^ 62 = omega arith in
     rw same refl
 

@@ -87,9 +87,22 @@ abbrev pub recoloured : Colour → Option ℕ → Option ℕ
 recoloured colour None = None
 recoloured colour (Some word) = Some (colour_number colour * 2 ^ 62 + word % 2 ^ 62)
 
--- where its cell stands among those of the pages that have this address and those behind it: none of null, and of a
--- word of a page in front of these
-abbrev pub place_by : ℕ → Option ℕ → Option ℕ
-place_by first None = None
-place_by first (Some word) =
-    if nat_le (64 * first) (word % 2 ^ 62) then Some (word % 2 ^ 62 - 64 * first) else None
+-- A heap's own words tell a page by its frame, which it keeps while its address changes: frame 0 in the place of page
+-- 1, so that no word is null. This is the word of the cell at a place, which is 64 * frame + cell.
+abbrev pub word_of_place : Colour → ℕ → Option ℕ
+word_of_place colour place = word_in_colour colour (1 + place / 64) (place % 64)
+
+-- where the cell of a heap's own word lies: none of null
+abbrev pub place_by : Option ℕ → Option ℕ
+place_by None = None
+place_by (Some word) = if nat_le 64 (word % 2 ^ 62) then Some (word % 2 ^ 62 - 64) else None
+
+-- an index at which a place is looked up: behind all places where there is none
+abbrev pub IsIndexOf : Option ℕ → ℕ → Type 0
+IsIndexOf None index = 2 ^ 63 ≤ index
+IsIndexOf (Some place) index = index ≡ place
+
+-- the bits of what is held, with the address of a page in the place of its frame
+abbrev pub bits_at : ℕ → Option ℕ → ℕ
+bits_at address None = 0
+bits_at address (Some word) = word / 2 ^ 62 * 2 ^ 62 + address * 64 + word % 64

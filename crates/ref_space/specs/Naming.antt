@@ -1,12 +1,13 @@
 -- Which object a word leads to (JEP 333, ZGC: a coloured pointer leads to its object's address), and objects that hold
 -- words as objects that hold numbers.
 use Rattle.std.specs.Prelude.{◌≡◌, ℕ, Bool, true, false, List, [], ◌∷◌, map, Option, Some, None, ◌||◌, ◌&&◌, not, ◌+◌}
-use Rattle.std.specs.Prelude.{◌-◌, ◌*◌, ◌≤◌}
+use Rattle.std.specs.Prelude.{◌*◌, ◌/◌, ◌≤◌}
 use Rattle.std.specs.Prelude.{slice_index_or}
 use Rattle.std.specs.Option.{option_map, is_none, is_some}
 use Rattle.ref_base.specs.Graphs.{Object, Reference}
-use Rattle.ref_space.specs.ColouredWords.{place_by, parts_of, is_word, has_colour, recoloured}
+use Rattle.ref_space.specs.ColouredWords.{place_by, parts_of, is_word, has_colour, recoloured, bits_at}
 use Rattle.ref_space.specs.declared.colour.Colour.{Colour}
+use Rattle.ref_space.specs.Pages.{Use, use_of}
 use Rattle.ref_space.specs.Tables.{Tabled, Table, is_healed, on_object, values_in, tabled_if, changed_if}
 
 -- ---- cells
@@ -27,13 +28,12 @@ abbrev pub occupant_at : List (Option ℕ) → Option ℕ → Option ℕ
 occupant_at os None = None
 occupant_at os (Some place) = slice_index_or os place None
 
--- the number of the object that a word leads to: none of null. By the address of the first page, and the number of the
--- object of each cell
-abbrev pub target_by : ℕ → List (Option ℕ) → Option ℕ → Option ℕ
-target_by first os value = occupant_at os (place_by first value)
+-- the number of the object that a word leads to: none of null. By the number of the object of each cell
+abbrev pub target_by : List (Option ℕ) → Option ℕ → Option ℕ
+target_by os value = occupant_at os (place_by value)
 
 abbrev pub target_of : Table → Option ℕ → Option ℕ
-target_of t value = target_by t.first t.occupants value
+target_of t value = target_by t.occupants value
 
 -- the object that it leads to
 abbrev pub tabled_of : Table → Option ℕ → Option Tabled
@@ -44,33 +44,41 @@ abbrev pub changed_of : Table → Option ℕ → (Tabled → Tabled) → Table
 changed_of t value f = changed_if t (target_of t value) f
 
 -- whether it is null, or a word that leads to an object, and has the good colour where it has to
-abbrev pub leads_by : Colour → ℕ → List (Option ℕ) → Bool → Option ℕ → Bool
-leads_by good first os has_to value =
+abbrev pub leads_by : Colour → List (Option ℕ) → Bool → Option ℕ → Bool
+leads_by good os has_to value =
     is_none value
-    || (is_some (target_by first os value) && (is_word value && (not has_to || has_colour good value)))
+    || (is_some (target_by os value) && (is_word value && (not has_to || has_colour good value)))
 
 abbrev pub HasTarget : Table → Option ℕ → Type 0
-HasTarget t value = leads_by t.round.good t.first t.occupants false value ≡ true
+HasTarget t value = leads_by t.round.good t.occupants false value ≡ true
 
 -- the same, and it has the good colour
 abbrev pub IsHealed : Table → Option ℕ → Type 0
-IsHealed t value = leads_by t.round.good t.first t.occupants true value ≡ true
+IsHealed t value = leads_by t.round.good t.occupants true value ≡ true
 
--- these are the bits of a word of an object that lies in one of these cells, the first of which are those of the first
--- page: of the good colour, where it has to be
-pub record IsWordOfObject (good : Colour) (first : ℕ) (os : List (Option ℕ)) (has_to : Bool) (n bits : ℕ) : Type 0 where
+-- these are the bits of a word of an object that lies in one of these cells, of which each frame has 64: of the page of
+-- its frame, and of the good colour where it has to be
+pub record IsWordOfObject (good : Colour) (pages : List Use) (os : List (Option ℕ)) (has_to : Bool) (n bits : ℕ)
+    : Type 0 where
   pub colour : Colour
-  pub page : ℕ
+  pub frame : ℕ
   pub cell : ℕ
-  pub parts : parts_of bits ≡ Some (colour, page, cell)
-  pub front : first ≤ page
-  pub lies : slice_index_or os (64 * (page - first) + cell) None ≡ Some n
+  pub parts : parts_of bits ≡ Some (colour, (use_of pages frame).address, cell)
+  pub lies : slice_index_or os (64 * frame + cell) None ≡ Some n
   pub healed : has_to ≡ true → colour ≡ good
 
 -- the bits of what is held, an object or null
-abbrev pub IsWordHeld : Colour → ℕ → List (Option ℕ) → Bool → Option ℕ → ℕ → Type 0
-IsWordHeld good first os has_to None bits = bits ≡ 0
-IsWordHeld good first os has_to (Some n) bits = IsWordOfObject good first os has_to n bits
+abbrev pub IsWordHeld : Colour → List Use → List (Option ℕ) → Bool → Option ℕ → ℕ → Type 0
+IsWordHeld good pages os has_to None bits = bits ≡ 0
+IsWordHeld good pages os has_to (Some n) bits = IsWordOfObject good pages os has_to n bits
+
+-- the bits of what is held, with the address of its frame's page
+abbrev pub frame_at : Option ℕ → ℕ
+frame_at None = 0
+frame_at (Some place) = place / 64
+
+abbrev pub bits_told : List Use → Option ℕ → ℕ
+bits_told pages value = bits_at (use_of pages (frame_at (place_by value))).address value
 
 -- each of these passes a test
 abbrev pub Each : (Option ℕ → Bool) → List (Option ℕ) → Type 0

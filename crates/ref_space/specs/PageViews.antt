@@ -1,9 +1,22 @@
 -- What holds of the fields of the pages of a heap.
-use Rattle.std.specs.Prelude.{ℕ, ◌≤◌, List, length, take}
-use Rattle.ref_space.specs.Pages.{Use, NoneHasRoom, AreWhole}
+use Rattle.std.specs.Prelude.{◌≡◌, ℕ, ◌+◌, ◌^◌, ◌<◌, ◌≤◌, List, length, take, slice_index_or}
+use Rattle.ref_space.specs.Pages.{Use, use_at, NoneHasRoom, AreWhole, AreBetween, AreFramed, chosen_frames}
 
--- each page has 64 cells, and none has room in front of the place from which the next free cell is looked for
-pub record ArePages (ps : List Use) (first_open : ℕ) : Type 0 where
+-- the list of places has of the frame of each of the first k pages where that page stands
+abbrev pub AreMapped : ℕ → List Use → List ℕ → Type 0
+AreMapped k ps places = (page : ℕ) → page < k → slice_index_or places (use_at ps page).frame 0 ≡ page
+
+-- each page has 64 cells; none has room in front of the place from which the next free cell is looked for; frames lead
+-- to pages; and addresses rise, of which enough are left for the chosen pages
+pub record ArePages (ps : List Use) (places chosen : List ℕ) (next first_open room spare : ℕ) : Type 0 where
   pub whole : AreWhole ps
   pub within : first_open ≤ length ps
   pub full : NoneHasRoom (take first_open ps)
+  pub framed : AreFramed ps
+  pub sized : length places ≡ length ps
+  pub mapped : AreMapped (length ps) ps places
+  pub listed : chosen ≡ chosen_frames ps
+  pub rising : AreBetween 0 ps next
+  pub addresses : next + length (chosen_frames ps) ≤ 2 ^ 32
+  pub pages_fit : length ps ≤ room
+  pub chosen_fit : length ps ≤ spare

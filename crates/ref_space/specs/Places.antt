@@ -1,11 +1,11 @@
 -- How the table lies in memory: cells by place, 64 a page, an index of places by number, and the cells that are free.
-use Rattle.std.specs.Prelude.{◌≡◌, ℕ, suc, ◌+◌, ◌*◌, ◌<◌, ◌≤◌, ◌^◌, Bool, true, false, ◌==◌, ◌&&◌, not}
+use Rattle.std.specs.Prelude.{◌≡◌, ℕ, suc, ◌*◌, ◌<◌, ◌≤◌, ◌^◌, Bool, true, false, ◌==◌, ◌&&◌, not}
 use Rattle.std.specs.Prelude.{if◌then◌else◌, nat_lt, List, [], ◌∷◌, length, map, Option, Some, None, slice_index_or}
 use Rattle.std.specs.Prelude.{slice_set}
 use Rattle.std.specs.List.{filter}
 use Rattle.std.specs.Borrow.{Bor}
 use Rattle.ref_base.specs.Graphs.{Reference}
-use Rattle.ref_space.specs.Pages.{Use, free_in, taken_of, AreWhole}
+use Rattle.ref_space.specs.Pages.{Use, Pages, free_in, taken_of, AreWhole, AreUnmoved, AreBetween}
 use Rattle.std.specs.Option.{option_map, is_none, is_some}
 use Rattle.ref_space.specs.ColouredWords.{place_by}
 use Rattle.ref_space.specs.Tables.{Tabled, Table, is_marked, marked_of, with_nothing_done, blanked_unless_marked}
@@ -81,9 +81,9 @@ abbrev pub at_place : List (Option Tabled) → Option ℕ → Option Tabled
 at_place cells None = None
 at_place cells (Some place) = cell_at cells place
 
--- what the cell of a word holds, in pages of which this is the first one's address: nothing of null
-abbrev pub cell_of_word : List (Option Tabled) → ℕ → Option ℕ → Option Tabled
-cell_of_word cells first value = at_place cells (place_by first value)
+-- what the cell of a word holds: nothing of null
+abbrev pub cell_of_word : List (Option Tabled) → Option ℕ → Option Tabled
+cell_of_word cells value = at_place cells (place_by value)
 
 -- a place, if its cell holds an object
 abbrev pub place_if_taken : List (Option Tabled) → Option ℕ → Option ℕ
@@ -91,8 +91,8 @@ place_if_taken cells None = None
 place_if_taken cells (Some place) = if is_some (cell_at cells place) then Some place else None
 
 -- the place of the cell of a word, if an object lies there
-abbrev pub place_of_word : List (Option Tabled) → ℕ → Option ℕ → Option ℕ
-place_of_word cells first value = place_if_taken cells (place_by first value)
+abbrev pub place_of_word : List (Option Tabled) → Option ℕ → Option ℕ
+place_of_word cells value = place_if_taken cells (place_by value)
 
 -- how many entries in front are of numbers below n
 abbrev pub count_below : List Entry → ℕ → ℕ
@@ -119,9 +119,10 @@ abbrev pub Rises : List Entry → Type 0
 Rises [] = Unit {0}
 Rises (e ∷ es) = AllAbove e.no es × Rises es
 
--- each page has 64 cells, and those are free that hold nothing
+-- each page has 64 cells, those are free that hold nothing, and nothing ever moved
 pub record AreFree (cells : List (Option Tabled)) (pages : List Use) : Type 0 where
   pub whole : AreWhole pages
+  pub unmoved : AreUnmoved 0 pages
   pub empty : map is_none cells ≡ free_in pages
 
 -- the index as it is before one more entry: where it has this many already, its gaps are closed
@@ -134,17 +135,19 @@ AreIndexed cells index =
     (place : ℕ) (k : Tabled) → cell_at cells place ≡ Some k → place_in index k.object.no ≡ Some place
 
 -- what holds of a table's cells, index and pages: each object has its entry, and each cell without one is free
-pub record IsPlaced (cells : List (Option Tabled)) (index : List Entry) (pages : List Use) (last : ℕ) : Type 0 where
+pub record IsPlaced (cells : List (Option Tabled)) (index : List Entry) (pages : Pages) (last : ℕ) : Type 0 where
   pub rises : Rises index
   pub given : NoneAbove last index
-  pub free : AreFree cells pages
-  pub taken : taken_of pages ≡ length (tabled_by cells index)
+  pub free : AreFree cells pages.uses
+  pub taken : taken_of pages.uses ≡ length (tabled_by cells index)
+  pub rising : AreBetween 1 pages.uses pages.next
+  pub addressed : pages.next ≤ 2 ^ 32
   pub small : length cells ≤ 2 ^ 16
   pub few : length index ≤ 2 * length cells
 
 -- what holds of a table's fields: that, there are cells for as many objects as there may be, no push to the index ever
 -- takes memory, and the objects and the marked ones are counted
-pub record IsSoundTable (round : Round) (cells : List (Option Tabled)) (index : List Entry) (pages : List Use)
+pub record IsSoundTable (round : Round) (cells : List (Option Tabled)) (index : List Entry) (pages : Pages)
     (last room count index_room marked : ℕ) : Type 0 where
   pub placed : IsPlaced cells index pages last
   pub cells_fit : room ≤ length cells
@@ -155,32 +158,28 @@ pub record IsSoundTable (round : Round) (cells : List (Option Tabled)) (index : 
 
 -- what holds of words: each cell has one, each object has its entry, and each word that a slot or an object holds leads
 -- to an object; those of slots and of healed objects have the good colour
-pub record IsSoundNaming (round : Round) (first : ℕ) (cells : List (Option Tabled)) (index : List Entry)
-    (slots : List (Option ℕ))
+pub record IsSoundNaming (round : Round) (cells : List (Option Tabled)) (index : List Entry) (slots : List (Option ℕ))
     : Type 0 where
-  pub begins : 1 ≤ first
-  pub addresses : 64 * first + length cells ≤ 2 ^ 38
   pub listed : AreIndexed cells index
-  pub rooted : Each (leads_by round.good first (occupants_of cells) true) slots
+  pub rooted : Each (leads_by round.good (occupants_of cells) true) slots
   pub begun : 1 ≤ round.number
-  pub led : EachHeld round.number (leads_by round.good first (occupants_of cells)) (tabled_by cells index)
+  pub led : EachHeld round.number (leads_by round.good (occupants_of cells)) (tabled_by cells index)
 
 -- the objects that the index leads to, and what slots hold, with numbers in the place of words
-abbrev pub named_tabled : ℕ → List (Option Tabled) → List Entry → List Tabled
-named_tabled first cells index =
-    map (by_number (target_by first (occupants_of cells))) (tabled_by cells index)
+abbrev pub named_tabled : List (Option Tabled) → List Entry → List Tabled
+named_tabled cells index = map (by_number (target_by (occupants_of cells))) (tabled_by cells index)
 
-abbrev pub named_slots : ℕ → List (Option Tabled) → List (Option ℕ) → List (Option ℕ)
-named_slots first cells slots = map (target_by first (occupants_of cells)) slots
+abbrev pub named_slots : List (Option Tabled) → List (Option ℕ) → List (Option ℕ)
+named_slots cells slots = map (target_by (occupants_of cells)) slots
 
 -- what a contract sees of a table's fields
-abbrev pub seen_table : Round → ℕ → List (Option Tabled) → List Entry → List (Option ℕ) → ℕ → ℕ → Table
-seen_table round first cells index slots last room = record {
-  tabled = named_tabled first cells index;
+abbrev pub seen_table : Round → Pages → List (Option Tabled) → List Entry → List (Option ℕ) → ℕ → ℕ → Table
+seen_table round pages cells index slots last room = record {
+  tabled = named_tabled cells index;
   room = room;
   last = last;
-  slots = named_slots first cells slots;
-  first = first;
+  slots = named_slots cells slots;
+  pages = pages;
   occupants = occupants_of cells;
   round = round;
 }

@@ -1,6 +1,6 @@
 -- The heap's table of objects, as plain data, and the changes that calls make to it (package `java.lang.ref` of Java SE
 -- 17; numbers, holds and a heap's room: this project's profile).
-use Rattle.std.specs.Prelude.{◌≡◌, ℕ, ◌+◌, ◌-◌, ◌*◌, ◌/◌, ◌^◌, ◌≤◌, Bool, true, false, not, ◌==◌, ◌&&◌, ◌||◌}
+use Rattle.std.specs.Prelude.{◌≡◌, ℕ, suc, ◌+◌, ◌-◌, ◌*◌, ◌/◌, ◌%◌, ◌^◌, ◌≤◌, Bool, true, false, not, ◌==◌, ◌&&◌, ◌||◌}
 use Rattle.std.specs.Prelude.{if◌then◌else◌}
 use Rattle.std.specs.Prelude.{nat_le, nat_lt}
 use Rattle.std.specs.Prelude.{List, [], ◌∷◌, ◌++◌, length, map, replicate, Option, Some, None}
@@ -22,6 +22,7 @@ use Rattle.ref_space.specs.declared.colour.Colour.TheVariants.{R}
 use Rattle.ref_space.specs.declared.cell.Change.TheVariants.{Cut, Stamp, ClearedIn, ClearIn, Link}
 use Rattle.ref_space.specs.declared.linked.Linked.{Linked}
 use Rattle.ref_space.specs.declared.linked.Look.{Look}
+use Rattle.ref_space.specs.Pages.{Pages, new_pages, with_placed, with_given}
 use Rattle.ref_space.specs.Worklists.{Worklist}
 
 -- an object of the table, how many holds of it are out, the round in which it was marked last, and that in which it was
@@ -36,14 +37,14 @@ pub record Tabled : Type 0 where
   pub cleared_in : ℕ
 
 -- the objects that there are, in order of number, how many there may be, the greatest number that was ever given, and
--- what each slot holds, an object or null; where the objects lie: the address of the first page, and of each cell, by
--- place, the number of its object; and the round that goes on
+-- what each slot holds, an object or null; where the objects lie: the pages, and of each cell, by place, the number of
+-- its object, the cells of frame f at the places from 64 * f on; and the round that goes on
 pub record Table : Type 0 where
   pub tabled : List Tabled
   pub room : ℕ
   pub last : ℕ
   pub slots : List (Option ℕ)
-  pub first : ℕ
+  pub pages : Pages
   pub occupants : List (Option ℕ)
   pub round : Round
 
@@ -54,7 +55,7 @@ empty_table room slots first = record {
   room = room;
   last = 0;
   slots = replicate slots None;
-  first = first;
+  pages = new_pages first ((room + 63) / 64);
   occupants = replicate (64 * ((room + 63) / 64)) None;
   round = record { number = 1; good = R };
 }
@@ -206,10 +207,23 @@ abbrev pub without_occupant : List (Option ℕ) → ℕ → List (Option ℕ)
 without_occupant [] n = []
 without_occupant (o ∷ os) n = (if is_number o n then None else o) ∷ without_occupant os n
 
+-- the place of the cell of the object of number n: how many there are where it lies nowhere
+abbrev pub place_of_number : List (Option ℕ) → ℕ → ℕ
+place_of_number [] n = 0
+place_of_number (o ∷ os) n = if is_number o n then 0 else suc (place_of_number os n)
+
+-- the pages once that cell is given back
+abbrev pub with_vacated : Pages → List (Option ℕ) → ℕ → Pages
+with_vacated ps os n = with_given ps (place_of_number os n / 64) (place_of_number os n % 64)
+
 -- the table without the object of number n
 abbrev pub without_object : Table → ℕ → Table
 without_object t n =
-    record t { tabled = without_tabled t.tabled n; occupants = without_occupant t.occupants n }
+    record t {
+      tabled = without_tabled t.tabled n;
+      pages = with_vacated t.pages t.occupants n;
+      occupants = without_occupant t.occupants n;
+    }
 
 -- an object that nobody holds, without a link, never cleared and of so many null fields: it is healed
 abbrev pub made_entry : ℕ → ℕ → ℕ → Option Reference → Bool → Tabled
@@ -228,6 +242,7 @@ with_tabled t into k = record t {
   tabled = t.tabled ++ k ∷ [];
   last = k.object.no;
   slots = slice_set t.slots into (Some k.object.no);
+  pages = with_placed t.pages;
   occupants = with_occupant t.occupants k.object.no;
 }
 

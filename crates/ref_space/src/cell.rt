@@ -5,7 +5,7 @@ ghost use Rattle.std.specs.Option.{option_map};
 ghost use Rattle.ref_base.specs.Heaps.{with_field, with_reference, with_stamp, cleared};
 ghost use Rattle.ref_space.specs.Places.{is_of, is_held_as, is_unmarked_as, begun_cell, condemned_cell};
 ghost use Rattle.ref_space.specs.Naming.{by_number, with_referent, with_referent_in};
-ghost use Rattle.ref_space.specs.ColouredWords.{recoloured, bits_held};
+ghost use Rattle.ref_space.specs.ColouredWords.{recoloured};
 ghost use Rattle.ref_space.specs.Tables.{made_entry, tabled_fields, has_field, holds_in};
 ghost use Rattle.ref_space.specs.Tables.{on_object, may_hold, more_held_if, less_held};
 ghost use Rattle.ref_space.specs.Tables.{is_marked_in, is_unmarked_in, with_marked, with_healed};
@@ -258,16 +258,6 @@ impl Cell {
             Some(self.fields.get(field))
         } else {
             None
-        }
-    }
-
-    /// The bits of what a field of the object holds: none where there is no such field.
-    pub(crate) fn bits(&self, field: usize) -> Option<u64>
-        ensures { result ≡ option_map bits_held (field_in_cell self.now field) }
-    {
-        match self.field(field) {
-            Some(value) => Some(value.bits()),
-            None => None,
         }
     }
 

@@ -1,7 +1,6 @@
 //! An object's fields.
 
-ghost use Rattle.std.specs.Prelude.{◌≡◌, ◌≤◌, ◌<◌, ◌++◌, ◌∷◌, [], Some, length, map, replicate, slice_index_or};
-ghost use Rattle.ref_base.specs.Paths.{if_any};
+ghost use Rattle.std.specs.Prelude.{◌≡◌, ◌≤◌, ◌<◌, ◌++◌, ◌∷◌, [], length, replicate, slice_index_or};
 
 use ref_base::{MOST_FIELDS, ObjNo};
 use std::marker::Model;
@@ -53,16 +52,6 @@ impl Fields {
             values[field]
         } else {
             None
-        }
-    }
-
-    /// This one more, last, if it is one.
-    pub(crate) fn push_if_any(&mut self, value: Option<ObjNo>)
-        requires { length self.old < 8 }
-        ensures { self.new ≡ self.old ++ map Some (if_any value) }
-    {
-        if value.is_some() {
-            self.push(value);
         }
     }
 

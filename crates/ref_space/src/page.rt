@@ -2,7 +2,8 @@
 
 ghost use Rattle.std.specs.Prelude.{◌≡◌, ◌<◌, Some, true, false, slice_index_or};
 ghost use Rattle.ref_space.specs.Bits.{first_set, any_set};
-ghost use Rattle.ref_space.specs.Pages.{fresh_page, with_free, taken_cells};
+ghost use Rattle.ref_space.specs.Pages.{fresh_page, with_free, taken_cells, has_open_cell, is_sparse};
+ghost use Rattle.ref_space.specs.Pages.{chosen_if_sparse};
 
 use std::marker::Model;
 
@@ -10,6 +11,10 @@ use std::marker::Model;
 #[derive(Drop)]
 pub(crate) struct Page {
     address: u32,
+    // Its cell c is cell c of this frame, wherever the page stands.
+    frame: u32,
+    // Whether its objects are to move. Then none is placed in it.
+    chosen: bool,
     // Bit n is set where cell n is free.
     free: u64,
 }
@@ -20,16 +25,23 @@ impl Model for Page {
 
     ghost Value = { Use };
 
-    ghost view = { λ p. record { address = p.address; free = bits_of p.free } };
+    ghost view = { λ p. record {
+      address = p.address;
+      frame = p.frame;
+      chosen = p.chosen;
+      free = bits_of p.free;
+    } };
 }
 
 impl Page {
-    /// A page at this address, with all cells free.
-    pub(crate) fn fresh(address: u32) -> Self
-        ensures { result ≡ fresh_page address }
+    /// An open page at this address, with all cells of this frame free.
+    pub(crate) fn fresh(address: u32, frame: u32) -> Self
+        ensures { result ≡ fresh_page address frame }
     {
         Page {
             address,
+            frame,
+            chosen: false,
             free: u64::MAX,
         }
     }
@@ -41,11 +53,45 @@ impl Page {
         self.address
     }
 
-    /// Whether it has a free cell.
-    pub(crate) fn has_room(&self) -> bool
-        ensures { result ≡ any_set self.now.free }
+    /// Its frame.
+    pub(crate) fn frame(&self) -> u32
+        ensures { result ≡ self.now.frame }
     {
-        self.free != 0
+        self.frame
+    }
+
+    /// Whether its objects are to move.
+    pub(crate) fn is_chosen(&self) -> bool
+        ensures { result ≡ self.now.chosen }
+    {
+        self.chosen
+    }
+
+    /// Chooses it, where at least one of its cells is taken and at most half of them are. Answers whether that is so.
+    pub(crate) fn choose_if_sparse(&mut self) -> bool
+        ensures answer { result ≡ is_sparse self.old }
+        ensures after { self.new ≡ chosen_if_sparse self.old }
+    {
+        let is_sparse = self.is_sparse();
+        if is_sparse {
+            self.chosen = true;
+        }
+        is_sparse
+    }
+
+    /// Whether it is open and has a free cell.
+    pub(crate) fn has_room(&self) -> bool
+        ensures { result ≡ has_open_cell self.now }
+    {
+        !self.chosen && self.free != 0
+    }
+
+    /// Whether at least one of its cells is taken, and at most half of them are.
+    pub(crate) fn is_sparse(&self) -> bool
+        ensures { result ≡ is_sparse self.now }
+    {
+        let taken = self.taken();
+        0 < taken && taken <= 32
     }
 
     /// Its lowest free cell.

@@ -6,7 +6,7 @@ ghost use Rattle.std.specs.Prelude.{is_some, map, replicate, if◌then◌else◌
 ghost use Rattle.std.specs.Option.{option_map};
 ghost use Rattle.std.specs.Bool.{OnFalse};
 ghost use Rattle.ref_space.specs.Places.{begun_cell};
-ghost use Rattle.ref_space.specs.ColouredWords.{IsCell, word_in_colour, recoloured};
+ghost use Rattle.ref_space.specs.ColouredWords.{recoloured};
 
 mod by_word;
 mod scan;
@@ -31,18 +31,16 @@ use std::alloc::{AllocError, Allocator, Global};
 use std::marker::Model;
 
 /// The objects of a heap, each with a count of holds and a mark. All memory is taken by `new`: for each cell 160 bytes
-/// of its own and 16 of the index, and 16 for each page of 64 cells.
+/// of its own and 16 of the index, and 32 for each page of 64 cells.
 #[derive(Drop)]
 pub struct Table<A: Allocator = Global> {
-    // Cell c of page p stands at place 64 * p + c.
+    // Cell c of frame f stands at place 64 * f + c.
     cells: Vec<Cell, A>,
     // In order of number. It has room for two entries a cell, so gaps are closed at most once in as many new objects as
     // there are cells.
     index: Vec<Entry, A>,
     // Which cells are free. A new object gets the lowest of the first page that has one.
     pages: Pages<A>,
-    // The address of the first page. The others follow it.
-    first_page: u32,
     // The round that goes on.
     round: Round,
     // What the slots hold.
@@ -65,11 +63,11 @@ impl<A: Allocator> Model for Table<A> {
 
     ghost use Rattle.ref_space.specs.Places.{IsSoundTable, IsSoundNaming, seen_table};
 
-    ghost view = { λ t. seen_table t.round t.first_page t.cells.items t.index.items t.slots.items t.last t.room };
+    ghost view = { λ t. seen_table t.round t.pages t.cells.items t.index.items t.slots.items t.last t.room };
 
     ghost invariant = { λ t. IsSoundTable t.round t.cells.items t.index.items t.pages t.last t.room t.count
         (vec_capacity t.index) t.marked
-        × IsSoundNaming t.round t.first_page t.cells.items t.index.items t.slots.items };
+        × IsSoundNaming t.round t.cells.items t.index.items t.slots.items };
 }
 
 impl<A: Allocator + Copy> Table<A> {
@@ -91,7 +89,8 @@ impl<A: Allocator + Copy> Table<A> {
     ghost use Rattle.ref_base.specs.CollectorRows.{referent_of};
     ghost use Rattle.ref_space.specs.Tables.{made_of, IsUnnamed};
     ghost use Rattle.ref_space.specs.Worklists.{emptied_list, with_more};
-    ghost use Rattle.ref_space.specs.Naming.{target_of, IsHealed, IsWordHeld, by_number, reference_by_number};
+    ghost use Rattle.ref_space.specs.Naming.{target_of, HasTarget, IsHealed, IsWordHeld, by_number, reference_by_number};
+    ghost use Rattle.ref_space.specs.Naming.{bits_told};
 
     /// A table of no objects, with room for so many, in pages at this address and those that follow it, and with so
     /// many slots, each empty. The one error is `NoMemory`.
@@ -121,7 +120,6 @@ impl<A: Allocator + Copy> Table<A> {
             cells,
             index,
             pages,
-            first_page,
             round: Round::FIRST,
             slots,
             room,
@@ -177,13 +175,27 @@ impl<A: Allocator + Copy> Table<A> {
     /// no such object or field. The word is one of the cell in which the field's object lies.
     pub fn word_at(&self, no: ObjNo, field: usize) -> Option<u64>
         ensures there { is_some result ≡ has_field (tabled_at self.now.tabled no) field }
-        ensures word { IfSome result (IsWordHeld self.now.round.good self.now.first self.now.occupants
+        ensures word { IfSome result (IsWordHeld self.now.round.good self.now.pages.uses self.now.occupants
             (is_healed_in self.now.round.number (tabled_at self.now.tabled no))
             (field_held (tabled_at self.now.tabled no) field)) }
     {
         match cell_of(&self.cells, &self.index, no) {
-            Some(cell) => cell.bits(field),
+            Some(cell) => match cell.field(field) {
+                Some(value) => Some(self.told_bits(value)),
+                None => None,
+            },
             None => None,
+        }
+    }
+
+    // The bits of a word with the address of its page in the place of the frame: 0 for null.
+    fn told_bits(&self, value: Word) -> u64
+        requires { HasTarget self.now value }
+        ensures { result ≡ bits_told self.now.pages.uses value }
+    {
+        match value.place() {
+            Some(place) => value.bits_at(self.pages.address(place as usize / 64)),
+            None => 0,
         }
     }
 
@@ -217,7 +229,7 @@ impl<A: Allocator + Copy> Table<A> {
         ensures healed { IsHealed self.now result }
     {
         match place_of(&self.cells, &self.index, no) {
-            Some(place) => word_at(self.round.good, self.first_page, place),
+            Some(place) => Word::of_place(self.round.good, place as u32),
             None => Word::null(),
         }
     }
@@ -392,7 +404,7 @@ impl<A: Allocator + Copy> Table<A> {
         self.last = no;
         self.count += 1;
         self.marked += usize::from(marked);
-        self.slots[into] = word_at(self.round.good, self.first_page, place);
+        self.slots[into] = Word::of_place(self.round.good, place as u32);
     }
 
     // What the cell of a new reference has of it.
@@ -555,16 +567,4 @@ fn empty_slots<A: Allocator>(alloc: A, count: usize) -> Result<Vec<Word, A>, All
         slots.push_reserved(Word::null());
     }
     Ok(slots)
-}
-
-// The word of the cell at this place in this colour, where the first page has this address.
-fn word_at(colour: Colour, first_page: u32, place: usize) -> Word
-    requires { IsCell (first_page + place / 64) (place % 64) }
-    ensures { result ≡ word_in_colour colour (first_page + place / 64) (place % 64) }
-{
-    Word::of(
-        colour,
-        first_page + (place / 64) as u32,
-        (place % 64) as u32,
-    )
 }

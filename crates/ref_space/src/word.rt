@@ -1,14 +1,15 @@
 //! What a slot or a field holds.
 
-ghost use Rattle.std.specs.Prelude.{◌≡◌, ◌≤◌, None};
+ghost use Rattle.std.specs.Prelude.{◌≡◌, ◌-◌, ◌^◌, ◌<◌, None};
 ghost use Rattle.std.specs.Option.{is_none};
-ghost use Rattle.ref_space.specs.ColouredWords.{IsCell, place_by, word_in_colour, has_colour, recoloured, bits_held};
+ghost use Rattle.ref_space.specs.ColouredWords.{place_by, word_of_place, has_colour, recoloured, bits_at, IsIndexOf};
 
 use crate::colour::Colour;
 use crate::words::{has_colour, word_of};
 use std::marker::Model;
 
-/// What a slot or a field holds: null, or the coloured word of a cell. In a clause it is that word, if there is one.
+/// What a slot or a field holds: null, or the coloured word of a cell. It has the cell's frame, counted from 1 on, where
+/// the format has the address of the frame's page. In a clause it is that word, if there is one.
 #[derive(Clone, Copy)]
 pub struct Word {
     // 0 is null.
@@ -36,13 +37,14 @@ impl Word {
         Word { bits: 0 }
     }
 
-    /// The word of a cell of the page at this address, in this colour. The page is from 1 on, and the cell below 64.
-    pub fn of(colour: Colour, page: u32, cell: u32) -> Self
-        requires { IsCell page cell }
-        ensures { result ≡ word_in_colour colour page cell }
+    /// The word of the cell at this place, which is below 2^32 - 64, in this colour.
+    #[inline(always)]
+    pub fn of_place(colour: Colour, place: u32) -> Self
+        requires { place < 2 ^ 32 - 64 }
+        ensures { result ≡ word_of_place colour place }
     {
         Word {
-            bits: word_of(colour, page, cell),
+            bits: word_of(colour, 1 + place / 64, place % 64),
         }
     }
 
@@ -75,21 +77,29 @@ impl Word {
         }
     }
 
-    /// Its bits: 0 for null.
-    pub fn bits(self) -> u64
-        ensures { result ≡ bits_held self }
+    /// Its bits with this address of a page in the place of its frame, which is what the format has: 0 for null.
+    pub fn bits_at(self, address: u32) -> u64
+        ensures { result ≡ bits_at address self }
     {
-        self.bits
+        if self.is_null() {
+            return 0;
+        }
+        (self.bits >> 62 << 62) + u64::from(address) * 64 + self.bits % 64
     }
 
-    /// The place of its cell among those of the pages at this address and those that follow it: none of null, and of a
-    /// word of a page in front of these. The address is from 1 on.
-    #[inline(always)]
-    pub fn place(self, first_page: u32) -> Option<u64>
-        requires { 1 ≤ first_page }
-        ensures { result ≡ place_by first_page self }
+    /// Where its cell lies, by place: none of null.
+    pub fn place(self) -> Option<u64>
+        ensures { result ≡ place_by self }
     {
-        // The bits of null are in front of each page's.
-        (self.bits % (1 << 62)).checked_sub(64 * u64::from(first_page))
+        // The bits of null are in front of each frame's.
+        (self.bits % (1 << 62)).checked_sub(64)
+    }
+
+    /// The same, and behind all places for null, so that one test serves for both.
+    #[inline(always)]
+    pub fn index(self) -> usize
+        ensures { IsIndexOf (place_by self) result }
+    {
+        (self.bits % (1 << 62)).wrapping_sub(64) as usize
     }
 }

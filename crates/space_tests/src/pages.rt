@@ -1,99 +1,137 @@
 //! Where objects are placed, call by call.
 
 mod memory;
+mod moves;
 mod stories;
 
+use ref_base::Fault;
 use ref_space::Pages;
 use std::alloc::Allocator;
 use std::process::Abort;
 
-/// A call of two pages at addresses 7 and 8.
+/// A call of some pages.
 #[derive(Clone, Copy)]
 enum Call {
     Place,
-    /// As many places as this page has cells from the first number on and below the second.
+    /// As many places as this frame has cells from the first number on and below the second.
     Fill(usize, u32, u32),
     Give(usize, u32),
+    /// Gives these cells of a frame.
+    Empty(usize, u32, u32),
     IsFree(usize, u32),
     Taken(usize),
     Address(usize),
     Len,
+    HasChosen,
+    Choose,
+    Renumber,
 }
 
 /// What it answers.
 #[derive(Clone, Copy, Debug, PartialEq, Eq)]
 enum Told {
     Done,
-    /// At this page and cell.
+    /// At this frame and cell.
     At(usize, u32),
     Nowhere,
     Yes,
     No,
-    Number(usize),
-    /// It asks for a page or a cell that isn't there.
+    Number(u64),
+    Refused(Fault),
+    /// It asks for a page or a cell that isn't there, or for a second choice.
     NotAsked,
 }
 
 fn placed(answer: Option<(usize, u32)>) -> Told {
     match answer {
-        Some((page, cell)) => Told::At(page, cell),
+        Some((frame, cell)) => Told::At(frame, cell),
         None => Told::Nowhere,
     }
 }
 
 /// Done where each is placed in the next of these cells, and else the first other answer.
-fn fill<A: Allocator>(pages: &mut Pages<A>, page: usize, from: u32, below: u32) -> Told {
+fn fill<A: Allocator>(pages: &mut Pages<A>, frame: usize, from: u32, below: u32) -> Told {
     for cell in from..below {
         let told = placed(pages.place());
-        if told != Told::At(page, cell) {
+        if told != Told::At(frame, cell) {
             return told;
         }
     }
     Told::Done
 }
 
-fn give<A: Allocator>(pages: &mut Pages<A>, page: usize, cell: u32) -> Told {
-    if page >= pages.len() || cell >= 64 {
+fn give<A: Allocator>(pages: &mut Pages<A>, frame: usize, cell: u32) -> Told {
+    if frame >= pages.len() || cell >= 64 {
         return Told::NotAsked;
     }
-    pages.give(page, cell);
+    pages.give(frame, cell);
     Told::Done
 }
 
-fn is_free<A: Allocator>(pages: &Pages<A>, page: usize, cell: u32) -> Told {
-    if page >= pages.len() || cell >= 64 {
+/// Done where each of these cells is given, and else the first other answer.
+fn empty<A: Allocator>(pages: &mut Pages<A>, frame: usize, from: u32, below: u32) -> Told {
+    for cell in from..below {
+        let told = give(pages, frame, cell);
+        if told != Told::Done {
+            return told;
+        }
+    }
+    Told::Done
+}
+
+fn yes_or_no(answer: bool) -> Told {
+    if answer { Told::Yes } else { Told::No }
+}
+
+fn is_free<A: Allocator>(pages: &Pages<A>, frame: usize, cell: u32) -> Told {
+    if frame >= pages.len() || cell >= 64 {
         return Told::NotAsked;
     }
-    if pages.is_free(page, cell) {
-        Told::Yes
-    } else {
-        Told::No
+    yes_or_no(pages.is_free(frame, cell))
+}
+
+fn taken<A: Allocator>(pages: &Pages<A>, frame: usize) -> Told {
+    if frame >= pages.len() {
+        return Told::NotAsked;
+    }
+    Told::Number(pages.taken(frame) as u64)
+}
+
+fn address<A: Allocator>(pages: &Pages<A>, frame: usize) -> Told {
+    if frame >= pages.len() {
+        return Told::NotAsked;
+    }
+    Told::Number(pages.address(frame) as u64)
+}
+
+fn choose<A: Allocator>(pages: &mut Pages<A>) -> Told {
+    if pages.has_chosen() {
+        return Told::NotAsked;
+    }
+    match pages.choose() {
+        Ok(cells) => Told::Number(cells),
+        Err(fault) => Told::Refused(fault),
     }
 }
 
-fn taken<A: Allocator>(pages: &Pages<A>, page: usize) -> Told {
-    if page >= pages.len() {
-        return Told::NotAsked;
-    }
-    Told::Number(pages.taken(page) as usize)
-}
-
-fn address<A: Allocator>(pages: &Pages<A>, page: usize) -> Told {
-    if page >= pages.len() {
-        return Told::NotAsked;
-    }
-    Told::Number(pages.address(page) as usize)
+fn renumber<A: Allocator>(pages: &mut Pages<A>) -> Told {
+    pages.renumber();
+    Told::Done
 }
 
 fn answer<A: Allocator>(pages: &mut Pages<A>, call: Call) -> Told {
     match call {
         Call::Place => placed(pages.place()),
-        Call::Fill(page, from, below) => fill(pages, page, from, below),
-        Call::Give(page, cell) => give(pages, page, cell),
-        Call::IsFree(page, cell) => is_free(pages, page, cell),
-        Call::Taken(page) => taken(pages, page),
-        Call::Address(page) => address(pages, page),
-        Call::Len => Told::Number(pages.len()),
+        Call::Fill(frame, from, below) => fill(pages, frame, from, below),
+        Call::Give(frame, cell) => give(pages, frame, cell),
+        Call::Empty(frame, from, below) => empty(pages, frame, from, below),
+        Call::IsFree(frame, cell) => is_free(pages, frame, cell),
+        Call::Taken(frame) => taken(pages, frame),
+        Call::Address(frame) => address(pages, frame),
+        Call::Len => Told::Number(pages.len() as u64),
+        Call::HasChosen => yes_or_no(pages.has_chosen()),
+        Call::Choose => choose(pages),
+        Call::Renumber => renumber(pages),
     }
 }
 

@@ -77,35 +77,47 @@ fn no_bit_from_38_to_61_is_one_of_a_word(rt: HostRuntime) {
     }
 }
 
-/// The address of the first page, the address of a word's page and its cell, with the place of that cell.
-const PLACES: [(u32, u32, u32, Option<u64>); 7] = [
-    (1, 1, 0, Some(0)),
-    (1, 1, 63, Some(63)),
-    (1, 2, 0, Some(64)),
-    (7, 9, 5, Some(133)),
-    (u32::MAX - 1, u32::MAX, 63, Some(127)),
-    (2, 1, 63, None),
-    (u32::MAX, 1, 0, None),
+/// A place, the address of the page of its frame, and the bits that its word in colour R then has.
+const PLACES: [(u32, u32, u64); 7] = [
+    (0, 1, 0xc000_0000_0000_0040),
+    (63, 1, 0xc000_0000_0000_007f),
+    (69, 2, 0xc000_0000_0000_0085),
+    (0, 9, 0xc000_0000_0000_0240),
+    (64, 7, 0xc000_0000_0000_01c0),
+    (133, u32::MAX, 0xc000_003f_ffff_ffc5),
+    (u32::MAX - 64, 1, 0xc000_0000_0000_007f),
 ];
 
 #[test]
 fn a_word_leads_to_a_place(rt: HostRuntime) {
-    for (row, &(first_page, page, cell, want)) in PLACES.iter().enumerate() {
-        // Which `Word::of` and `Word::place` ask of their callers.
-        assert!(rt; first_page >= 1 && page >= 1 && cell < 64, "row {row}");
+    for (row, &(place, _, _)) in PLACES.iter().enumerate() {
+        // Which `Word::of_place` asks of its callers.
+        assert!(rt; place < u32::MAX - 63, "row {row}");
         for colour in [Colour::A, Colour::B, Colour::R] {
-            assert_eq!(rt;
-                Word::of(colour, page, cell).place(first_page),
-                want,
-                "row {row}"
-            );
+            let word = Word::of_place(colour, place);
+            assert_eq!(rt; word.place(), Some(u64::from(place)), "row {row}");
+            assert_eq!(rt; word.index(), place as usize, "row {row}");
+            assert!(rt; word.has_colour(colour) && !word.is_null(), "row {row}");
         }
     }
 }
 
 #[test]
+fn its_bits_tell_the_address_of_its_page(rt: HostRuntime) {
+    for (row, &(place, address, want)) in PLACES.iter().enumerate() {
+        assert!(rt; place < u32::MAX - 63, "row {row}");
+        let word = Word::of_place(Colour::R, place);
+        assert_eq!(rt; word.bits_at(address), want, "row {row}");
+        let in_a = word.in_colour(Colour::A);
+        assert_eq!(rt; in_a.bits_at(address), want - (2 << 62), "row {row}");
+    }
+}
+
+#[test]
 fn null_leads_nowhere(rt: HostRuntime) {
-    assert_eq!(rt; Word::null().place(1), None, "page 1");
-    assert_eq!(rt; Word::null().place(2), None, "page 2");
-    assert_eq!(rt; Word::null().place(u32::MAX), None, "the last page");
+    assert_eq!(rt; Word::null().place(), None);
+    assert!(rt; Word::null().index() >= 1 << 63);
+    for address in [0, 1, 2, u32::MAX] {
+        assert_eq!(rt; Word::null().bits_at(address), 0, "{address}");
+    }
 }

@@ -165,8 +165,8 @@ fn taken_by(alloc: Global, workers: u32) -> Result<usize, Fail> {
 }
 
 #[test]
-fn a_heap_takes_192_bytes_a_cell_16_a_page_and_16_a_worker(rt: HostRuntime) -> Result<(), Fail> {
-    let cells = 4_096 * 192 + 64 * 16;
+fn a_heap_takes_192_bytes_a_cell_32_a_page_and_16_a_worker(rt: HostRuntime) -> Result<(), Fail> {
+    let cells = 4_096 * 192 + 64 * 32;
     // Beside them are the 16 slots of one mutator.
     let slots = 128;
     assert_eq!(rt; taken_by(rt.alloc(), 1)?, cells + 16 + slots, "one worker");

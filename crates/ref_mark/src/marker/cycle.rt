@@ -157,7 +157,7 @@ impl<A: Allocator + Copy> Marker<A> {
         self.objects.facts();
         let finder = worker.0 as usize;
         let mut list = self.found[finder];
-        list.push(
+        list.push_near(
             &mut self.objects,
             no,
             self.found_last[finder % MOST_WORKERS],

@@ -72,7 +72,7 @@ impl<A: Allocator + Copy> Marker<A> {
         ensures links { self.new ≡ record self.old { tags = linked_last self.old.tags chain.old no } }
         ensures chain { chain.new ≡ chain_with chain.old no }
     {
-        chain.push(&mut self.objects, no, 0);
+        chain.push(&mut self.objects, no);
     }
 
     /// Whether an object is doomed that isn't swept. In constant time.

@@ -1,6 +1,6 @@
 //! What a table's calls do by a word: they search nothing.
 
-ghost use Rattle.std.specs.Prelude.{◌≡◌, ◌<◌, ◌≤◌, ◌^◌, true, map};
+ghost use Rattle.std.specs.Prelude.{◌≡◌, ◌<◌, ◌≤◌, ◌^◌, true, length, map};
 ghost use Rattle.std.specs.Option.{option_map, IfSome};
 ghost use Rattle.ref_base.specs.CollectorRows.{referent_of};
 ghost use Rattle.ref_base.specs.Heaps.{with_field, with_reference};
@@ -27,7 +27,7 @@ impl<A: Allocator + Copy> Table<A> {
     pub(super) fn name(&self, value: Word) -> Option<ObjNo>
         ensures { result ≡ target_of self.now value }
     {
-        match cell_by(&self.cells, self.first_page, value) {
+        match cell_by(&self.cells, value) {
             Some(cell) => cell.number(),
             None => None,
         }
@@ -91,7 +91,7 @@ impl<A: Allocator + Copy> Table<A> {
         ensures held { option_map (target_of self.now) result ≡ field_in_cell (tabled_of self.now object) field }
         ensures led { IfSome result (λ value. HasTarget self.now value) }
     {
-        match cell_by(&self.cells, self.first_page, object) {
+        match cell_by(&self.cells, object) {
             Some(cell) => cell.field(field),
             None => None,
         }
@@ -104,7 +104,7 @@ impl<A: Allocator + Copy> Table<A> {
             ≡ tabled_reference (tabled_of self.now object) }
         ensures led { HasTarget self.now (referent_of result) }
     {
-        match cell_by(&self.cells, self.first_page, object) {
+        match cell_by(&self.cells, object) {
             Some(cell) => cell.kept(),
             None => None,
         }
@@ -127,7 +127,7 @@ impl<A: Allocator + Copy> Table<A> {
     pub(super) fn is_unmarked_by(&self, value: Word) -> bool
         ensures { result ≡ is_unmarked_in self.now.round.number (tabled_of self.now value) }
     {
-        match cell_by(&self.cells, self.first_page, value) {
+        match cell_by(&self.cells, value) {
             Some(cell) => cell.is_unmarked(self.round.number),
             None => false,
         }
@@ -141,7 +141,7 @@ impl<A: Allocator + Copy> Table<A> {
         ensures after { self.new ≡ changed_of self.old object
             (on_object (with_field field (target_of self.old value))) }
     {
-        match place_by(&self.cells, self.first_page, object) {
+        match place_by(&self.cells, object) {
             Some(place) => self.cells[place].set_field(field, value),
             None => false,
         }
@@ -153,7 +153,7 @@ impl<A: Allocator + Copy> Table<A> {
         ensures { self.new ≡ changed_of self.old object
             (on_object (with_reference (with_referent (target_of self.old referent)))) }
     {
-        if let Some(place) = place_by(&self.cells, self.first_page, object) {
+        if let Some(place) = place_by(&self.cells, object) {
             self.cells[place].set_referent(referent);
         }
     }
@@ -163,7 +163,7 @@ impl<A: Allocator + Copy> Table<A> {
     pub(super) fn change_by(&mut self, object: Word, change: Change)
         ensures { self.new ≡ changed_of self.old object (change_of change) }
     {
-        if let Some(place) = place_by(&self.cells, self.first_page, object) {
+        if let Some(place) = place_by(&self.cells, object) {
             self.cells[place].change(change);
         }
     }
@@ -173,7 +173,7 @@ impl<A: Allocator + Copy> Table<A> {
     pub(super) fn words_by(&self, object: Word) -> Words
         ensures { map (target_of self.now) result ≡ tabled_fields (tabled_of self.now object) }
     {
-        match cell_by(&self.cells, self.first_page, object) {
+        match cell_by(&self.cells, object) {
             Some(cell) => cell.fields(),
             None => Words::nulls(0),
         }
@@ -185,7 +185,7 @@ impl<A: Allocator + Copy> Table<A> {
         ensures answer { entry_number result ≡ anew_if self.old (target_of self.old value) }
         ensures after { self.new ≡ marked_if self.old (target_of self.old value) }
     {
-        match place_by(&self.cells, self.first_page, value) {
+        match place_by(&self.cells, value) {
             Some(place) => {
                 let no = self.cells[place].mark(self.round.number);
                 self.marked += usize::from(no.is_some());
@@ -213,23 +213,20 @@ fn entry_at(no: Option<ObjNo>, place: usize) -> Option<Entry>
 
 // The cell that a word leads to, if any.
 #[inline(always)]
-fn cell_by<'a>(cells: &'a [Cell], first_page: u32, value: Word) -> Option<&'a Cell>
-    requires { 1 ≤ first_page }
-    ensures { lent result ≡ cell_of_word cells.entry.now first_page value }
+fn cell_by<'a>(cells: &'a [Cell], value: Word) -> Option<&'a Cell>
+    requires { length cells.now ≤ 2 ^ 63 }
+    ensures { lent result ≡ cell_of_word cells.entry.now value }
 {
-    match value.place(first_page) {
-        Some(place) => cells.get(place as usize),
-        None => None,
-    }
+    cells.get(value.index())
 }
 
 // The place of that cell, if an object lies there.
 #[inline(always)]
-fn place_by(cells: &[Cell], first_page: u32, value: Word) -> Option<usize>
-    requires { 1 ≤ first_page }
-    ensures { result ≡ place_of_word cells.now first_page value }
+fn place_by(cells: &[Cell], value: Word) -> Option<usize>
+    requires { length cells.now ≤ 2 ^ 63 }
+    ensures { result ≡ place_of_word cells.now value }
 {
-    let place = value.place(first_page)? as usize;
+    let place = value.index();
     match cells.get(place) {
         Some(cell) if cell.number().is_some() => Some(place),
         _ => None,

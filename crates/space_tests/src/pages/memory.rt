@@ -1,7 +1,7 @@
 //! Pages whose memory runs out.
 
-use super::Call::{Fill, Give, Place};
-use super::Told::{At, Done, Nowhere};
+use super::Call::{Address, Choose, Empty, Fill, Give, Place, Renumber};
+use super::Told::{At, Done, Nowhere, Number};
 use super::make_calls;
 use bumpalo::Bump;
 use ref_space::Pages;
@@ -30,9 +30,9 @@ fn is_enough(rt: &impl Abort, alloc: Global, left: usize) -> Result<bool, Fail> 
 }
 
 #[test]
-fn a_page_takes_16_bytes(rt: HostRuntime) -> Result<(), Fail> {
+fn a_page_takes_32_bytes(rt: HostRuntime) -> Result<(), Fail> {
     // The bytes that are left, and whether they are enough for two pages.
-    let table = [(0, false), (16, false), (31, false), (32, true), (48, true)];
+    let table = [(0, false), (48, false), (63, false), (64, true), (80, true)];
     for (row, &(left, want)) in table.iter().enumerate() {
         let enough = is_enough(&rt, rt.alloc(), left)?;
         assert_eq!(rt; enough, want, "row {row}");
@@ -43,7 +43,7 @@ fn a_page_takes_16_bytes(rt: HostRuntime) -> Result<(), Fail> {
 #[test]
 fn after_new_no_call_takes_memory(rt: HostRuntime) -> Result<(), Fail> {
     let memory = limited(rt.alloc())?;
-    let _rest = all_but(&memory, 32)?;
+    let _rest = all_but(&memory, 64)?;
     let mut pages = Pages::new(&memory, 2, 7)?;
     let story = [
         (Fill(0, 0, 64), Done),
@@ -51,6 +51,11 @@ fn after_new_no_call_takes_memory(rt: HostRuntime) -> Result<(), Fail> {
         (Place, Nowhere),
         (Give(0, 17), Done),
         (Place, At(0, 17)),
+        (Empty(0, 1, 64), Done),
+        (Empty(1, 1, 64), Done),
+        (Choose, Number(2)),
+        (Renumber, Done),
+        (Address(1), Number(10)),
     ];
     make_calls(&rt, &mut pages, &story);
     assert_eq!(rt; memory.chunk_capacity(), 0, "nothing is left");

@@ -5,7 +5,7 @@ use Rattle.ref_space.proofs.pages.free_pages.Given as goal
 
 abbrev pub invariant-loop-place : goal.invariant-loop-place
 invariant-loop-place g l = record {
-  are : l.pages.items ≡ fresh_pages l.first_address l.place;
+  are : l.pages.items ≡ fresh_pages l.first_address 0 l.place;
   count : vec_len l.pages ≡ l.place;
   room : vec_capacity l.pages ≡ l.count;
 }

@@ -14,7 +14,7 @@ invariant_of-self g c =
     c.requires.white in
     sound_found c.worker.inside.0 c.args.no asks.worker c.index.ensures
     (tagged_if_there _ c.args.no c.facts.ensures (referring_is_there (is_white k) k.heap c.args.no white)) asks.going
-    asks.marked asks.black asks.new c.push.ensures.links c.push.ensures.chain c.self.invariant
+    asks.marked asks.black asks.new c.push_near.ensures.links c.push_near.ensures.chain c.self.invariant
 
 pub returns : goal.returns
 returns g c =
@@ -28,5 +28,5 @@ returns g c =
     rw (← c.self.view_is, ← c.worker.view_is)
     (seen_found c.worker.inside.0 c.args.no asks.worker c.index.ensures
     (tagged_if_there _ c.args.no c.facts.ensures (referring_is_there (is_white k) k.heap c.args.no white)) asks.going
-    asks.marked asks.black asks.new c.push.ensures.links c.push.ensures.chain c.self.invariant
+    asks.marked asks.black asks.new c.push_near.ensures.links c.push_near.ensures.chain c.self.invariant
     c.self.inside.policy c.self.inside.cycle white)

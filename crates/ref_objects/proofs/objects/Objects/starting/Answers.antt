@@ -7,4 +7,4 @@ invariant_of-result g c =
     let within : is_within_limits c.args.config ≡ true = search rules in
     let begins : 1 ≤ c.from.result = grind arith in
     let bounded : c.from.result ≤ 2 ^ 32 = omega (arith, c.from.ensures) in
-    first_sound within c.in_ok-table.ensures.ok refl begins bounded
+    first_sound c.args.start.page within c.in_ok-table.ensures.ok refl begins bounded

@@ -20,7 +20,7 @@ invariant_of-self g c =
     (more_held_if c.self.inside.round.number c.args.if_marked)
     (held_keeps c.self.inside.round.number c.args.if_marked)
     c.index_mut.ensures.value c.add_hold.ensures.after
-    (held_values c.self.inside.round.number (leads_by c.self.inside.round.good c.self.inside.first_page
+    (held_values c.self.inside.round.number (leads_by c.self.inside.round.good
     (occupants_of c.self.inside.cells.items)) c.args.if_marked)
     (held_leaves c.self.inside.round.number c.args.if_marked)
 
@@ -41,7 +41,7 @@ returns-in-Some-clause-after g c =
     (more_held_if c.self.inside.round.number c.args.if_marked)
     (held_keeps c.self.inside.round.number c.args.if_marked)
     c.index_mut.ensures.value c.add_hold.ensures.after c.self.view_is
-    (held-named c.self.inside.round.number (target_by c.self.inside.first_page
+    (held-named c.self.inside.round.number (target_by
     (occupants_of c.self.inside.cells.items)) c.args.if_marked)
     ∙ ap (λ r. changed c.args.self.now c.args.no (more_held_if r c.args.if_marked)) (sym
     (round_seen c.self.invariant c.self.view_is))

@@ -10,21 +10,21 @@ invariant_of-self g c =
     let slots =
     items_mapped (recoloured c.args.good) c.self.inside.slots (sym c.self.inside.slots.ok.0) c.recolour.ensures
     c.deref_mut.ensures.value in (
-      sound_next c.self.inside.round c.args.good c.self.inside.first_page c.self.inside.cells.items
+      sound_next c.self.inside.round c.args.good c.self.inside.cells.items
           c.self.inside.index.items c.self.inside.slots.items slots c.if-self-lt18446744073709551615.true refl
           c.self.invariant.0 c.self.invariant.1,
-      naming_next c.self.inside.round c.args.good c.self.inside.first_page c.self.inside.cells.items
+      naming_next c.self.inside.round c.args.good c.self.inside.cells.items
           c.self.inside.index.items c.self.inside.slots.items slots c.if-self-lt18446744073709551615.true refl
           c.self.invariant.1,
     )
 
 pub returns-then-self-lt18446744073709551615 : goal.returns-then-self-lt18446744073709551615
 returns-then-self-lt18446744073709551615 g c =
-    seen_next c.self.inside.round c.args.good c.self.inside.first_page c.self.inside.cells.items
+    seen_next c.self.inside.round c.args.good c.self.inside.cells.items
     c.self.inside.index.items c.self.inside.slots.items
     (items_mapped (recoloured c.args.good) c.self.inside.slots (sym c.self.inside.slots.ok.0) c.recolour.ensures
     c.deref_mut.ensures.value)
-    c.if-self-lt18446744073709551615.true refl c.self.inside.last c.self.inside.room
+    c.if-self-lt18446744073709551615.true refl c.self.inside.pages c.self.inside.last c.self.inside.room
     ∙ ap (λ (t : Table). table_begun t c.args.good) c.self.view_is
 
 pub invariant_of-self-2 : goal.invariant_of-self-2
@@ -38,7 +38,7 @@ invariant_of-self-2 g c =
       sound_all with_nothing_done (λ k. refl) c.self.inside.cells.items each c.self.inside.index.items
           c.self.invariant.0
           (sym (ap length (marked_of-anew (tabled_by c.self.inside.cells.items c.self.inside.index.items)))),
-      naming_anew c.self.inside.round c.args.good c.self.inside.first_page c.self.inside.cells.items
+      naming_anew c.self.inside.round c.args.good c.self.inside.cells.items
           c.self.inside.index.items c.self.inside.slots.items slots each refl c.self.invariant.1,
     )
 
@@ -50,7 +50,7 @@ returns g c =
     let each =
     items_each with_nothing_done (λ k. refl) c.self.inside.cells (sym c.self.inside.cells.ok.0) c.forget_rounds.ensures
     c.deref_mut-2.ensures.value in
-    seen_anew c.self.inside.round c.args.good c.self.inside.first_page c.self.inside.cells.items
+    seen_anew c.self.inside.round c.args.good c.self.inside.cells.items
     c.self.inside.index.items c.self.inside.slots.items slots each refl
-    c.if-self-lt18446744073709551615.false c.self.inside.last c.self.inside.room
+    c.if-self-lt18446744073709551615.false c.self.inside.pages c.self.inside.last c.self.inside.room
     ∙ ap (λ (t : Table). table_begun t c.args.good) c.self.view_is

@@ -11,7 +11,7 @@ invariant_of-self g c =
     (IsPlaceOf-lent c.args.no c.deref.ensures.value c.deref-2.ensures.value c.in-Some.ensures)
     (change_of c.args.change) (change_of c.args.change) (change_keeps c.args.change) c.index_mut.ensures.value
     c.change.ensures (change_leads c.self.inside.round.number
-    (leads_by c.self.inside.round.good c.self.inside.first_page (occupants_of c.self.inside.cells.items))
+    (leads_by c.self.inside.round.good (occupants_of c.self.inside.cells.items))
     (λ b. refl)
     c.args.change)
     (change_leaves c.args.change)
@@ -22,7 +22,7 @@ returns-in-Some g c =
     (IsPlaceOf-lent c.args.no c.deref.ensures.value c.deref-2.ensures.value c.in-Some.ensures)
     (change_of c.args.change) (change_of c.args.change) (change_keeps c.args.change) c.index_mut.ensures.value
     c.change.ensures c.self.view_is
-    (change-named (target_by c.self.inside.first_page (occupants_of c.self.inside.cells.items)) refl c.args.change)
+    (change-named (target_by (occupants_of c.self.inside.cells.items)) refl c.args.change)
 
 pub returns-in_default : goal.returns-in_default
 returns-in_default g c =

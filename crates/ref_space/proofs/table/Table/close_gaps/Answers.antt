@@ -10,7 +10,7 @@ invariant_of-self g c = (
 
 pub returns-then-len : goal.returns-then-len
 returns-then-len g c =
-    seen_closed c.self.inside.index.items c.self.inside.round c.self.inside.first_page c.self.inside.last
+    seen_closed c.self.inside.index.items c.self.inside.round c.self.inside.pages c.self.inside.last
     c.self.inside.room
     c.self.inside.slots.items c.deref.ensures.value c.close_gaps.ensures.entries
     ∙ c.self.view_is

@@ -14,7 +14,7 @@ invariant_of-self g c =
     sound_there c.self.invariant (lying_place c.self.invariant c.self.view_is c.requires)
     (healed_by c.self.inside.round) (with_healed c.self.inside.round.number) (λ k. refl) c.index_mut.ensures.value
     c.heal.ensures
-    (heal_leads c.self.inside.round.good c.self.inside.first_page (occupants_of c.self.inside.cells.items)
+    (heal_leads c.self.inside.round.good (occupants_of c.self.inside.cells.items)
     c.self.inside.round.number)
     (λ k. refl)
 
@@ -23,6 +23,6 @@ returns g c =
     left_there c.self.invariant (lying_place c.self.invariant c.self.view_is c.requires)
     (healed_by c.self.inside.round) (with_healed c.self.inside.round.number) (λ k. refl) c.index_mut.ensures.value
     c.heal.ensures c.self.view_is
-    (heal-named c.self.inside.round.good c.self.inside.first_page (occupants_of c.self.inside.cells.items)
+    (heal-named c.self.inside.round.good (occupants_of c.self.inside.cells.items)
     c.self.inside.round.number)
     ∙ ap (λ r. changed c.args.self.now c.args.no (with_healed r)) (sym (round_seen c.self.invariant c.self.view_is))

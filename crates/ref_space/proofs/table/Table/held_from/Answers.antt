@@ -6,6 +6,6 @@ pub returns : goal.returns
 returns g c =
     grind (
       arith,
-      first_where-named (target_by c.self.inside.first_page (occupants_of c.self.inside.cells.items))
+      first_where-named (target_by (occupants_of c.self.inside.cells.items))
           (λ k. nat_lt 0 k.holds) (λ k. refl),
     )

@@ -12,7 +12,7 @@ returns-in-Some-clause-held g c =
 pub returns-in-Some-clause-led : goal.returns-in-Some-clause-led
 returns-in-Some-clause-led g c =
     rw c.kept.ensures
-    (referent_of_each (leads_by c.args.self.now.round.good c.args.self.now.first c.args.self.now.occupants false)
+    (referent_of_each (leads_by c.args.self.now.round.good c.args.self.now.occupants false)
     refl c.in-Some.cell.now
     (each_read c.self.invariant c.args.object c.self.view_is c.deref.ensures.value c.in-Some.ensures))
 

@@ -10,7 +10,7 @@ index-requires g c =
 
 pub returns : goal.returns
 returns g c =
-    let name = target_by c.self.inside.first_page (occupants_of c.self.inside.cells.items) in
+    let name = target_by (occupants_of c.self.inside.cells.items) in
     named_there c.self.invariant (lying_place c.self.invariant c.self.view_is c.requires) c.self.view_is
     tabled_reference c.index.ensures
     (ap (λ (t : Table). option_map (reference_by_number (target_of t)) c.kept.result) (sym c.self.view_is)

@@ -9,7 +9,7 @@ pub returns-clause-count : goal.returns-clause-count
 returns-clause-count g c =
     c.self.invariant.0.counted
     ∙ sym (length-map (tabled_by c.self.inside.cells.items c.self.inside.index.items)
-    (by_number (target_by c.self.inside.first_page (occupants_of c.self.inside.cells.items))))
+    (by_number (target_by (occupants_of c.self.inside.cells.items))))
     ∙ ap (λ (t : Table). length t.tabled) c.self.view_is
 
 pub returns-clause-orderly : goal.returns-clause-orderly

@@ -26,7 +26,7 @@ invariant_of-self g c =
     (IsPlaceOf-lent c.args.no c.deref.ensures.value c.deref-2.ensures.value c.in-Some.ensures)
     (change_of (ClearIn c.args.cycle)) (change_of (ClearIn c.args.cycle)) (change_keeps (ClearIn c.args.cycle))
     c.index_mut.ensures.value c.change.ensures
-    (change_leads c.self.inside.round.number (leads_by c.self.inside.round.good c.self.inside.first_page
+    (change_leads c.self.inside.round.number (leads_by c.self.inside.round.good
     (occupants_of c.self.inside.cells.items)) (λ b. refl)
     (ClearIn c.args.cycle))
     (change_leaves (ClearIn c.args.cycle))

@@ -7,7 +7,7 @@ pub returns : goal.returns
 returns g c =
     grind (
       arith,
-      numbers_by-named (target_by c.self.inside.first_page (occupants_of c.self.inside.cells.items))
+      numbers_by-named (target_by (occupants_of c.self.inside.cells.items))
           (λ k. from_bool (is_marked c.self.inside.round.number k)) (λ k. refl)
           (tabled_by c.self.inside.cells.items c.self.inside.index.items),
     )

@@ -1,6 +1,6 @@
 use Rattle.ref_space.proofs.Common.{with_tabled}
 use Rattle.ref_space.proofs.Common.{◌∙◌, ◌+◌, ◌*◌, arith, made_entry}
-use Rattle.ref_space.proofs.PushLemmas.{has_place, can_make, CanMake, seen_made, sound_made}
+use Rattle.ref_space.proofs.PushLemmas.{has_cell, can_make, CanMake, seen_made, sound_made}
 use Rattle.ref_space.proofs.CellChanges.{marks_fit}
 use Rattle.ref_space.proofs.Common.{ap, refl, Table, leads_by, target_of, occupants_of, option_map, referent_of}
 use Rattle.ref_space.proofs.Common.{true}
@@ -9,22 +9,22 @@ use Rattle.ref_space.proofs.PushLemmas.{entry-named, made_held, made_marked}
 use Rattle.ref_space.specs.Naming.{IsHeldIn}
 use Rattle.ref_space.proofs.Common.{sym, from_bool}
 use Rattle.ref_space.proofs.CellChanges.{round_seen}
-use Rattle.ref_space.proofs.TableLemmas.{has_address}
 use Rattle.ref_space.proofs.table.Table.push.Given.{Over}
 use Rattle.ref_space.proofs.table.Table.push.Goals.{After-unwrap-page}
 use Rattle.ref_space.proofs.table.Table.push.Goals as goal
 
 -- an object may be made once its place was taken
 can : (g : Over) (c : After-unwrap-page g)
-    → CanMake c.self.inside.cells.items c.self.inside.index.items c.make_room.new.index.items c.self.inside.pages
-    c.place.new.self c.self.inside.last c.self.inside.room (64 * c.unwrap-page.result.0 + c.unwrap-page.result.1)
+    → CanMake c.self.inside.cells.items c.self.inside.index.items c.make_room.new.index.items
+    c.self.inside.pages c.place.new.self c.self.inside.last c.self.inside.room
+    (64 * c.unwrap-page.result.0 + c.unwrap-page.result.1)
 can g c =
     can_make c.self.invariant c.self.view_is c.requires.room c.deref.ensures.value
     (c.len.ensures ∙ c.self.inside.cells.ok.0) c.make_room.ensures.entries c.place.ensures.answer
     c.place.ensures.after c.unwrap-page.ensures
 
 pub unwrap-page-requires : goal.unwrap-page-requires
-unwrap-page-requires g c = grind (arith, has_place c.self.invariant c.self.view_is c.requires.room)
+unwrap-page-requires g c = grind (arith, has_cell c.self.invariant c.self.view_is c.requires.room)
 
 pub overflow_mul-place : goal.overflow_mul-place
 overflow_mul-place g c = omega (arith, (can g c).taken.within, c.self.invariant.0.placed.small)
@@ -42,6 +42,11 @@ overflow_cast-place-2 g c =
     let within = (can g (goal.at.overflow_cast-place-2 g c).After-unwrap-page).taken.within in
     omega (arith, within, c.self.invariant.0.placed.small)
 
+pub overflow_cast-place-3 : goal.overflow_cast-place-3
+overflow_cast-place-3 g c =
+    let within = (can g (goal.at.overflow_cast-place-3 g c).After-unwrap-page).taken.within in
+    omega (arith, within, c.self.invariant.0.placed.small)
+
 pub push_reserved-requires : goal.push_reserved-requires
 push_reserved-requires g c =
     let room = (can g (goal.at.push_reserved-requires g c).After-unwrap-page).closed.room in
@@ -50,20 +55,20 @@ push_reserved-requires g c =
 pub overflow_add-self-2 : goal.overflow_add-self-2
 overflow_add-self-2 g c = omega (arith, marks_fit c.self.invariant.0 c.args.marked c.from.ensures)
 
-pub word_at-requires : goal.word_at-requires
-word_at-requires g c =
-    let within = (can g (goal.at.word_at-requires g c).After-unwrap-page).taken.within in
-    has_address c.self.invariant.1 (64 * c.unwrap-page.result.0 + c.unwrap-page.result.1) within
+pub of_place-requires : goal.of_place-requires
+of_place-requires g c =
+    let within = (can g (goal.at.of_place-requires g c).After-unwrap-page).taken.within in
+    omega (arith, within, c.self.invariant.0.placed.small)
 
 -- what the new cell holds leads to objects, and is by number what it is made of
 holds : (g : Over) (c : After-unwrap-page g)
     → IsHeldIn c.self.inside.round.number
-    (leads_by c.self.inside.round.good c.self.inside.first_page (occupants_of c.self.inside.cells.items))
+    (leads_by c.self.inside.round.good (occupants_of c.self.inside.cells.items))
     (made_entry c.self.inside.round.number c.args.no c.args.count c.kept_of_new-kept.result c.args.marked)
 holds g c =
-    made_held c.self.inside.round.number c.self.inside.round.good c.self.inside.first_page
+    made_held c.self.inside.round.number c.self.inside.round.good
     (occupants_of c.self.inside.cells.items) c.args.no c.args.count c.kept_of_new-kept.result c.args.marked
-    (ap (λ (t : Table). leads_by t.round.good t.first t.occupants true (referent_of c.kept_of_new-kept.result))
+    (ap (λ (t : Table). leads_by t.round.good t.occupants true (referent_of c.kept_of_new-kept.result))
     c.self.view_is
     ∙ c.kept_of_new-kept.ensures.healed)
 
@@ -73,7 +78,7 @@ invariant_of-self g c =
     (made_entry c.self.inside.round.number c.args.no c.args.count c.kept_of_new-kept.result c.args.marked)
     c.requires.rises c.occupy.ensures
     c.push_reserved.ensures.items (holds g (goal.at.invariant_of-self g c).After-unwrap-page) c.args.into
-    c.word_at.ensures
+    c.of_place.ensures
     (omega (arith, c.make_room.ensures.capacity, c.push_reserved.ensures.capacity))
     (c.from.ensures
     ∙ ap from_bool (sym (made_marked c.self.inside.round.number c.args.no c.args.count c.kept_of_new-kept.result
@@ -85,7 +90,7 @@ returns g c =
     (made_entry c.self.inside.round.number c.args.no c.args.count c.kept_of_new-kept.result c.args.marked)
     c.requires.rises c.occupy.ensures
     c.push_reserved.ensures.items (holds g (goal.at.returns g c).After-unwrap-page) c.args.into
-    c.word_at.ensures
+    c.of_place.ensures
     (option_map (made_of c.args.self.now.slots) c.args.reference) c.args.count c.args.marked
     (entry-named (target_of c.args.self.now) refl c.self.inside.round.number c.args.no c.args.count c.args.marked
     c.kept_of_new-kept.result c.kept_of_new-kept.ensures.named)

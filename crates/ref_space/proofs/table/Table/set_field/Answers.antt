@@ -13,7 +13,7 @@ invariant_of-self g c =
     (led_place c.self.invariant c.args.object c.self.view_is c.deref.ensures.value c.in-Some.ensures)
     (on_object (with_field c.args.field c.args.value)) (on_object (with_field c.args.field c.args.value)) (λ k. refl)
     c.index_mut.ensures.value c.set_field.ensures.after
-    (field_leads c.self.inside.round.number (leads_by c.self.inside.round.good c.self.inside.first_page
+    (field_leads c.self.inside.round.number (leads_by c.self.inside.round.good
     (occupants_of c.self.inside.cells.items)) c.args.field c.args.value
     (leads_seen c.self.invariant c.args.value c.self.view_is c.requires)) (λ k. refl)
 
@@ -28,7 +28,7 @@ returns-in-Some-clause-there g c =
 
 pub returns-in-Some-clause-after : goal.returns-in-Some-clause-after
 returns-in-Some-clause-after g c =
-    let name = (target_by c.self.inside.first_page (occupants_of c.self.inside.cells.items)) in
+    let name = (target_by (occupants_of c.self.inside.cells.items)) in
     left_there c.self.invariant
     (led_place c.self.invariant c.args.object c.self.view_is c.deref.ensures.value c.in-Some.ensures)
     (on_object (with_field c.args.field c.args.value)) (on_object (with_field c.args.field (name c.args.value)))

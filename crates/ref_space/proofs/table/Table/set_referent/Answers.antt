@@ -12,13 +12,13 @@ invariant_of-self g c =
     (on_object (with_reference (with_referent c.args.referent)))
     (on_object (with_reference (with_referent c.args.referent))) (λ k. refl)
     c.index_mut.ensures.value c.set_referent.ensures
-    (referent_leads c.self.inside.round.number (leads_by c.self.inside.round.good c.self.inside.first_page
+    (referent_leads c.self.inside.round.number (leads_by c.self.inside.round.good
     (occupants_of c.self.inside.cells.items))
     c.args.referent (leads_seen c.self.invariant c.args.referent c.self.view_is c.requires)) (λ k. refl)
 
 pub returns-in-Some : goal.returns-in-Some
 returns-in-Some g c =
-    let name = (target_by c.self.inside.first_page (occupants_of c.self.inside.cells.items)) in
+    let name = (target_by (occupants_of c.self.inside.cells.items)) in
     left_there c.self.invariant
     (led_place c.self.invariant c.args.object c.self.view_is c.deref.ensures.value c.in-Some.ensures)
     (on_object (with_reference (with_referent c.args.referent)))

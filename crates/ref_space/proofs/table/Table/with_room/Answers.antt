@@ -10,9 +10,8 @@ invariant_of-result g c =
     let capacity = c.in_ok-index.ensures.capacity in (
       sound_new c.args.first_page count c.args.room (vec_capacity c.in_ok-index.index) (omega (arith, bound))
           (omega (arith, bound)) (omega (arith, capacity)) c.in_ok-cells.ensures c.in_ok-index.ensures.items
-          c.in_ok-pages.ensures,
-      naming_new c.args.first_page count c.args.slots (omega arith) c.requires.begins (omega
-          (arith, bound, c.requires.addresses))
+          c.requires.begins (omega (arith, bound, c.requires.addresses)) c.in_ok-pages.ensures,
+      naming_new count c.args.slots (omega arith)
           c.in_ok-cells.ensures c.in_ok-index.ensures.items c.in_ok-slots.ensures,
     )
 
@@ -20,5 +19,5 @@ pub returns : goal.returns
 returns g c =
     let count = c.div_ceil-page_count.result in
     let bound : count ≡ c.args.room / 64 + min 1 (c.args.room % 64) = c.div_ceil-page_count.ensures in
-    seen_new c.args.first_page count c.args.slots c.args.room (omega (arith, bound)) c.in_ok-cells.ensures
+    seen_new c.args.first_page count c.args.slots c.args.room (omega (arith, bound)) c.in_ok-pages.ensures c.in_ok-cells.ensures
     c.in_ok-index.ensures.items c.in_ok-slots.ensures

@@ -9,7 +9,7 @@ index-requires g c =
 
 pub returns : goal.returns
 returns g c =
-    let name = target_by c.self.inside.first_page (occupants_of c.self.inside.cells.items) in
+    let name = target_by (occupants_of c.self.inside.cells.items) in
     named_there c.self.invariant (lying_place c.self.invariant c.self.view_is c.requires) c.self.view_is
     (λ k. field_held k c.args.field) c.index.ensures
     (ap (λ (t : Table). target_of t c.word.result) (sym c.self.view_is) ∙ ap name c.word.ensures
