@@ -1,9 +1,9 @@
 -- What a walk over slots, fields and numbers has found marked so far.
 use Rattle.std.proofs.Common.{◌≡◌, ℕ, ◌+◌, ◌<◌, ◌≤◌, true, false, refl, sym, ap, ◌∙◌, arith}
-use Rattle.std.proofs.Common.{List, [], ◌∷◌, ◌++◌, length, take, Option, Some, None, inl, inr, Bool, ◌==◌}
+use Rattle.std.proofs.Common.{List, [], ◌∷◌, ◌++◌, length, take, Option, Some, None, inl, inr, Bool}
 use Rattle.std.specs.Bool.{OnTrue}
 use Rattle.std.specs.Prelude.{slice_index_or}
-use Rattle.std.proofs.lemmas.Bool.{false≢true, cases_Bool, eqb-true, eqb-false}
+use Rattle.std.proofs.lemmas.Bool.{false≢true}
 use Rattle.std.proofs.lemmas.List.{take_more, take_all}
 use Rattle.ref_base.specs.Members.{has}
 use Rattle.ref_base.specs.Graphs.{Object, is_there, numbers, object_at}
@@ -128,23 +128,6 @@ module _ (g : Ground) (formed : IsWellFormed g) where
     λ n held. absurd (false≢true (sym (none_there g.heap.objects n (sym is)) ∙ held_there n held)),
     λ m n marked by. absurd (false≢true (sym (none_there g.heap.objects m (sym is)) ∙ formed.marked m marked)),
   )
-
--- one number more
-pub closed_more : (g : Ground) (k : ℕ) → (has g.heap.holds k ≡ true → has g.marked k ≡ true)
-    → ((n : ℕ) → has g.marked k ≡ true → has (named_in (object_at g.heap.objects k)) n ≡ true
-    → has g.marked n ≡ true) → ClosedBelow g k → ClosedBelow g (k + 1)
-closed_more g k held names so_far = record {
-  held = λ n below is.
-      elim (cases_Bool (n == k)) [
-        | inl same ↦ grind (arith, eqb-true)
-        | inr other ↦ so_far.held n (let ne = eqb-false n k other in omega (arith, below, ne)) is
-      ];
-  names = λ m n below marked by.
-      elim (cases_Bool (m == k)) [
-        | inl same ↦ grind (arith, eqb-true)
-        | inr other ↦ so_far.names m n (let ne = eqb-false m k other in omega (arith, below, ne)) marked by
-      ];
-}
 
 -- slots, holds and objects together
 pub closed_all : (g : Ground) → AreIn g.heap.slots g.marked

@@ -13,8 +13,8 @@ use Rattle.ref_space.specs.Pages.{opened, empty_pages, renumbered_uses, AreWhole
 use Rattle.ref_space.specs.PageViews.{ArePages, AreMapped}
 use Rattle.ref_space.proofs.PageLemmas.{whole_with, with_cell-set, none_in_front, fresh_whole, length-fresh}
 use Rattle.ref_space.proofs.PageLemmas.{placed_after}
-use Rattle.ref_space.proofs.NextPlaces.{length-with}
-use Rattle.ref_space.proofs.FrameLemmas.{frame-with, times-with, fresh_framed, times-renumbered}
+use Rattle.ref_space.proofs.NextPlaces.{frame-with, length-with}
+use Rattle.ref_space.proofs.FrameLemmas.{times-with, fresh_framed, times-renumbered}
 use Rattle.ref_space.proofs.RoomLemmas.{whole_opened}
 use Rattle.ref_space.proofs.MoveLemmas.{chosen-append, chosen-fresh, chosen-opened, opened_chosen, length-emptied}
 use Rattle.std.proofs.Common.{Option}

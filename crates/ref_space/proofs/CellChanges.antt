@@ -639,7 +639,7 @@ module _ {round : Round} {cells : List (Option Tabled)} {es : List Entry} {pages
         | inr past ↦ simp past tt
       ])
 
-  pub some_bits : (c : Option Tabled) (i : ℕ) {bits : Option ℕ}
+  some_bits : (c : Option Tabled) (i : ℕ) {bits : Option ℕ}
       → bits ≡ option_map (bits_told pages.uses) (field_in_cell c i) → is_some bits ≡ has_field c i
   some_bits None i own = rw own refl
   some_bits (Some k) i own =
@@ -692,6 +692,11 @@ module _ {round : Round} {cells : List (Option Tabled)} {es : List Entry} {pages
         → ((name : Option ℕ → Option ℕ) (c : Option Tabled) → f (option_map (by_number name) c) ≡ f c)
         → f c ≡ f (tabled_at t.tabled n)
     blind_told f blind = sym (blind (target_of t) c) ∙ ap f object_told
+
+    -- bits are told of each field that there is
+    pub told_there : (i : ℕ) {bits : Option ℕ} → bits ≡ option_map (bits_told pages.uses) (field_in_cell c i)
+        → is_some bits ≡ has_field (tabled_at t.tabled n) i
+    told_there i own = some_bits c i own ∙ blind_told (λ k. has_field k i) (has_field-named i)
 
   -- a search finds a place exactly where there is an object
   pub found_there : (n : ℕ) (place : Option ℕ) {t : Table} → seen_table round pages cells es slots last room ≡ t

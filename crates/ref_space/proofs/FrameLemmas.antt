@@ -104,14 +104,6 @@ times-fresh first frame (suc count) other = grind (arith, times-fresh (suc first
 pub fresh_framed : (first count : ℕ) → AreFramed (fresh_pages first 0 count)
 fresh_framed first count other = grind (arith, times-fresh first 0 count other, length-fresh first 0 count)
 
-pub frame-with : (ps : List Use) (page cell : ℕ) (is_free : Bool) (other : ℕ)
-    → (use_at (with_cell ps page cell is_free) other).frame ≡ (use_at ps other).frame
-frame-with [] page cell is_free other = refl
-frame-with (p ∷ ps) zero cell is_free zero = refl
-frame-with (p ∷ ps) zero cell is_free (suc other) = refl
-frame-with (p ∷ ps) (suc page) cell is_free zero = refl
-frame-with (p ∷ ps) (suc page) cell is_free (suc other) = frame-with ps page cell is_free other
-
 pub times-with : (ps : List Use) (page cell : ℕ) (is_free : Bool) (frame : ℕ)
     → times_framed (with_cell ps page cell is_free) frame ≡ times_framed ps frame
 times-with [] page cell is_free frame = refl

@@ -5,7 +5,7 @@ use Rattle.std.proofs.lemmas.Bool.{true≢false, false≢true}
 use Rattle.std.proofs.lemmas.List.{get_or-set_same, get_or-set_other}
 use Rattle.std.specs.Option.{option_map}
 use Rattle.ref_space.specs.Bits.{first_set, any_set}
-use Rattle.ref_space.specs.Pages.{Use, use_at, is_free_at, is_open_at, with_cell, has_open_cell, page_later, next_place}
+use Rattle.ref_space.specs.Pages.{Use, use_at, is_free_at, is_open_at, with_cell, with_free, has_open_cell, page_later, next_place}
 use Rattle.ref_space.specs.Pages.{AreWhole, IsFirstFree, IsNextPlace}
 
 -- ---- one page
@@ -92,10 +92,21 @@ length-with [] page cell is_free = refl
 length-with (p ∷ ps) zero cell is_free = refl
 length-with (p ∷ ps) (suc page) cell is_free = ap suc (length-with ps page cell is_free)
 
+-- all else of each page stays
+pub use-with : {X : Type 0} (read : Use → X)
+    → ((cell : ℕ) (is_free : Bool) (p : Use) → read (with_free cell is_free p) ≡ read p)
+    → (ps : List Use) (page cell : ℕ) (is_free : Bool) (other : ℕ)
+    → read (use_at (with_cell ps page cell is_free) other) ≡ read (use_at ps other)
+use-with read keeps [] page cell is_free other = refl
+use-with read keeps (p ∷ ps) zero cell is_free zero = keeps cell is_free p
+use-with read keeps (p ∷ ps) zero cell is_free (suc other) = refl
+use-with read keeps (p ∷ ps) (suc page) cell is_free zero = refl
+use-with read keeps (p ∷ ps) (suc page) cell is_free (suc other) = use-with read keeps ps page cell is_free other
+
 pub address-with : (ps : List Use) (page cell : ℕ) (is_free : Bool) (other : ℕ)
     → (use_at (with_cell ps page cell is_free) other).address ≡ (use_at ps other).address
-address-with [] page cell is_free other = refl
-address-with (p ∷ ps) zero cell is_free zero = refl
-address-with (p ∷ ps) zero cell is_free (suc other) = refl
-address-with (p ∷ ps) (suc page) cell is_free zero = refl
-address-with (p ∷ ps) (suc page) cell is_free (suc other) = address-with ps page cell is_free other
+address-with = use-with (λ p. p.address) (λ cell is_free p. refl)
+
+pub frame-with : (ps : List Use) (page cell : ℕ) (is_free : Bool) (other : ℕ)
+    → (use_at (with_cell ps page cell is_free) other).frame ≡ (use_at ps other).frame
+frame-with = use-with (λ p. p.frame) (λ cell is_free p. refl)

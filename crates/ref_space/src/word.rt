@@ -37,10 +37,9 @@ impl Word {
         Word { bits: 0 }
     }
 
-    /// The word of the cell at this place, which is below 2^32 - 64, in this colour.
+    /// The word of the cell at this place, in this colour.
     #[inline(always)]
     pub fn of_place(colour: Colour, place: u32) -> Self
-        requires { place < 2 ^ 32 - 64 }
         ensures { result ≡ word_of_place colour place }
     {
         Word {

@@ -91,8 +91,6 @@ const PLACES: [(u32, u32, u64); 7] = [
 #[test]
 fn a_word_leads_to_a_place(rt: HostRuntime) {
     for (row, &(place, _, _)) in PLACES.iter().enumerate() {
-        // Which `Word::of_place` asks of its callers.
-        assert!(rt; place < u32::MAX - 63, "row {row}");
         for colour in [Colour::A, Colour::B, Colour::R] {
             let word = Word::of_place(colour, place);
             assert_eq!(rt; word.place(), Some(u64::from(place)), "row {row}");
@@ -105,7 +103,6 @@ fn a_word_leads_to_a_place(rt: HostRuntime) {
 #[test]
 fn its_bits_tell_the_address_of_its_page(rt: HostRuntime) {
     for (row, &(place, address, want)) in PLACES.iter().enumerate() {
-        assert!(rt; place < u32::MAX - 63, "row {row}");
         let word = Word::of_place(Colour::R, place);
         assert_eq!(rt; word.bits_at(address), want, "row {row}");
         let in_a = word.in_colour(Colour::A);

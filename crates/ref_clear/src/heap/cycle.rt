@@ -30,6 +30,7 @@ impl<A: Allocator + Copy> Heap<A> {
     }
 
     /// Scans the first of the grey list for this worker, as `Marker::scan` does: `NoSuchActor`, `WrongPhase`.
+    #[inline(always)]
     pub fn scan(&mut self, worker: WorkerNo) -> Result<Option<ObjNo>, Fault>
         ensures { HeapDoes self.old (Plain (Scan worker)) (reply_of scan_reply result) self.new }
     {

@@ -41,6 +41,7 @@ impl<A: Allocator + Copy> Marker<A> {
     /// the referent of a soft reference that the cycle keeps; another reference whose referent is white is found by
     /// the worker. Each word of the object has the good colour then. Answers the object, or none where the list is
     /// empty. Tried in this order: `NoSuchActor`, `WrongPhase`. In time of its fields.
+    #[inline(always)]
     pub fn scan(&mut self, worker: WorkerNo) -> Result<Option<ObjNo>, Fault>
         ensures { MarkerDoes self.old (Plain (Scan worker)) (reply_of scan_reply result) self.new }
     {

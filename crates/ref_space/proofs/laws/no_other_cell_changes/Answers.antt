@@ -1,5 +1,4 @@
-use Rattle.ref_space.proofs.FrameLemmas.{frame-with}
-use Rattle.ref_space.proofs.NextPlaces.{address-with, is_free-with_other, is_free-with_same, length-with}
+use Rattle.ref_space.proofs.NextPlaces.{address-with, frame-with, is_free-with_other, is_free-with_same, length-with}
 use Rattle.ref_space.proofs.PageLemmas.{whole_with}
 use Rattle.ref_space.proofs.laws.no_other_cell_changes.Goals as goal
 

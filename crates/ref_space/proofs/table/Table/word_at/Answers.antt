@@ -1,5 +1,5 @@
 use Rattle.ref_space.proofs.Common.{◌∙◌, ap, sym, Some, has_field, option_map}
-use Rattle.ref_space.proofs.CellChanges.{blind_told, has_field-named, some_bits, told_leads, word_told}
+use Rattle.ref_space.proofs.CellChanges.{blind_told, has_field-named, told_leads, told_there, word_told}
 use Rattle.ref_space.specs.Naming.{bits_told}
 use Rattle.ref_space.proofs.table.Table.word_at.Goals as goal
 
@@ -10,10 +10,9 @@ told_bits-requires g c =
 
 pub returns-in-Some-field-clause-there : goal.returns-in-Some-field-clause-there
 returns-in-Some-field-clause-there g c =
-    some_bits c.self.invariant c.in-Some.cell.now c.args.field
+    told_there c.self.invariant c.args.no c.self.view_is c.deref.ensures.value c.deref-2.ensures.value
+    c.in-Some.ensures c.args.field
     (ap (option_map (bits_told c.self.inside.pages.uses)) (sym c.in-Some-field.is ∙ c.field.ensures))
-    ∙ blind_told c.self.invariant c.args.no c.self.view_is c.deref.ensures.value c.deref-2.ensures.value
-    c.in-Some.ensures (λ k. has_field k c.args.field) (has_field-named c.args.field)
 
 pub returns-in-Some-field-clause-word : goal.returns-in-Some-field-clause-word
 returns-in-Some-field-clause-word g c =
@@ -24,10 +23,9 @@ returns-in-Some-field-clause-word g c =
 
 pub returns-in-None-field-clause-there : goal.returns-in-None-field-clause-there
 returns-in-None-field-clause-there g c =
-    some_bits c.self.invariant c.in-Some.cell.now c.args.field
+    told_there c.self.invariant c.args.no c.self.view_is c.deref.ensures.value c.deref-2.ensures.value
+    c.in-Some.ensures c.args.field
     (ap (option_map (bits_told c.self.inside.pages.uses)) (sym c.in-None-field.is ∙ c.field.ensures))
-    ∙ blind_told c.self.invariant c.args.no c.self.view_is c.deref.ensures.value c.deref-2.ensures.value
-    c.in-Some.ensures (λ k. has_field k c.args.field) (has_field-named c.args.field)
 
 pub returns-in-None-clause-there : goal.returns-in-None-clause-there
 returns-in-None-clause-there g c =
