@@ -11,6 +11,9 @@ use Rattle.ref_space.proofs.Common.{cases_Bool, inl, inr}
 use Rattle.ref_space.proofs.Common.{leads_by, target_by}
 use Rattle.ref_space.proofs.WordLemmas.{IsGood, good_leads}
 use Rattle.ref_space.specs.declared.colour.Colour.{Colour}
+use Rattle.std.specs.Bool.{OnTrue}
+use Rattle.std.specs.Option.{is_none}
+use Rattle.ref_space.specs.ColouredWords.{has_colour}
 
 -- ---- what is read
 
@@ -163,6 +166,16 @@ module _ (good : Colour) (os : List (Option ℕ)) where
   good_anywhere true v leads = leads
   good_anywhere false None leads = refl
   good_anywhere false (Some w) leads = grind arith
+
+  -- and each that has it is healed, and null is
+  pub coloured_leads : (v : Option ℕ) → leads_by good os false v ≡ true → has_colour good v ≡ true
+      → leads_by good os true v ≡ true
+  coloured_leads None leads colour = refl
+  coloured_leads (Some w) leads colour = grind arith
+
+  pub null_leads : (v : Option ℕ) → OnTrue (is_none v) (leads_by good os true v ≡ true)
+  null_leads None = refl
+  null_leads (Some w) = tt
 
   pub good_word : (n : ℕ) (v : Option ℕ) → target_by os v ≡ Some n → IsGood good v
       → leads_by good os true v ≡ true

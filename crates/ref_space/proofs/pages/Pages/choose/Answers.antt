@@ -1,4 +1,4 @@
-use Rattle.std.proofs.Common.{◌≡◌, [], length, ap, ◌∙◌, arith}
+use Rattle.std.proofs.Common.{◌≡◌, ℕ, List, [], length, ap, ◌∙◌, arith}
 use Rattle.std.proofs.lemmas.List.{length-map}
 use Rattle.ref_space.specs.Pages.{Pages, chosen_frames, choosing, chosen_if_sparse, has_chosen, sparse_count}
 use Rattle.ref_space.proofs.MoveLemmas.{none_chosen}
@@ -16,11 +16,15 @@ invariant_of-self g c =
     let ps = c.self.inside.pages.items in
     let none : chosen_frames ps ≡ [] =
     none_chosen ps (ap (λ (s : Pages). has_chosen s.uses) c.self.view_is ∙ c.requires) in
-    let count = c.sparse_count-count.ensures ∙ ap sparse_count c.deref.ensures.value in
-    let now = c.choose_sparse.ensures.pages ∙ ap choosing c.deref_mut.ensures.value in
+    let count : c.sparse_count-count.result ≡ sparse_count ps =
+    c.sparse_count-count.ensures ∙ ap sparse_count c.deref.ensures.value in
+    let now : c.choose_sparse.new.pages ≡ choosing ps =
+    c.choose_sparse.ensures.pages ∙ ap choosing c.deref_mut.ensures.value in
+    let size : length c.choose_sparse.new.pages ≡ length ps = ap length now ∙ length-map ps chosen_if_sparse in
     let back = written_back c.self.inside.pages.len c.choose_sparse.new.pages ps (choosing ps)
-    c.self.inside.pages.ok.0 (ap length now ∙ length-map ps chosen_if_sparse) now in
+    c.self.inside.pages.ok.0 size now in
     let listed : c.choose_sparse.new.chosen.items ≡ chosen_frames (choosing ps) =
-    c.choose_sparse.ensures.listed ∙ ap (λ us. chosen_frames (choosing us)) c.deref_mut.ensures.value in
+    ◌∙◌ {A = List ℕ} c.choose_sparse.ensures.listed
+    (ap (λ us. chosen_frames (choosing us)) c.deref_mut.ensures.value) in
     are_pages-chosen c.self.invariant none (omega (arith, count, c.if-self-count.false)) back listed
     c.choose_sparse.ensures.capacity
