@@ -1,4 +1,4 @@
-//! Scans and looks, loads and gets along a chain of objects, and the parts of a cycle that work on all cells.
+//! Scans and looks, loads and gets along a chain of objects, the parts of a cycle that work on all cells, and moves.
 
 use crate::least_of;
 use crate::words::{Fault, Heap, Strength};
@@ -26,6 +26,7 @@ enum Dead {
     None,
     Third,
     Half,
+    ThreeQuarters,
 }
 
 impl Dead {
@@ -34,6 +35,7 @@ impl Dead {
             Dead::None => false,
             Dead::Third => place % 3 == 2,
             Dead::Half => place % 2 == 1,
+            Dead::ThreeQuarters => place % 4 != 0,
         }
     }
 }
@@ -55,6 +57,10 @@ pub fn all() {
     least_of("rustc: a begin, of 4,096 objects", 1, || half_dead().begin);
     least_of("rustc: an end of clearing, half of 4,096 dead", 1, || half_dead().end_clear);
     least_of("rustc: a sweep, half of 4,096 dead, an object", CELLS / 2, || half_dead().sweeps);
+    least_of("rustc: a select, of 1,024 objects in 64 pages", 1, || moves().unwrap().select);
+    least_of("rustc: a move, of 1,024 objects", CELLS / 4, || moves().unwrap().moves);
+    least_of("rustc: a load, one after the other, each moves", CELLS / 4 - 1, || loads_that_move().unwrap());
+    least_of("rustc: two cycles and moves between, of 4,096 objects", 1, || cycles_with_moves().unwrap());
 }
 
 fn reads(word: &str, read: impl Fn(&mut Heap, u32) -> Result<Option<u32>, Fault>) {
@@ -181,6 +187,48 @@ fn cycle(heap: &mut Heap) -> Result<Parts, Fault> {
     let sweeps = time.elapsed();
     heap.end_sweep()?;
     Ok(Parts { begin, end_clear, sweeps })
+}
+
+/// How long the choice of objects that are to move took, and all their moves.
+struct Moves {
+    select: Duration,
+    moves: Duration,
+}
+
+/// The moves of a quarter of the objects, which is left in each page.
+fn moves() -> Result<Moves, Fault> {
+    let mut heap = filled(Dead::ThreeQuarters)?;
+    let heap = black_box(&mut heap);
+    cycle(heap)?;
+    let time = Instant::now();
+    black_box(heap.select()?);
+    let select = time.elapsed();
+    let time = Instant::now();
+    while black_box(heap.move_next(WORKER)?).is_some() {}
+    let moves = time.elapsed();
+    heap.end_move()?;
+    Ok(Moves { select, moves })
+}
+
+/// Loads, each of which moves what it answers.
+fn loads_that_move() -> Result<Duration, Fault> {
+    let mut heap = filled(Dead::ThreeQuarters)?;
+    cycle(&mut heap)?;
+    heap.select()?;
+    read_all(black_box(&mut heap), Route::Along, 1, CELLS / 4 - 1, |heap, from| heap.load(MUTATOR, HERE, from, 0))
+}
+
+/// A cycle, the moves of what it left, and a cycle that heals the words of what moved.
+fn cycles_with_moves() -> Result<Duration, Fault> {
+    let mut heap = filled(Dead::ThreeQuarters)?;
+    let heap = black_box(&mut heap);
+    let time = Instant::now();
+    cycle(heap)?;
+    heap.select()?;
+    while heap.move_next(WORKER)?.is_some() {}
+    heap.end_move()?;
+    cycle(heap)?;
+    Ok(time.elapsed())
 }
 
 /// The scans of a mark, and its end.

@@ -2,9 +2,11 @@
 //!
 //! A word is a colour, the address of a page from 1 on, and one of its 64 cells. What slots hold has the good colour.
 //! What a field or a reference holds in another is healed where it is read: written anew in the good colour, and in a
-//! mark what it leads to becomes grey.
+//! mark what it leads to becomes grey. What lay in a page that was chosen is found where it moved, and moves first if it
+//! is still to move.
 
 mod cycle;
+mod moves;
 
 use std::collections::VecDeque;
 
@@ -24,6 +26,9 @@ pub enum Fault {
     GreyLeft,
     ClearingLeft,
     SweepLeft,
+    NoRoom,
+    AddressesSpent,
+    MovesLeft,
 }
 
 #[derive(Clone, Copy, PartialEq, Eq)]
@@ -32,6 +37,7 @@ enum Phase {
     Marking,
     Clearing,
     Sweeping,
+    Moving,
 }
 
 /// The runs make weak references alone.
@@ -92,14 +98,14 @@ struct Cell {
     reference: Option<Reference>,
     /// Where the reference behind it lies that the same worker found.
     link: Option<u32>,
-    _rest: [u64; 4],
+    _rest: [u64; 6],
 }
 
-const _: () = assert!(size_of::<Cell>() == 144);
+const _: () = assert!(size_of::<Cell>() == 160);
 
 impl Cell {
     const FREE: Cell =
-        Cell { no: 0, count: 0, fields: [Word::NULL; FIELDS], reference: None, link: None, _rest: [0; 4] };
+        Cell { no: 0, count: 0, fields: [Word::NULL; FIELDS], reference: None, link: None, _rest: [0; 6] };
 
     fn field(&self, field: u32) -> Option<Word> {
         let fields = self.fields.get(..self.count as usize)?;
@@ -108,16 +114,36 @@ impl Cell {
 }
 
 /// Which of a page's cells are taken, and which of these are marked.
-#[derive(Clone, Default)]
+#[derive(Clone)]
 struct Page {
+    address: u32,
+    is_chosen: bool,
     taken: u64,
     marked: u64,
+}
+
+impl Page {
+    fn is_sparse(&self) -> bool {
+        (1..=32).contains(&self.taken.count_ones())
+    }
 }
 
 pub struct Heap {
     cells: Vec<Cell>,
     pages: Vec<Page>,
     first_open: usize,
+    /// Place by number, in order: an object that was handed out is named by its number.
+    index: Vec<(u32, u32)>,
+    /// How many objects there are, and may be.
+    count: usize,
+    room: usize,
+    /// Where what lay at each place moved.
+    forwards: Vec<u32>,
+    /// The pages whose objects are to move, and which of these has objects left.
+    chosen: Vec<u32>,
+    first_left: usize,
+    has_choice: bool,
+    next_address: u64,
     slots: Vec<Word>,
     good: Colour,
     phase: Phase,
@@ -134,11 +160,20 @@ pub struct Heap {
 
 impl Heap {
     pub fn new(mutators: usize, workers: usize, cells: usize, span: u64) -> Heap {
-        let pages = cells.div_ceil(CELLS);
+        let pages = 2 * cells.div_ceil(CELLS);
+        let page = |frame| Page { address: 1 + frame as u32, is_chosen: false, taken: 0, marked: 0 };
         Heap {
             cells: vec![Cell::FREE; pages * CELLS],
-            pages: vec![Page::default(); pages],
+            pages: (0..pages).map(page).collect(),
             first_open: 0,
+            index: Vec::with_capacity(2 * cells),
+            count: 0,
+            room: cells,
+            forwards: vec![0; pages * CELLS],
+            chosen: Vec::with_capacity(pages),
+            first_left: 0,
+            has_choice: false,
+            next_address: 1 + pages as u64,
             slots: vec![Word::NULL; mutators * SLOTS as usize],
             good: Colour::R,
             phase: Phase::Idle,
@@ -188,7 +223,7 @@ impl Heap {
     }
 
     pub fn store(&mut self, mutator: u32, into: u32, field: u32, from: u32) -> Result<(), Fault> {
-        let holder = self.slots[self.slot(mutator, into)?].place();
+        let holder = self.lies_at(self.slots[self.slot(mutator, into)?].place());
         let value = self.slots[self.slot(mutator, from)?];
         let cell = self.cells.get_mut(holder).ok_or(Fault::EmptySlot)?;
         cell.field(field).ok_or(Fault::BadField)?;
@@ -199,7 +234,7 @@ impl Heap {
     #[inline(always)]
     pub fn load(&mut self, mutator: u32, into: u32, from: u32, field: u32) -> Result<Option<u32>, Fault> {
         let into = self.slot(mutator, into)?;
-        let holder = self.slots[self.slot(mutator, from)?].place();
+        let holder = self.lies_at(self.slots[self.slot(mutator, from)?].place());
         let cell = self.cells.get(holder).ok_or(Fault::EmptySlot)?;
         let mut value = cell.field(field).ok_or(Fault::BadField)?;
         if !value.has(self.good) {
@@ -212,7 +247,7 @@ impl Heap {
     #[inline(always)]
     pub fn get(&mut self, mutator: u32, into: u32, from: u32) -> Result<Option<u32>, Fault> {
         let into = self.slot(mutator, into)?;
-        let holder = self.slots[self.slot(mutator, from)?].place();
+        let holder = self.lies_at(self.slots[self.slot(mutator, from)?].place());
         let cell = self.cells.get(holder).ok_or(Fault::EmptySlot)?;
         let reference = cell.reference.ok_or(Fault::NotAReference)?;
         let mut value = match reference.strength {
@@ -223,6 +258,7 @@ impl Heap {
             value = self.heal_referent(holder, value);
         }
         if reference.strength == Strength::Soft && value != Word::NULL {
+            let holder = self.lies_at(holder);
             self.cells[holder].reference = Some(Reference { referent: value, stamp: self.clock, ..reference });
         }
         self.slots[into] = value;
@@ -241,7 +277,7 @@ impl Heap {
     }
 
     fn number(&self, value: Word) -> Option<u32> {
-        self.cells.get(value.place()).map(|cell| cell.no)
+        self.cells.get(self.lies_at(value.place())).map(|cell| cell.no)
     }
 
     /// A new object in the lowest free cell of the first page that has one; what is made in a cycle is marked.
@@ -249,24 +285,52 @@ impl Heap {
         if fields as usize > FIELDS {
             return Err(Fault::BadField);
         }
-        while self.pages.get(self.first_open).is_some_and(|page| page.taken == u64::MAX) {
-            self.first_open += 1;
+        if self.count == self.room {
+            return Err(Fault::NoCell);
         }
-        let page = self.pages.get_mut(self.first_open).ok_or(Fault::NoCell)?;
-        let cell = page.taken.trailing_ones();
-        page.taken |= 1 << cell;
-        if self.phase != Phase::Idle {
-            page.marked |= 1 << cell;
+        let place = self.place()?;
+        if !matches!(self.phase, Phase::Idle | Phase::Moving) {
+            self.pages[place / CELLS].marked |= 1 << (place % CELLS);
         }
-        let place = self.first_open * CELLS + cell as usize;
         self.last += 1;
+        self.count += 1;
+        self.list(self.last, place as u32);
         self.cells[place] = Cell { no: self.last, count: fields, reference, ..Cell::FREE };
         self.slots[into] = Word::of(self.good, place);
         Ok(self.last)
     }
 
+    /// The lowest free cell of the first page that is open and has one: it is taken now.
+    fn place(&mut self) -> Result<usize, Fault> {
+        while self.pages.get(self.first_open).is_some_and(|page| page.is_chosen || page.taken == u64::MAX) {
+            self.first_open += 1;
+        }
+        let page = self.pages.get_mut(self.first_open).ok_or(Fault::NoCell)?;
+        let cell = page.taken.trailing_ones();
+        page.taken |= 1 << cell;
+        Ok(self.first_open * CELLS + cell as usize)
+    }
+
+    /// One more entry of the index, whose gaps are closed where it is full.
+    fn list(&mut self, no: u32, place: u32) {
+        if self.index.len() == 2 * self.room {
+            let cells = &self.cells;
+            self.index.retain(|(no, place)| cells[*place as usize].no == *no);
+        }
+        self.index.push((no, place));
+    }
+
+    /// Where what lay at this place lies now, if anything does.
+    fn lies_at(&self, place: usize) -> usize {
+        match self.cells.get(place) {
+            Some(cell) if cell.no == 0 => self.forwards[place] as usize,
+            _ => place,
+        }
+    }
+
     fn heal_field(&mut self, holder: usize, field: usize, value: Word) -> Word {
         let healed = self.heal(value);
+        let holder = self.lies_at(holder);
         self.cells[holder].fields[field] = healed;
         healed
     }
@@ -274,8 +338,9 @@ impl Heap {
     /// Once the mark has ended, a reference to a dead object is cleared.
     fn heal_referent(&mut self, holder: usize, value: Word) -> Word {
         let is_past_mark = matches!(self.phase, Phase::Clearing | Phase::Sweeping);
-        let is_dead = is_past_mark && !self.is_marked(value.place());
+        let is_dead = is_past_mark && !self.is_marked(self.lies_at(value.place()));
         let healed = if is_dead { Word::NULL } else { self.heal(value) };
+        let holder = self.lies_at(holder);
         if let Some(reference) = &mut self.cells[holder].reference {
             reference.referent = healed;
         }
@@ -284,7 +349,7 @@ impl Heap {
 
     /// The word in the good colour. In a mark what it leads to becomes grey, unless it is marked.
     fn heal(&mut self, word: Word) -> Word {
-        let place = word.place();
+        let place = self.resolve(word.place());
         if self.phase == Phase::Marking && !self.is_marked(place) {
             self.pages[place / CELLS].marked |= 1 << (place % CELLS);
             self.grey.push_back(place as u32);

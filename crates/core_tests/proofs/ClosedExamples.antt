@@ -1,5 +1,5 @@
 -- A heap in which nothing outside refers to what isn't marked, and four in which something does.
-use Rattle.std.proofs.Common.{◌≡◌, ℕ, true, false, ◌||◌, ◌==◌, refl, arith, List, [], ◌∷◌, Option, Some, None}
+use Rattle.std.proofs.Common.{ℕ, refl, arith, List, [], ◌∷◌, Option, Some, None}
 use Rattle.std.proofs.lemmas.Bool.{false≢true}
 use Rattle.ref_base.specs.Members.{has}
 use Rattle.ref_base.specs.Graphs.{Object, Reference}

@@ -1,3 +1,4 @@
 mod SmallGraphs
 mod ClosedLemmas
 mod ClosedExamples
+mod HealingCalls

@@ -9,7 +9,7 @@ ghost use Rattle.ref_space.specs.Tables.{fields_in};
 ghost use Rattle.ref_objects.specs.Grounds.{IsClosed, named_in};
 
 use ref_base::{MutNo, ObjNo, SlotNo};
-use ref_objects::{Fields, Objects, Worklist};
+use ref_objects::{Fields, Objects, Stage, Worklist};
 use std::alloc::Allocator;
 
 /// Whether no slot, no hold and nothing that is marked refers to what isn't marked. In time of the slots and of the
@@ -20,12 +20,12 @@ pub fn is_closed<A: Allocator + Copy>(heap: &Objects<A>) -> bool
     are_slots_closed(heap) && are_objects_closed(heap)
 }
 
-/// Condemns what isn't marked, where that may be and the list has room. False else: then nothing changes.
+/// Condemns what isn't marked, where that may be in a cycle and the list has room. False else: then nothing changes.
 pub fn condemn_if_closed<A: Allocator + Copy>(
     heap: &mut Objects<A>,
     condemned: &mut Worklist<A>,
 ) -> bool {
-    if condemned.room() < heap.object_count() || !is_closed(heap) {
+    if heap.stage() != Stage::Tuned || condemned.room() < heap.object_count() || !is_closed(heap) {
         return false;
     }
     heap.condemn(condemned);

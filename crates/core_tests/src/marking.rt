@@ -1,16 +1,19 @@
 //! A heap in its cycles, call by call.
 
+ghost use Rattle.core_tests.specs.Healing.{IsHealing};
+
 mod chains;
 mod cycles;
+mod moves;
 mod refusals;
 
 use crate::closed::is_closed;
 use crate::hand::{adopted, leak, released, taken};
 use crate::told::{
-    Told, began, done, doomed, expect, is, is_or_fault, looked, made, scanned, value,
-    value_or_fault,
+    Told, began, done, doomed, expect, is, is_or_fault, looked, made, moved, scanned, selected,
+    value, value_or_fault, word,
 };
-use ref_base::{Config, Fault, MutNo, ObjNo, QueueNo, SlotNo, Strength, Urgency, WorkerNo};
+use ref_base::{Config, Fault, MutNo, ObjNo, Phase, QueueNo, SlotNo, Strength, Urgency, WorkerNo};
 use ref_mark::Marker;
 use ref_objects::{Entry, Hold, Look, Start, Worklist};
 use std::alloc::Global;
@@ -34,6 +37,8 @@ enum Call {
 enum Mutate {
     /// Makes an object, in this slot and with so many fields.
     New(u32, u32),
+    /// Makes objects without fields, in this slot and so many; the last answer counts.
+    NewMany(u32, u32),
     /// Makes a reference: of this strength, in this slot, to what this slot holds, for this queue.
     Refer(Strength, u32, u32, Option<u32>),
     /// Into the object in this slot, into this field, what this slot holds.
@@ -61,13 +66,22 @@ enum Collect {
     EndMark,
     /// Of this worker.
     TakeFound(u32),
+    /// It isn't made but in Marking.
     GreyRoot(u32),
     /// The object of this number, wherever it lies.
     Free(u32),
     /// The next of the list of the condemned.
     FreeNext,
+    /// All of that list.
+    FreeAll,
+    /// It isn't made but in Clearing, once all that was found was looked at, where nothing refers to the doomed.
     ToSweeping,
+    /// It isn't made but in Sweeping, once all that is doomed was freed.
     ToIdle,
+    Select,
+    /// By this worker.
+    MoveNext(u32),
+    EndMove,
 }
 
 /// A call that reads a heap.
@@ -81,6 +95,8 @@ enum Ask {
     ReferentOf(u32),
     StampOf(u32),
     HoldCount,
+    /// The word that the object of this number has in this field.
+    WordAt(u32, u32),
 }
 
 /// A call that takes a hold or gives one back.
@@ -104,9 +120,29 @@ fn found_or_fault(answer: Result<Option<Look>, Fault>) -> Told {
     }
 }
 
-fn mutated(heap: &mut Marker, call: Mutate) -> Told {
+// Makes so many objects without fields in a slot, and tells the last answer.
+fn made_many(heap: &mut Marker, slot: SlotNo, count: u32) -> Told
+    requires { IsHealing heap.old }
+    ensures { IsHealing heap.new }
+{
+    let mut told = Told::Nothing;
+    for _object in 0..count {
+        // Gives the proof that what is unhealed is there.
+        heap.objects().facts();
+        told = made(heap.alloc_obj(M, slot, 0));
+    }
+    told
+}
+
+fn mutated(heap: &mut Marker, call: Mutate) -> Told
+    requires { IsHealing heap.old }
+    ensures { IsHealing heap.new }
+{
+    // Gives the proof that what is unhealed is there.
+    heap.objects().facts();
     match call {
         Mutate::New(slot, fields) => made(heap.alloc_obj(M, SlotNo(slot), fields)),
+        Mutate::NewMany(slot, count) => made_many(heap, SlotNo(slot), count),
         Mutate::Refer(strength, slot, source, queue) => {
             let queue = queue.map(|queue| QueueNo(queue));
             made(heap.alloc_ref(M, SlotNo(slot), strength, SlotNo(source), queue, 0))
@@ -135,7 +171,10 @@ fn mutated(heap: &mut Marker, call: Mutate) -> Told {
 }
 
 // Frees the next that is listed, and tells its number.
-fn freed_next(heap: &mut Marker, condemned: &mut Worklist) -> Told {
+fn freed_next(heap: &mut Marker, condemned: &mut Worklist) -> Told
+    requires { IsHealing heap.old }
+    ensures { IsHealing heap.new }
+{
     let Some(entry) = condemned.take_first() else {
         return Told::Nothing;
     };
@@ -147,30 +186,81 @@ fn freed_next(heap: &mut Marker, condemned: &mut Worklist) -> Told {
     }
 }
 
-fn collected(heap: &mut Marker, condemned: &mut Worklist, call: Collect) -> Told {
-    match call {
-        Collect::Begin(now, urgency) => return began(heap.begin(now, urgency)),
-        Collect::Scan(worker) => return scanned(heap.scan(WorkerNo(worker))),
-        Collect::EndMark => return doomed(heap.end_mark()),
-        Collect::TakeFound(worker) => return found_or_fault(heap.take_found(WorkerNo(worker))),
-        Collect::Free(no) => return is(heap.free(Entry::of(ObjNo(no)))),
-        Collect::FreeNext => return freed_next(heap, condemned),
-        Collect::GreyRoot(no) => heap.grey_root(ObjNo(no)),
-        Collect::ToSweeping => {
-            let count = heap.objects().object_count();
-            if heap.has_found() || condemned.room() < count || !is_closed(heap.objects()) {
-                return Told::No;
-            }
-            heap.to_sweeping(condemned);
-        }
-        Collect::ToIdle => {
-            if heap.has_doomed() {
-                return Told::No;
-            }
-            heap.to_idle();
+// Frees all that is listed, and tells how many there were.
+fn freed_all(heap: &mut Marker, condemned: &mut Worklist) -> Told
+    requires { IsHealing heap.old }
+    ensures { IsHealing heap.new }
+{
+    let mut count: u32 = 0;
+    for _place in 0..condemned.room() {
+        if let Told::Found(_) = freed_next(heap, condemned) {
+            count = count.saturating_add(1);
         }
     }
+    Told::Swept(count)
+}
+
+fn root_greyed(heap: &mut Marker, no: ObjNo) -> Told
+    requires { IsHealing heap.old }
+    ensures { IsHealing heap.new }
+{
+    if heap.phase() != Phase::Marking {
+        return Told::No;
+    }
+    heap.grey_root(no);
     Told::Done
+}
+
+fn sweep_begun(heap: &mut Marker, condemned: &mut Worklist) -> Told
+    requires { IsHealing heap.old }
+    ensures { IsHealing heap.new }
+{
+    let count = heap.objects().object_count();
+    if heap.phase() != Phase::Clearing
+        || heap.has_found()
+        || condemned.room() < count
+        || !is_closed(heap.objects())
+    {
+        return Told::No;
+    }
+    heap.to_sweeping(condemned);
+    Told::Done
+}
+
+fn cycle_ended(heap: &mut Marker) -> Told
+    requires { IsHealing heap.old }
+    ensures { IsHealing heap.new }
+{
+    if heap.phase() != Phase::Sweeping || heap.has_doomed() {
+        return Told::No;
+    }
+    // Gives the proof that what is unhealed is there.
+    heap.objects().facts();
+    heap.to_idle();
+    Told::Done
+}
+
+fn collected(heap: &mut Marker, condemned: &mut Worklist, call: Collect) -> Told
+    requires { IsHealing heap.old }
+    ensures { IsHealing heap.new }
+{
+    // Gives the proof that what is unhealed is there.
+    heap.objects().facts();
+    match call {
+        Collect::Begin(now, urgency) => began(heap.begin(now, urgency)),
+        Collect::Scan(worker) => scanned(heap.scan(WorkerNo(worker))),
+        Collect::EndMark => doomed(heap.end_mark()),
+        Collect::TakeFound(worker) => found_or_fault(heap.take_found(WorkerNo(worker))),
+        Collect::GreyRoot(no) => root_greyed(heap, ObjNo(no)),
+        Collect::Free(no) => is(heap.free(Entry::of(ObjNo(no)))),
+        Collect::FreeNext => freed_next(heap, condemned),
+        Collect::FreeAll => freed_all(heap, condemned),
+        Collect::ToSweeping => sweep_begun(heap, condemned),
+        Collect::ToIdle => cycle_ended(heap),
+        Collect::Select => selected(heap.select()),
+        Collect::MoveNext(worker) => moved(heap.move_next(WorkerNo(worker))),
+        Collect::EndMove => done(heap.end_move()),
+    }
 }
 
 fn asked(heap: &Marker, call: Ask) -> Told {
@@ -183,10 +273,16 @@ fn asked(heap: &Marker, call: Ask) -> Told {
         Ask::ReferentOf(no) => value(heap.objects().referent_of(ObjNo(no))),
         Ask::StampOf(no) => Told::Time(heap.objects().stamp_of(ObjNo(no))),
         Ask::HoldCount => Told::Count(heap.objects().hold_count()),
+        Ask::WordAt(no, field) => word(heap.objects().word_at(ObjNo(no), field)),
     }
 }
 
-fn kept(heap: &mut Marker, hand: &mut Option<Hold>, call: Keep) -> Told {
+fn kept(heap: &mut Marker, hand: &mut Option<Hold>, call: Keep) -> Told
+    requires { IsHealing heap.old }
+    ensures { IsHealing heap.new }
+{
+    // Gives the proof that what is unhealed is there.
+    heap.objects().facts();
     match call {
         Keep::Hold(slot) => taken(hand, heap.hold(M, SlotNo(slot))),
         Keep::Mint(no) => taken(hand, heap.mint(ObjNo(no))),
@@ -209,12 +305,10 @@ fn kept(heap: &mut Marker, hand: &mut Option<Hold>, call: Keep) -> Told {
     }
 }
 
-fn answer(
-    heap: &mut Marker,
-    condemned: &mut Worklist,
-    hand: &mut Option<Hold>,
-    call: Call,
-) -> Told {
+fn answer(heap: &mut Marker, condemned: &mut Worklist, hand: &mut Option<Hold>, call: Call) -> Told
+    requires { IsHealing heap.old }
+    ensures { IsHealing heap.new }
+{
     match call {
         Call::Mutate(call) => mutated(heap, call),
         Call::Collect(call) => collected(heap, condemned, call),
@@ -232,15 +326,16 @@ const CONFIG: Config = Config {
     span: 10,
 };
 
-/// Makes a story's calls in turn, on a heap that begins so: each has its answer.
-fn agree_from(
+/// Makes a story's calls in turn, on a heap of this size that begins so: each has its answer.
+fn agree_on(
     rt: &impl Abort,
     alloc: Global,
+    config: Config,
     start: Start,
     story: &[(Call, Told)],
 ) -> Result<(), Fail> {
-    let mut heap = Marker::starting(alloc, CONFIG, 1, start)?;
-    let mut condemned = Worklist::new(alloc, CONFIG.cells as usize)?;
+    let mut heap = Marker::starting(alloc, config, 1, start)?;
+    let mut condemned = Worklist::new(alloc, config.cells as usize)?;
     let mut hand = None;
     for (row, &(call, want)) in story.iter().enumerate() {
         let told = answer(&mut heap, &mut condemned, &mut hand, call);
@@ -248,6 +343,16 @@ fn agree_from(
     }
     leak(hand);
     Ok(())
+}
+
+/// The same, on a small heap.
+fn agree_from(
+    rt: &impl Abort,
+    alloc: Global,
+    start: Start,
+    story: &[(Call, Told)],
+) -> Result<(), Fail> {
+    agree_on(rt, alloc, CONFIG, start, story)
 }
 
 /// The same, where numbers begin at one.

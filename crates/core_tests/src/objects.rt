@@ -7,10 +7,10 @@ mod stories;
 use crate::closed::condemn_if_closed;
 use crate::hand::{adopted, leak, released, shown, taken};
 use crate::told::{
-    Told, done, expect, found, is, kind, looked, made, queue, value, value_or_fault,
+    Told, done, expect, found, is, kind, looked, made, queue, value, value_or_fault, word,
 };
 use ref_base::{Config, Fault, MutNo, ObjNo, QueueNo, SlotNo, Strength};
-use ref_objects::{Colour, Entry, Hold, Objects, Reference, Start, Worklist};
+use ref_objects::{Colour, Entry, Hold, Objects, Reference, Stage, Start, Worklist};
 use std::alloc::{Allocator, Global};
 use std::mem;
 use std::process::Abort;
@@ -156,13 +156,6 @@ fn listed_or_fault(answer: Result<Option<Entry>, Fault>) -> Told {
     }
 }
 
-fn word(answer: Option<u64>) -> Told {
-    match answer {
-        Some(bits) => Told::Word(bits),
-        None => Told::Nothing,
-    }
-}
-
 fn reference(answer: Option<Reference>) -> Told {
     match answer {
         Some(reference) => Told::Reference(reference),
@@ -190,18 +183,34 @@ fn swept<A: Allocator + Copy>(
     condemned: &mut Worklist<A>,
     no: ObjNo,
 ) -> bool {
-    heap.begin_marks(Colour::A);
+    begun(heap);
     mark_but(heap, no);
     condemn_if_closed(heap, condemned);
     let is_free = freed(heap, no);
     heap.end_cycle();
-    heap.begin_marks(Colour::A);
+    begun(heap);
     is_free
+}
+
+// Begins marks with another colour than the last.
+fn begun<A: Allocator + Copy>(heap: &mut Objects<A>) {
+    if heap.has_left() || heap.stage() == Stage::Tuned && heap.has_choice() {
+        return;
+    }
+    match heap.last_colour() {
+        Colour::A => heap.begin_marks(Colour::B),
+        Colour::B | Colour::R => heap.begin_marks(Colour::A),
+    }
 }
 
 // Frees an object, of which only the number is known.
 fn freed<A: Allocator + Copy>(heap: &mut Objects<A>, no: ObjNo) -> bool {
-    heap.free(Entry::of(no))
+    freed_at(heap, Entry::of(no))
+}
+
+// Frees the object of an entry, where none is still to move.
+fn freed_at<A: Allocator + Copy>(heap: &mut Objects<A>, entry: Entry) -> bool {
+    !heap.has_left() && heap.free(entry)
 }
 
 // Frees the next that is listed, and tells its number.
@@ -210,7 +219,7 @@ fn freed_next<A: Allocator + Copy>(heap: &mut Objects<A>, condemned: &mut Workli
         return Told::Nothing;
     };
     let number = entry.no.0;
-    if heap.free(entry) {
+    if freed_at(heap, entry) {
         Told::Found(number)
     } else {
         Told::No
@@ -266,7 +275,7 @@ fn after_setting<A: Allocator + Copy>(
         Set::Cut(no) => heap.cut(ObjNo(no)),
         Set::Cleared(no, cycle) => heap.set_cleared_in(ObjNo(no), cycle),
         Set::Link(no, to) => heap.set_link(ObjNo(no), to),
-        Set::BeginMarks => heap.begin_marks(Colour::A),
+        Set::BeginMarks => begun(heap),
         Set::Condemn => {
             if !condemn_if_closed(heap, condemned) {
                 return Told::No;

@@ -54,6 +54,10 @@ pub enum Told {
     Skipped(u32),
     /// So many were freed.
     Swept(u32),
+    /// So many are to move.
+    Selected(u32),
+    /// This object moved.
+    Moved(u32),
     /// A notice of this reference, for this queue, and why there is one.
     Notice(u32, u32, Cause),
     /// This reference is pending, for this queue, since this cycle.
@@ -125,6 +129,8 @@ impl Told {
             Told::Kept(_) => "kept",
             Told::Skipped(_) => "skipped",
             Told::Swept(_) => "swept",
+            Told::Selected(_) => "selected",
+            Told::Moved(_) => "moved",
             Told::Notice(..) => "notice",
             Told::Pending(..) => "pending",
             _ => self.word_of_the_rest(),
@@ -165,7 +171,7 @@ impl Told {
         match *self {
             Told::Object(no) | Told::Found(no) | Told::Queue(no) | Told::Scanned(no) => one(no),
             Told::Doomed(no) | Told::Cleared(no) | Told::Kept(no) | Told::Skipped(no) => one(no),
-            Told::Swept(count) => one(count),
+            Told::Swept(count) | Told::Selected(count) | Told::Moved(count) => one(count),
             Told::Count(count) | Told::Word(count) | Told::Next(count) | Told::Heap(count) => {
                 [count, 0, 0, 0, 0]
             }
@@ -250,6 +256,7 @@ fn number_of_phase(phase: Phase) -> u32 {
         Phase::Marking => 1,
         Phase::Clearing => 2,
         Phase::Sweeping => 3,
+        Phase::Moving => 4,
     }
 }
 
@@ -378,5 +385,28 @@ pub fn doomed(answer: Result<u32, Fault>) -> Told {
     match answer {
         Ok(count) => Told::Doomed(count),
         Err(fault) => Told::Refused(fault),
+    }
+}
+
+pub fn selected(answer: Result<u32, Fault>) -> Told {
+    match answer {
+        Ok(count) => Told::Selected(count),
+        Err(fault) => Told::Refused(fault),
+    }
+}
+
+pub fn moved(answer: Result<Option<ObjNo>, Fault>) -> Told {
+    match answer {
+        Ok(Some(no)) => Told::Moved(no.0),
+        Ok(None) => Told::Nothing,
+        Err(fault) => Told::Refused(fault),
+    }
+}
+
+/// The bits of a word, where there is that field.
+pub fn word(answer: Option<u64>) -> Told {
+    match answer {
+        Some(bits) => Told::Word(bits),
+        None => Told::Nothing,
     }
 }

@@ -59,6 +59,8 @@ heap_agrees gone w a c (heap.Plain (plain.Sweep k)) (replies.Swept count) is non
 heap_agrees gone w a c (heap.Plain (plain.Sweep k)) reply is none row =
     settles gone w a c a.scanned is (heap_outcome a c (heap.Plain (plain.Sweep k)) reply tt row)
 heap_agrees gone w a c (heap.Plain plain.EndSweep) reply is none row = grind arith
+heap_agrees gone w a c (heap.Plain plain.Select) reply is none row = grind arith
+heap_agrees gone w a c (heap.Plain plain.EndMove) reply is none row = grind arith
 heap_agrees gone w a c step reply is none row =
     still gone w a c reply is step tt tt tt tt (heap_outcome a c step reply tt row)
 

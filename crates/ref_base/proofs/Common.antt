@@ -15,11 +15,11 @@ pub use Rattle.std.specs.Map.{lookup}
 pub use Rattle.std.specs.Prelude.{replicate, slice_index_or, slice_set}
 pub use Rattle.ref_base.specs.AgreeingWorlds.{Agrees, cleared_if, heap_under, is_waiting, objects_under, under}
 pub use Rattle.ref_base.specs.ClearingOrder.{added_of, is_by}
-pub use Rattle.ref_base.specs.CollectorRows.{Accepts, AcceptsAsking, AreFound, ClearsNext, Closes, EndsMark, Gets}
-pub use Rattle.ref_base.specs.CollectorRows.{Gives, GivesAnewIf, HandsOn, HeapAccepts, Holds, IsAnswer, IsBut}
-pub use Rattle.ref_base.specs.CollectorRows.{IsHeapAnswer, IsHeapRow, IsLeft, IsRow, IsRun, Loads, Polls, Puts}
-pub use Rattle.ref_base.specs.CollectorRows.{PutsInto, QueuesAccept, Scans, Sweeps, Unhooks, begun_state, doomed_at}
-pub use Rattle.ref_base.specs.CollectorRows.{emptied, field_in, field_of, is_subsequence, list_at, looked_at}
+pub use Rattle.ref_base.specs.CollectorRows.{Accepts, AcceptsAsking, AreFound, ClearsNext, Closes, EndsMark, EndsMove}
+pub use Rattle.ref_base.specs.CollectorRows.{Gets, Gives, GivesAnewIf, HandsOn, HeapAccepts, Holds, IsAnswer, IsBut}
+pub use Rattle.ref_base.specs.CollectorRows.{IsHeapAnswer, IsHeapRow, IsLeft, IsRow, IsRun, Loads, Moves, Polls, Puts}
+pub use Rattle.ref_base.specs.CollectorRows.{PutsInto, QueuesAccept, Scans, Selects, Sweeps, Unhooks, begun_state}
+pub use Rattle.ref_base.specs.CollectorRows.{doomed_at, emptied, field_in, field_of, is_subsequence, list_at, looked_at}
 pub use Rattle.ref_base.specs.CollectorRows.{mark_ended, on_heap, reference_of, references_among, referent_got}
 pub use Rattle.ref_base.specs.CollectorRows.{referent_of, shown, ticked, value_reply, with_handed, with_world, without}
 pub use Rattle.ref_base.specs.Collectors.{State, first_state, first_state_of, joined}
@@ -53,7 +53,7 @@ pub use Rattle.ref_base.specs.Replay.{without_pending}
 pub use Rattle.ref_base.specs.ScannedRows.{scanned_in_cycle}
 pub use Rattle.ref_base.specs.Searches.{ArePathEnds, IsSearched, added_all, allowed, fields_of, phantom_referents}
 pub use Rattle.ref_base.specs.Strengths.{HangsOnPhantom, HasStrength, IsRising}
-pub use Rattle.ref_base.specs.Told.{is_done, told_cycle, told_notice, told_object, told_taken}
+pub use Rattle.ref_base.specs.Told.{is_done, is_selected, told_cycle, told_notice, told_object, told_taken}
 pub use Rattle.ref_base.specs.WorkerOrder.{cleared_in, clearing_order, if_registered, is_registered, registers}
 pub use Rattle.ref_base.specs.Worlds.{Notice, Pending, SameOthers, World, first_world, graph_of, hand_of, object_of}
 pub use Rattle.ref_base.specs.Worlds.{pending_numbers, pending_of, queue_at, with_hand, with_heap, with_pending}
@@ -68,7 +68,7 @@ pub use Rattle.ref_base.specs.declared.fault.Fault.TheVariants.{BadField, GreyLe
 pub use Rattle.ref_base.specs.declared.fault.Fault.TheVariants.{NotAReference, WrongPhase}
 pub use Rattle.ref_base.specs.declared.heap_step.HoldName.{HoldName}
 pub use Rattle.ref_base.specs.declared.phase.Phase.{Phase}
-pub use Rattle.ref_base.specs.declared.phase.Phase.TheVariants.{Clearing, Idle, Marking, Sweeping}
+pub use Rattle.ref_base.specs.declared.phase.Phase.TheVariants.{Clearing, Idle, Marking, Moving, Sweeping}
 pub use Rattle.ref_base.specs.declared.policy.Policy.{Policy}
 pub use Rattle.ref_base.specs.declared.reach.Reach.{Reach}
 pub use Rattle.ref_base.specs.declared.reach.Reach.TheVariants.{Phantom, Soft, Strong, Unreachable}

@@ -151,6 +151,7 @@ marked slots moments left = record {
   doomed = [];
   cleared = [];
   found = [] ∷ [];
+  moved = false;
 }
 
 abbrev slots_with : Option ℕ → List (Option ℕ)
@@ -194,3 +195,34 @@ kept_doomed =
 
 kept_doomed_is_not_legal : ¬ (IsLegal (config_of 1) kept_doomed)
 kept_doomed_is_not_legal legal = grind arith
+
+-- ---- a move
+
+-- objects are chosen a second time, and no cycle ended in between
+abbrev selected_twice : List Row
+selected_twice =
+    row (steps.Plain plain.Select) (replies.Selected 2) ∷
+    row (steps.Plain plain.EndMove) replies.Done ∷
+    row (steps.Plain plain.Select) (replies.Selected 2) ∷ []
+
+selected_twice_is_not_legal : ¬ (IsLegal (config_of 1) selected_twice)
+selected_twice_is_not_legal legal = grind arith
+
+-- an object moves that isn't there
+abbrev moved_from_nowhere : List Row
+moved_from_nowhere =
+    row (steps.Plain (plain.New 0 0 0)) (replies.Object 1) ∷
+    row (steps.Plain plain.Select) (replies.Selected 1) ∷
+    row (steps.Plain (plain.MoveNext 0)) (replies.Moved 2) ∷ []
+
+moved_from_nowhere_is_not_legal : ¬ (IsLegal (config_of 1) moved_from_nowhere)
+moved_from_nowhere_is_not_legal legal = grind arith
+
+-- a cycle begins while objects move
+abbrev begun_in_a_move : List Row
+begun_in_a_move =
+    row (steps.Plain plain.Select) (replies.Selected 2) ∷
+    row (steps.Plain (plain.Begin 5 Normal)) (replies.Cycle 1) ∷ []
+
+begun_in_a_move_is_not_legal : ¬ (IsLegal (config_of 1) begun_in_a_move)
+begun_in_a_move_is_not_legal legal = grind arith

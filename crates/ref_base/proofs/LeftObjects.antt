@@ -62,6 +62,8 @@ heap_left a b (heap.Plain plain.EndClear) reply row means =
     subst LeftMeans (sym row.1) (λ marks _. absurd (false≢true marks))
 heap_left a b (heap.Plain plain.EndSweep) reply row means =
     subst LeftMeans (sym row.1) (λ marks _. absurd (false≢true marks))
+heap_left a b (heap.Plain plain.Select) reply row means = grind arith
+heap_left a b (heap.Plain plain.EndMove) reply row means = grind arith
 heap_left a b (heap.Plain (plain.ClearNext k)) (replies.Cleared n) row means =
     left_same a b (heap.Plain (plain.ClearNext k)) (replies.Cleared n) row tt
     (ap (mark_in a) (outcome_stage a (heap.Plain (plain.ClearNext k)) (replies.Cleared n) tt)) means

@@ -7,7 +7,7 @@ use Rattle.ref_base.proofs.LegalSteps.{none_left, mark_ends, legal, stop, ◌⨾
 use Rattle.ref_base.proofs.WorkedTraces.{config_of, two_enqueued_in_order, death_reported_after_a_cycle}
 use Rattle.ref_base.proofs.WorkedTraces.{order_of_refusals, first_leaving_edge, soft_kept_within_the_span}
 use Rattle.ref_base.proofs.WorkedTraces.{cleared_for_every_mutator_at_once, get_keeps_the_referent}
-use Rattle.ref_base.proofs.WorkedTraces.{two_workers_in_clearing_order}
+use Rattle.ref_base.proofs.WorkedTraces.{two_workers_in_clearing_order, objects_move_once_a_cycle}
 
 two_enqueued_in_order_is_legal : IsLegal (config_of 1) two_enqueued_in_order
 two_enqueued_in_order_is_legal = legal (config_of 1) two_enqueued_in_order (
@@ -260,4 +260,56 @@ first_leaving_edge_is_legal = legal (config_of 1) first_leaving_edge (
     ⨾ (_, (refl, refl), refl)
     ⨾ inl (refl, refl)
     ⨾ (_, (refl, refl), refl)
+    ⨾ stop)
+
+objects_move_once_a_cycle_is_legal : IsLegal (config_of 1) objects_move_once_a_cycle
+objects_move_once_a_cycle_is_legal = legal (config_of 1) objects_move_once_a_cycle (
+    (_, (refl, refl), refl)
+    ⨾ (_, (refl, refl), refl)
+    ⨾ (_, (refl, refl), refl)
+    ⨾ (_, inr (inl refl, refl), refl)
+    ⨾ (_, inl (2, (refl, refl)), refl)
+    ⨾ (refl, refl)
+    ⨾ (_, (refl, refl), refl)
+    ⨾ (_, (refl, refl), refl)
+    ⨾ (_, inr (refl, refl), refl)
+    ⨾ (_, (refl, refl), refl)
+    ⨾ (_, (refl, refl), refl)
+    ⨾ (_, inl (refl, refl), refl)
+    ⨾ (refl, refl)
+    ⨾ (refl, refl)
+    ⨾ (_, (refl, (true, refl, λ _. (1, (inl ([], (refl, refl)), below _ _ refl, refl)))), refl)
+    ⨾ (
+      _,
+      (
+        refl,
+        (inl ([], (refl, refl)), below _ _ refl, refl),
+        (true, refl, λ _. (2, (inl ([], (refl, refl)), below _ _ refl, refl))),
+      ),
+      refl,
+    )
+    ⨾ (
+      _,
+      (
+        refl,
+        (inl ([], (refl, refl)), below _ _ refl, refl),
+        (true, refl, λ _. (3, (inl ([], (refl, refl)), below _ _ refl, refl))),
+      ),
+      refl,
+    )
+    ⨾ (_, (refl, (inl ([], (refl, refl)), below _ _ refl, refl), (false, refl, none_left)), refl)
+    ⨾ (
+      _,
+      mark_ends _ ([] ∷ [])
+          (may_doom _ _ _ [] (1 ∷ 2 ∷ 3 ∷ []) refl refl (
+            inr (inl ([], (refl, refl))),
+            (inr (inl ([], (refl, refl))), (inr (inl ([], (refl, refl))), tt)),
+          ) refl)
+          (refl, tt) (λ n h. absurd (false≢true h)),
+      refl,
+    )
+    ⨾ (_, (refl, refl), refl)
+    ⨾ (_, (refl, refl), refl)
+    ⨾ (_, inr (inr refl, refl), refl)
+    ⨾ (_, inl (3, (refl, refl)), refl)
     ⨾ stop)

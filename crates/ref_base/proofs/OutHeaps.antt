@@ -3,7 +3,8 @@
 use Rattle.ref_base.proofs.Common.{arith, ◌≡◌, ℕ, true, false, List, [], ◌++◌, take, drop, None, refl, sym, ap, ◌∙◌}
 use Rattle.ref_base.proofs.Common.{subst, inl, inr, or_from, append-nil, append_assoc, take-append-drop, has, World}
 use Rattle.ref_base.proofs.Common.{NamedStep, State, joined, heap_refusal, HeapAccepts, EndsMark, doomed_at, IsDead}
-use Rattle.ref_base.proofs.Common.{MarkEnded, WasDoomed, Config, Phase, Idle, Marking, Clearing, Sweeping, Reply, Row}
+use Rattle.ref_base.proofs.Common.{MarkEnded, WasDoomed, Config, Phase, Idle, Marking, Clearing, Sweeping, Moving}
+use Rattle.ref_base.proofs.Common.{Reply, Row}
 use Rattle.ref_base.proofs.HasLaws.{has-append, has-cases}
 use Rattle.ref_base.proofs.Outcomes.{heap_outcome, outcome, IsNoEnd}
 use Rattle.ref_base.proofs.OutcomeParts.{outcome_phase}
@@ -24,6 +25,7 @@ doomed_in Idle doomed = []
 doomed_in Marking doomed = []
 doomed_in Clearing doomed = doomed
 doomed_in Sweeping doomed = doomed
+doomed_in Moving doomed = []
 
 -- what is gone, or doomed
 abbrev pub off : List ℕ → State → List ℕ
@@ -67,6 +69,8 @@ off_same gone a c (heap.Plain (plain.Begin now how)) reply no_end none row = gri
 off_same gone a c (heap.Plain plain.EndMark) reply no_end none row = absurd no_end
 off_same gone a c (heap.Plain plain.EndClear) reply no_end none row = grind arith
 off_same gone a c (heap.Plain plain.EndSweep) reply no_end none row = grind arith
+off_same gone a c (heap.Plain plain.Select) reply no_end none row = grind arith
+off_same gone a c (heap.Plain plain.EndMove) reply no_end none row = grind arith
 off_same gone a c (heap.Plain (plain.Sweep k)) (replies.Swept count) no_end none row =
     let leads = heap_outcome a c (heap.Plain (plain.Sweep k)) (replies.Swept count) tt row in
     let sweeping : a.world.phase ≡ Sweeping = of_phase a (heap.Plain (plain.Sweep k)) none in

@@ -1,9 +1,9 @@
 -- Each row keeps that what is gone or doomed is out of reach, and that a mark's end has shown what it cleared.
 use Rattle.ref_base.proofs.Common.{arith, ◌≡◌, ℕ, ◌+◌, false, List, [], ◌∷◌, ◌++◌, length, Option, Some, None, refl}
 use Rattle.ref_base.proofs.Common.{sym, ap, ◌∙◌, subst, inl, inr, has, World, Notice, hand_of, NamedStep, heap_step}
-use Rattle.ref_base.proofs.Common.{spending, replayed, State, heap_refusal, HeapAccepts, IsRow, doomed_at, AreCounted}
-use Rattle.ref_base.proofs.Common.{MarkEnded, WasDoomed, Config, Mutator, Phase, Idle, Marking, Clearing, Sweeping}
-use Rattle.ref_base.proofs.Common.{HoldName, Step, Reply, Row, IsDead, hold_of}
+use Rattle.ref_base.proofs.Common.{spending, replayed, State, heap_refusal, HeapAccepts, Selects, EndsMove, IsRow}
+use Rattle.ref_base.proofs.Common.{doomed_at, AreCounted, MarkEnded, WasDoomed, Config, Mutator, Phase, Idle, Marking}
+use Rattle.ref_base.proofs.Common.{Clearing, Sweeping, Moving, HoldName, Step, Reply, Row, IsDead, hold_of}
 use Rattle.ref_base.proofs.Outcomes.{settled, outcome, heap_outcome, IsNoEnd}
 use Rattle.ref_base.proofs.PhaseLaws.{of_phase}
 use Rattle.ref_base.proofs.HeapTurns.{at_rest, IsIdle, IsTurn, row_turn}
@@ -105,6 +105,21 @@ module _ (Dead : ℕ → Type 0) (Shown : ℕ → ℕ → Type 0) (gone : List �
       plain_out Dead Shown gone w a c is out step reply no_end none row (λ clearing. absurd (other now clearing))
       (ap (λ (p : Phase). doomed_in p c.doomed) now ∙ whole)
 
+  -- objects are chosen to move, or not, or their move ends, or not: nothing is doomed then
+  selects : (reply : Reply) → heap_refusal a (heap.Plain plain.Select) ≡ None → Selects a reply c
+      → AreOutBy Dead Shown gone c
+  selects reply none (inl chosen) =
+      turns (heap.Plain plain.Select) reply (replies.Selected chosen.0) Moving tt none (inl chosen) chosen.1.0 refl
+      (λ into. not_in c Moving into refl) (grind arith)
+  selects reply none (inr refused) = subst (λ (s : State). AreOutBy Dead Shown gone s) (sym refused.1) out
+
+  ends_move : (reply : Reply) → heap_refusal a (heap.Plain plain.EndMove) ≡ None → EndsMove a reply c
+      → AreOutBy Dead Shown gone c
+  ends_move reply none (inl ended) =
+      turns (heap.Plain plain.EndMove) reply replies.Done Idle tt none (inl ended) ended.0 refl
+      (λ into. not_in c Idle into refl) (grind arith)
+  ends_move reply none (inr refused) = subst (λ (s : State). AreOutBy Dead Shown gone s) (sym refused.1) out
+
   -- a row that isn't a mark's end
   pub heap_out : (asked : NamedStep) (reply : Reply) → IsNoEnd asked → heap_refusal a asked ≡ None
       → HeapAccepts a asked reply c → AreOutBy Dead Shown (gone_after a gone asked reply) c
@@ -120,6 +135,8 @@ module _ (Dead : ℕ → Type 0) (Shown : ℕ → ℕ → Type 0) (gone : List �
       turns (heap.Plain plain.EndSweep) reply replies.Done Idle tt none row row.0 refl (λ into. not_in c Idle into refl)
       (sym (ap (λ (s : State). s.doomed) (heap_outcome a c (heap.Plain plain.EndSweep) reply tt row)
       ∙ (of_phase a (heap.Plain plain.EndSweep) none).1))
+  heap_out (heap.Plain plain.Select) reply no_end none row = selects reply none row
+  heap_out (heap.Plain plain.EndMove) reply no_end none row = ends_move reply none row
   heap_out (heap.Plain (plain.Sweep k)) reply no_end none row =
       let sweeping : a.world.phase ≡ Sweeping = of_phase a (heap.Plain (plain.Sweep k)) none in
       calm (heap.Plain (plain.Sweep k)) reply tt tt none row

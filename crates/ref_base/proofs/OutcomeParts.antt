@@ -1,7 +1,7 @@
 -- What stays where a row of a heap leads.
 use Rattle.ref_base.proofs.Common.{◌≡◌, ℕ, Bool, List, refl, ap, ◌∙◌, Graph, Policy, reference_at, registered_in, World}
-use Rattle.ref_base.proofs.Common.{is_done, told_cycle, NamedStep, State, Config, Phase, Reply, Notice, Lists}
-use Rattle.ref_base.proofs.Common.{SameOthers, HeapAccepts}
+use Rattle.ref_base.proofs.Common.{is_done, is_selected, told_cycle, NamedStep, State, Config, Phase, Reply, Notice}
+use Rattle.ref_base.proofs.Common.{Lists, SameOthers, HeapAccepts}
 use Rattle.ref_base.proofs.Outcomes.{outcome, IsNoEnd, heap_outcome}
 use Rattle.ref_base.proofs.ReplayKeeps.{EndsNoPhase, stage_of, stage_pended, same_stage, told_keeps, done_keeps}
 use Rattle.ref_base.specs.declared.heap_step.HeapStep.TheVariants as heap
@@ -66,6 +66,8 @@ outcome_identity a (heap.Plain (plain.Begin now how)) reply no_end =
 outcome_identity a (heap.Plain plain.EndMark) reply no_end = absurd no_end
 outcome_identity a (heap.Plain plain.EndClear) reply no_end = done_keeps identity_in (is_done reply) _ a.world refl
 outcome_identity a (heap.Plain plain.EndSweep) reply no_end = done_keeps identity_in (is_done reply) _ a.world refl
+outcome_identity a (heap.Plain plain.Select) reply no_end = done_keeps identity_in (is_selected reply) _ a.world refl
+outcome_identity a (heap.Plain plain.EndMove) reply no_end = done_keeps identity_in (is_done reply) _ a.world refl
 outcome_identity a step reply no_end = ap identity_in (outcome_stage a step reply tt)
 
 -- ---- what a row of a heap leaves

@@ -2,10 +2,11 @@
 -- a sweep frees; and then a moment of a mark joins the others. A mark's end says itself where it leads.
 use Rattle.ref_base.proofs.Common.{arith, ◌≡◌, ℕ, ◌+◌, Bool, true, false, List, [], ◌∷◌, ◌++◌, take, drop, Option, Some}
 use Rattle.ref_base.proofs.Common.{None, refl, sym, ap, ◌∙◌, subst, inl, inr, ◌⊎◌, slice_set, cases_Bool, reference_at}
-use Rattle.ref_base.proofs.Common.{registered_in, with_slot, GivesAnewIf, Pending, with_heap, NamedStep, pended}
-use Rattle.ref_base.proofs.Common.{after_heap, State, Gives, IsBut, ticked, on_heap, with_world, Loads, Gets, Unhooks}
-use Rattle.ref_base.proofs.Common.{Holds, Scans, ClearsNext, HandsOn, Sweeps, HeapAccepts, value_reply, looked_at}
-use Rattle.ref_base.proofs.Common.{list_at, begun_state, without, is_in, Marking, Reply}
+use Rattle.ref_base.proofs.Common.{if◌then◌else◌, registered_in, with_slot, GivesAnewIf, Pending, with_heap}
+use Rattle.ref_base.proofs.Common.{is_done, is_selected, NamedStep, pended, after_heap, State, Gives, IsBut, ticked}
+use Rattle.ref_base.proofs.Common.{on_heap, with_world, Loads, Gets, Unhooks, Holds, Scans, ClearsNext, HandsOn, Sweeps}
+use Rattle.ref_base.proofs.Common.{Selects, Moves, EndsMove, HeapAccepts, value_reply, looked_at, list_at, begun_state}
+use Rattle.ref_base.proofs.Common.{without, is_in, Marking, Reply}
 use Rattle.ref_base.specs.CollectorRows.{looked}
 use Rattle.ref_base.specs.declared.heap_step.HeapStep.TheVariants as heap
 use Rattle.ref_base.specs.declared.plain_step.PlainStep.TheVariants as plain
@@ -47,6 +48,14 @@ outcome a (heap.Plain (plain.Sweep k)) (replies.Swept count) = record a {
   doomed = drop 64 a.doomed;
 }
 outcome a (heap.Plain (plain.Sweep k)) reply = a
+outcome a (heap.Plain plain.EndSweep) reply = record a {
+  world = after_heap a.world (heap.Plain plain.EndSweep) reply;
+  moved = if is_done reply then false else a.moved;
+}
+outcome a (heap.Plain plain.Select) reply = record a {
+  world = after_heap a.world (heap.Plain plain.Select) reply;
+  moved = if is_selected reply then true else a.moved;
+}
 outcome a step reply = with_world a (after_heap a.world step reply)
 
 -- the step isn't a mark's end
@@ -135,6 +144,16 @@ sweeps : (a b : State) (k : ℕ) (doomed : List ℕ) (reply : Reply) → a.doome
 sweeps a b k [] reply is row = given a a b (heap.Plain (plain.Sweep k)) replies.Nothing reply row refl
 sweeps a b k (n ∷ ns) reply is row = grind arith
 
+selects : (a b : State) (reply : Reply) → Selects a reply b → Leads a (heap.Plain plain.Select) reply b
+selects a b reply row = grind arith
+
+moves : (a b : State) (k : ℕ) (reply : Reply) → Moves a reply b → Leads a (heap.Plain (plain.MoveNext k)) reply b
+moves a b k (replies.Moved n) row = inl row.1
+moves a b k reply row = inl row.1
+
+ends_move : (a b : State) (reply : Reply) → EndsMove a reply b → Leads a (heap.Plain plain.EndMove) reply b
+ends_move a b reply row = grind arith
+
 -- a row of a heap that isn't a mark's end leads where its answer says
 pub heap_becomes : (a b : State) (step : NamedStep) (reply : Reply) → IsNoEnd step → HeapAccepts a step reply b
     → Becomes (outcome a step reply) b
@@ -150,6 +169,9 @@ heap_becomes a b (heap.Plain plain.EndMark) reply no_end row = absurd no_end
 heap_becomes a b (heap.Plain (plain.ClearNext k)) reply no_end row = looks_at a b k _ reply refl row
 heap_becomes a b (heap.Hand k) reply no_end row = hands_on a b k _ reply row
 heap_becomes a b (heap.Plain (plain.Sweep k)) reply no_end row = sweeps a b k a.doomed reply refl row
+heap_becomes a b (heap.Plain plain.Select) reply no_end row = selects a b reply row
+heap_becomes a b (heap.Plain (plain.MoveNext k)) reply no_end row = moves a b k reply row
+heap_becomes a b (heap.Plain plain.EndMove) reply no_end row = ends_move a b reply row
 heap_becomes a b step reply no_end row = given a _ b step _ reply row refl
 
 -- in one equation

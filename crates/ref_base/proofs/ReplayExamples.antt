@@ -2,12 +2,12 @@
 use Rattle.ref_base.proofs.Common.{◌≡◌, ℕ, List, [], ◌∷◌, take, Option, Some, None, inl, inr, refl, Graph, Object}
 use Rattle.ref_base.proofs.Common.{plain_object, IsPath, soft_and_weak_referents, new_clears, FirstLeaves, slot_at}
 use Rattle.ref_base.proofs.Common.{World, graph_of, hand_of, pending_numbers, replayed, put_into, taken_from}
-use Rattle.ref_base.proofs.Common.{clearing_order, Weak, Own, Cycle, Mutator, Sweeping, Strength}
+use Rattle.ref_base.proofs.Common.{clearing_order, Weak, Own, Cycle, Mutator, Idle, Moving, Sweeping, Strength}
 use Rattle.ref_base.specs.declared.strength.Strength.TheVariants.{Soft}
 use Rattle.ref_base.proofs.WorkedTraces.{config_of, two_enqueued_in_order, death_reported_after_a_cycle}
 use Rattle.ref_base.proofs.WorkedTraces.{get_keeps_the_referent, two_workers_in_clearing_order}
 use Rattle.ref_base.proofs.WorkedTraces.{soft_kept_within_the_span, cleared_for_every_mutator_at_once}
-use Rattle.ref_base.proofs.WorkedTraces.{first_leaving_edge}
+use Rattle.ref_base.proofs.WorkedTraces.{first_leaving_edge, objects_move_once_a_cycle}
 
 -- a reference with no fields, registered with queue 0
 abbrev reference : ℕ → Strength → Option ℕ → ℕ → Object
@@ -141,3 +141,24 @@ its_first_leaving_edge_is_from_3_to_2 = inr (inl (refl, refl, refl, refl))
 
 and_3_is_the_one_that_is_cleared : new_clears at_the_marks_end.objects doomed ≡ 3 ∷ []
 and_3_is_the_one_that_is_cleared = refl
+
+-- ---- objects move, and the graph stays
+
+-- the world after so many rows
+abbrev after_rows : ℕ → World
+after_rows count = replayed (config_of 1) (take count objects_move_once_a_cycle)
+
+a_refused_choice_begins_no_move : (after_rows 4).phase ≡ Idle
+a_refused_choice_begins_no_move = refl
+
+then_objects_move : (after_rows 5).phase ≡ Moving
+then_objects_move = refl
+
+till_their_move_ends : (after_rows 12).phase ≡ Idle
+till_their_move_ends = refl
+
+each_object_stays_as_it_was : graph_of (after_rows 12) ≡ record {
+  objects = plain_object 1 (Some 2 ∷ []) ∷ plain_object 2 [] ∷ plain_object 3 [] ∷ [];
+  roots = 1 ∷ 2 ∷ 2 ∷ 3 ∷ [];
+}
+each_object_stays_as_it_was = refl

@@ -41,6 +41,8 @@ EndsNoPhase (heap.Plain (plain.Begin now how)) = ⊥
 EndsNoPhase (heap.Plain plain.EndMark) = ⊥
 EndsNoPhase (heap.Plain plain.EndClear) = ⊥
 EndsNoPhase (heap.Plain plain.EndSweep) = ⊥
+EndsNoPhase (heap.Plain plain.Select) = ⊥
+EndsNoPhase (heap.Plain plain.EndMove) = ⊥
 EndsNoPhase step = Unit {0}
 
 -- the step neither clears for a worker nor hands on
@@ -95,6 +97,8 @@ same_stage w (heap.Plain (plain.Begin now how)) reply no_end = absurd no_end
 same_stage w (heap.Plain plain.EndMark) reply no_end = absurd no_end
 same_stage w (heap.Plain plain.EndClear) reply no_end = absurd no_end
 same_stage w (heap.Plain plain.EndSweep) reply no_end = absurd no_end
+same_stage w (heap.Plain plain.Select) reply no_end = absurd no_end
+same_stage w (heap.Plain plain.EndMove) reply no_end = absurd no_end
 same_stage w (heap.Plain (plain.ClearNext k)) reply no_end = grind arith
 same_stage w (heap.Hand k) reply no_end = told_keeps stage_of (told_notice reply) _ w (λ notice. refl)
 same_stage w step reply no_end =

@@ -5,9 +5,9 @@ use Rattle.ref_base.proofs.Common.{reference_at, NamedStep, heap_step, Notice, P
 use Rattle.ref_base.proofs.Common.{unless_full, field_count, object_refusal, field_refusal, reference_refusal}
 use Rattle.ref_base.proofs.Common.{holds_refusal, minting_refusal, unhook_refusal, hand_refusal, held_refusal, is_in}
 use Rattle.ref_base.proofs.Common.{heap_refusal, refusal, Gives, GivesAnewIf, Loads, Gets, Unhooks, Holds, Polls}
-use Rattle.ref_base.proofs.Common.{Closes, Scans, ClearsNext, HandsOn, Sweeps, looked_at, value_reply, HeapAccepts}
-use Rattle.ref_base.proofs.Common.{AcceptsAsking, IsAnswer, IsRow, Fault, NoMemory, BadField, NotAReference, Actor}
-use Rattle.ref_base.proofs.Common.{Marking, Reply, Step}
+use Rattle.ref_base.proofs.Common.{Closes, Scans, ClearsNext, HandsOn, Sweeps, Selects, Moves, EndsMove, looked_at}
+use Rattle.ref_base.proofs.Common.{value_reply, HeapAccepts, AcceptsAsking, IsAnswer, IsRow, Fault, NoMemory, BadField}
+use Rattle.ref_base.proofs.Common.{NotAReference, Actor, Marking, Reply, Step}
 use Rattle.std.specs.Prelude.{◌^◌}
 use Rattle.ref_base.specs.Refusals.{unless_empty, empty_hand_refusal, asked_refusal}
 use Rattle.ref_base.specs.declared.fault.Fault.TheVariants.{NumbersSpent}
@@ -147,6 +147,16 @@ scan_tells : (a : State) (k : ℕ) (reply : Reply) (b : State) → Scans a k rep
 scan_tells a k (replies.Refused fault) b scans = told scans.1.0 refl
 scan_tells a k reply b scans = refl
 
+select_tells : (a : State) (reply : Reply) (b : State) → Selects a reply b → tells_want reply ≡ false
+select_tells a reply b selects = grind arith
+
+move_tells : (a : State) (reply : Reply) (b : State) → Moves a reply b → tells_want reply ≡ false
+move_tells a (replies.Refused fault) b moves = told moves.0 refl
+move_tells a reply b moves = refl
+
+end_tells : (a : State) (reply : Reply) (b : State) → EndsMove a reply b → tells_want reply ≡ false
+end_tells a reply b ends = grind arith
+
 gives_tells : (answer : Reply) (c : State) (reply : Reply) (b : State) → Gives answer c reply b
     → tells_want answer ≡ false → tells_want reply ≡ false
 gives_tells answer c reply b gives other = told gives.0 other
@@ -167,6 +177,9 @@ accepted_tells a step reply b gives =
       clear_tells,
       handed_tells,
       sweep_tells,
+      select_tells,
+      move_tells,
+      end_tells,
       gives,
       refl,
     )

@@ -1,7 +1,8 @@
 -- Worked traces, as rows.
 use Rattle.ref_base.proofs.Common.{ℕ, List, [], ◌∷◌, Some, Config, Weak, Normal, Own, Cycle, Mutator, Worker, GreyLeft}
 use Rattle.ref_base.proofs.Common.{HandEmpty, BadField, NoSuchActor, NotAReference, WrongPhase, Step, Reply, Row}
-use Rattle.ref_base.specs.declared.fault.Fault.TheVariants.{BadQueue, EmptySlot, HandFull}
+use Rattle.ref_base.specs.declared.fault.Fault.TheVariants.{BadQueue, EmptySlot, HandFull, MovesLeft, NoRoom}
+use Rattle.ref_base.specs.declared.fault.Fault.TheVariants.{AddressesSpent}
 use Rattle.ref_base.specs.declared.strength.Strength.TheVariants.{Soft}
 use Rattle.ref_base.specs.declared.plain_step.PlainStep.TheVariants as plain
 use Rattle.ref_base.specs.declared.step.Step.TheVariants as steps
@@ -178,4 +179,32 @@ first_leaving_edge =
     row (steps.Plain (plain.Sweep 0)) (replies.Swept 2) ∷
     row (steps.Put (Worker 0)) (replies.Added 0) ∷
     row (steps.Hand 0) replies.Nothing ∷
+    []
+
+-- config 1 1 1 8 10: of pages the abstract collector knows nothing, so it allows this in a heap of any size
+abbrev pub objects_move_once_a_cycle : List Row
+objects_move_once_a_cycle =
+    row (steps.Plain (plain.New 0 0 1)) (replies.Object 1) ∷
+    row (steps.Plain (plain.New 0 1 0)) (replies.Object 2) ∷
+    row (steps.Plain (plain.Store 0 0 0 1)) replies.Done ∷
+    row (steps.Plain plain.Select) (replies.Refused NoRoom) ∷
+    row (steps.Plain plain.Select) (replies.Selected 2) ∷
+    row (steps.Plain (plain.Begin 5 Normal)) (replies.Refused WrongPhase) ∷
+    row (steps.Plain (plain.Load 0 2 0 0)) (replies.Object 2) ∷
+    row (steps.Plain (plain.New 0 3 0)) (replies.Object 3) ∷
+    row (steps.Plain plain.EndMove) (replies.Refused MovesLeft) ∷
+    row (steps.Plain (plain.MoveNext 0)) (replies.Moved 1) ∷
+    row (steps.Plain (plain.MoveNext 0)) replies.Nothing ∷
+    row (steps.Plain plain.EndMove) replies.Done ∷
+    row (steps.Plain plain.Select) (replies.Refused WrongPhase) ∷
+    row (steps.Plain (plain.MoveNext 0)) (replies.Refused WrongPhase) ∷
+    row (steps.Plain (plain.Begin 5 Normal)) (replies.Cycle 1) ∷
+    row (steps.Plain (plain.Scan 0)) (replies.Scanned 1) ∷
+    row (steps.Plain (plain.Scan 0)) (replies.Scanned 2) ∷
+    row (steps.Plain (plain.Scan 0)) (replies.Scanned 3) ∷
+    row (steps.Plain plain.EndMark) (replies.Doomed 0) ∷
+    row (steps.Plain plain.EndClear) replies.Done ∷
+    row (steps.Plain plain.EndSweep) replies.Done ∷
+    row (steps.Plain plain.Select) (replies.Refused AddressesSpent) ∷
+    row (steps.Plain plain.Select) (replies.Selected 3) ∷
     []

@@ -1,10 +1,10 @@
 -- The rows of the abstract collector: which step may be answered how in a state, and what state that leaves (package
 -- `java.lang.ref` of Java SE 17 for what the calls of a reference answer and for clearing at one instant; cycles,
--- workers and queues: this project's profile).
+-- moves, workers and queues: this project's profile).
 use Rattle.std.specs.Prelude.{◌≡◌, ℕ, ◌+◌, ◌<◌, Bool, true, false, ◌==◌, if◌then◌else◌, min, List, [], ◌∷◌, ◌++◌, map}
 use Rattle.std.specs.Prelude.{length, take, drop, Option, Some, None, slice_index_or, slice_set, ◌⊎◌, is_some}
 use Rattle.ref_base.specs.Members.{has}
-use Rattle.ref_base.specs.Graphs.{Object, Reference, object_at, plain_object}
+use Rattle.ref_base.specs.Graphs.{Object, Reference, object_at, is_there, plain_object}
 use Rattle.ref_base.specs.Paths.{is_phantom}
 use Rattle.ref_base.specs.KeptPaths.{EverKept}
 use Rattle.ref_base.specs.DoomedSets.{unscanned, MayDoom, is_new_clear, new_clears}
@@ -19,9 +19,9 @@ use Rattle.ref_base.specs.Refusals.{heap_refusal, refusal, is_in}
 use Rattle.ref_base.specs.Runs.{LeadsThrough}
 use Rattle.ref_base.specs.declared.cause.Cause.TheVariants.{Own, Cycle}
 use Rattle.ref_base.specs.declared.actor.Actor.{Actor}
-use Rattle.ref_base.specs.declared.phase.Phase.TheVariants.{Idle, Marking, Clearing, Sweeping}
+use Rattle.ref_base.specs.declared.phase.Phase.TheVariants.{Idle, Marking, Clearing, Sweeping, Moving}
 use Rattle.ref_base.specs.declared.fault.Fault.{Fault}
-use Rattle.ref_base.specs.declared.fault.Fault.TheVariants.{NoMemory}
+use Rattle.ref_base.specs.declared.fault.Fault.TheVariants.{NoMemory, MovesLeft, NoRoom, AddressesSpent}
 use Rattle.ref_base.specs.declared.heap_step.HeapStep.TheVariants as heap
 use Rattle.ref_base.specs.declared.plain_step.PlainStep.{PlainStep}
 use Rattle.ref_base.specs.declared.plain_step.PlainStep.TheVariants as plain
@@ -273,6 +273,34 @@ Sweeps a (n ∷ ns) =
       doomed = drop 64 (n ∷ ns);
     })
 
+-- a sweep's end: objects may be chosen to move again
+abbrev pub sweep_ended : State → State
+sweep_ended a = record a { world = with_phase a.world Idle; moved = false }
+
+-- ---- moves: where objects lie is no part of the state, so it tells neither which of them are to move, nor how many,
+-- nor whether there is room for that
+
+-- objects were chosen, and move from now on
+abbrev pub move_begun : State → State
+move_begun a = record a { world = with_phase a.world Moving; moved = true }
+
+-- a select answers how many objects are to move, or it is refused: no room would be won, or too few addresses are left
+abbrev pub Selects : State → Reply → State → Type 0
+Selects a reply b =
+    ((count : ℕ) × Gives (replies.Selected count) (move_begun a) reply b)
+    ⊎ (((reply ≡ replies.Refused NoRoom) ⊎ (reply ≡ replies.Refused AddressesSpent)) × (b ≡ a))
+
+-- a move answers an object that is there, or that none is left to move
+abbrev pub Moves : State → Reply → State → Type 0
+Moves a (replies.Moved n) b = (is_there a.world.heap.objects n ≡ true) × (b ≡ a)
+Moves a reply b = (reply ≡ replies.Nothing) × (b ≡ a)
+
+-- a move's end is accepted, or refused while an object is left to move
+abbrev pub EndsMove : State → Reply → State → Type 0
+EndsMove a reply b =
+    Gives replies.Done (with_world a (with_phase a.world Idle)) reply b
+    ⊎ ((reply ≡ replies.Refused MovesLeft) × (b ≡ a))
+
 -- ---- the rows of a heap
 
 -- a step that hands nothing over and isn't refused may be answered so, and leaves this state
@@ -299,7 +327,10 @@ PlainAccepts a plain.EndMark = EndsMark a
 PlainAccepts a (plain.ClearNext k) = ClearsNext a k (list_at a.found k)
 PlainAccepts a plain.EndClear = Gives replies.Done (with_world a (with_phase a.world Sweeping))
 PlainAccepts a (plain.Sweep k) = Sweeps a a.doomed
-PlainAccepts a plain.EndSweep = Gives replies.Done (with_world a (with_phase a.world Idle))
+PlainAccepts a plain.EndSweep = Gives replies.Done (sweep_ended a)
+PlainAccepts a plain.Select = Selects a
+PlainAccepts a (plain.MoveNext k) = Moves a
+PlainAccepts a plain.EndMove = EndsMove a
 
 -- a step that isn't refused may be answered so, and leaves this state
 abbrev pub HeapAccepts : State → NamedStep → Reply → State → Type 0

@@ -8,8 +8,8 @@ use Rattle.ref_base.specs.declared.config.Config.{Config}
 -- mark's end on, and what was swept is gone. Beside it: the next object number, and the next as the cycle began; the
 -- graphs of the moments of this marking, since whatever a kept path led to in one of them was ever kept; for each
 -- worker the objects that it scanned in this cycle; whether it is said that an object is left to scan; the doomed that
--- are not swept yet; the references that the mark's end cleared; and for each worker the references that it found and
--- has not looked at since.
+-- are not swept yet; the references that the mark's end cleared; for each worker the references that it found and has
+-- not looked at since; and whether objects were chosen to move since a cycle last ended. Which ones is no part of it.
 pub record State : Type 0 where
   pub world : World
   pub next : ℕ
@@ -20,6 +20,7 @@ pub record State : Type 0 where
   pub doomed : List ℕ
   pub cleared : List ℕ
   pub found : List (List ℕ)
+  pub moved : Bool
 
 -- at first no object is there, and the first has number 1: of a heap of this number
 abbrev pub first_state_of : Config → ℕ → State
@@ -33,6 +34,7 @@ first_state_of config number = record {
   doomed = [];
   cleared = [];
   found = replicate config.workers [];
+  moved = false;
 }
 
 -- and of a world with queues

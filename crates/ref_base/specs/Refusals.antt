@@ -11,7 +11,7 @@ use Rattle.ref_base.specs.HeapSteps.{NamedStep, heap_step}
 use Rattle.ref_base.specs.declared.actor.Actor.{Actor}
 use Rattle.ref_base.specs.declared.actor.Actor.TheVariants.{Mutator, Worker}
 use Rattle.ref_base.specs.declared.phase.Phase.{Phase}
-use Rattle.ref_base.specs.declared.phase.Phase.TheVariants.{Idle, Marking, Clearing, Sweeping}
+use Rattle.ref_base.specs.declared.phase.Phase.TheVariants.{Idle, Marking, Clearing, Sweeping, Moving}
 use Rattle.ref_base.specs.declared.fault.Fault.{Fault}
 use Rattle.ref_base.specs.declared.fault.Fault.TheVariants.{NoCell, NumbersSpent, EmptySlot, BadField, NotAReference}
 use Rattle.ref_base.specs.declared.fault.Fault.TheVariants.{NoSuchActor, BadQueue, WrongPhase, ClockBack, GreyLeft}
@@ -144,6 +144,7 @@ is_in Idle Idle = true
 is_in Marking Marking = true
 is_in Clearing Clearing = true
 is_in Sweeping Sweeping = true
+is_in Moving Moving = true
 is_in phase other = false
 
 abbrev pub in_phase : State → Phase → Option Fault → Option Fault
@@ -162,6 +163,10 @@ work_refusal h now phase k = unless (is_worker h k) NoSuchActor (unless (is_in n
 -- of a mark's end, where it is said whether an object is left to scan
 abbrev pub end_mark_refusal : Phase → Bool → Option Fault
 end_mark_refusal phase left = unless (is_in phase Marking) WrongPhase (unless (not left) GreyLeft None)
+
+-- of a choice of objects that are to move: once they were chosen, a cycle has to end first
+abbrev pub select_refusal : Phase → Bool → Option Fault
+select_refusal phase moved = unless (is_in phase Idle && not moved) WrongPhase None
 
 abbrev pub is_empty : {T : Type 0} → List T → Bool
 is_empty [] = true
@@ -202,6 +207,9 @@ plain_refusal a (plain.ClearNext k) = work_refusal a.world.heap a.world.phase Cl
 plain_refusal a plain.EndClear = in_phase a Clearing (unless (is_empty (joined a.found)) ClearingLeft None)
 plain_refusal a (plain.Sweep k) = work_refusal a.world.heap a.world.phase Sweeping k
 plain_refusal a plain.EndSweep = in_phase a Sweeping (unless (is_empty a.doomed) SweepLeft None)
+plain_refusal a plain.Select = select_refusal a.world.phase a.moved
+plain_refusal a (plain.MoveNext k) = work_refusal a.world.heap a.world.phase Moving k
+plain_refusal a plain.EndMove = in_phase a Moving None
 
 -- the fault of a step of the heap, or none where it is accepted
 abbrev pub heap_refusal : State → NamedStep → Option Fault

@@ -12,14 +12,14 @@ use Rattle.ref_base.specs.QueueLists.{Lists, with_parcel}
 use Rattle.ref_base.specs.Worlds.{World, Notice, Pending, first_world, object_of, hand_of, queue_at, pending_of}
 use Rattle.ref_base.specs.Worlds.{with_heap, with_hand, with_queue, with_pending}
 use Rattle.ref_base.specs.Told.{told_object, told_value, is_done, told_notice, is_nothing, is_added, told_taken}
-use Rattle.ref_base.specs.Told.{told_cycle, is_mark_end, told_cleared}
+use Rattle.ref_base.specs.Told.{told_cycle, is_mark_end, told_cleared, is_selected}
 use Rattle.ref_base.specs.HeapSteps.{NamedStep, heap_step, handed}
 use Rattle.ref_base.specs.declared.config.Config.{Config}
 use Rattle.ref_base.specs.declared.actor.Actor.{Actor}
 use Rattle.ref_base.specs.declared.actor.Actor.TheVariants.{Mutator}
 use Rattle.ref_base.specs.declared.urgency.Urgency.{Urgency}
 use Rattle.ref_base.specs.declared.phase.Phase.{Phase}
-use Rattle.ref_base.specs.declared.phase.Phase.TheVariants.{Idle, Marking, Clearing, Sweeping}
+use Rattle.ref_base.specs.declared.phase.Phase.TheVariants.{Idle, Marking, Clearing, Sweeping, Moving}
 use Rattle.ref_base.specs.declared.heap_step.HeapStep.TheVariants as heap
 use Rattle.ref_base.specs.declared.plain_step.PlainStep.{PlainStep}
 use Rattle.ref_base.specs.declared.plain_step.PlainStep.TheVariants as plain
@@ -123,6 +123,9 @@ after_plain w (plain.ClearNext k) r = if_told (told_cleared r) (λ n. cleared_fo
 after_plain w plain.EndClear r = if is_done r then with_phase w Sweeping else w
 after_plain w (plain.Sweep k) r = w
 after_plain w plain.EndSweep r = if is_done r then with_phase w Idle else w
+after_plain w plain.Select r = if is_selected r then with_phase w Moving else w
+after_plain w (plain.MoveNext k) r = w
+after_plain w plain.EndMove r = if is_done r then with_phase w Idle else w
 
 -- the world after one more row of its heap, but for its hands
 abbrev pub after_heap : World → NamedStep → Reply → World

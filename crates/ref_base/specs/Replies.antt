@@ -33,5 +33,7 @@ reply_words (replies.Cleared n) = Letters (codes "cleared") ∷ number n ∷ []
 reply_words (replies.Kept n) = Letters (codes "kept") ∷ number n ∷ []
 reply_words (replies.Skipped n) = Letters (codes "skipped") ∷ number n ∷ []
 reply_words (replies.Swept count) = Letters (codes "swept") ∷ number count ∷ []
+reply_words (replies.Selected count) = Letters (codes "selected") ∷ number count ∷ []
+reply_words (replies.Moved n) = Letters (codes "moved") ∷ number n ∷ []
 reply_words (replies.Refused fault) =
     Letters (codes "refused") ∷ number (number_of fault) ∷ Letters (name_of fault) ∷ []

@@ -47,6 +47,9 @@ plain_words (plain.ClearNext w) = worker w ∷ Letters (codes "clearnext") ∷ [
 plain_words plain.EndClear = Letters (codes "endclear") ∷ []
 plain_words (plain.Sweep w) = worker w ∷ Letters (codes "sweep") ∷ []
 plain_words plain.EndSweep = Letters (codes "endsweep") ∷ []
+plain_words plain.Select = Letters (codes "select") ∷ []
+plain_words (plain.MoveNext w) = worker w ∷ Letters (codes "move") ∷ []
+plain_words plain.EndMove = Letters (codes "endmove") ∷ []
 
 -- the words of a step, as a script and a trace have them
 abbrev pub step_words : Step → List Word

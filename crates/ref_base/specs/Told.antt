@@ -55,6 +55,11 @@ abbrev pub told_cleared : Reply → Option ℕ
 told_cleared (replies.Cleared n) = Some n
 told_cleared r = None
 
+-- that objects were chosen to move
+abbrev pub is_selected : Reply → Bool
+is_selected (replies.Selected count) = true
+is_selected r = false
+
 -- the object that a reply names: one that a slot or a hold then has, or the reference of a notice
 abbrev pub named_by : Reply → Option ℕ
 named_by (replies.Object n) = Some n

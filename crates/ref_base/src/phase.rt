@@ -3,7 +3,7 @@
 /// The phases of a collector (this project's profile, in the manner of JEP 333).
 #[derive(Clone, Copy, Debug, PartialEq, Eq)]
 pub enum Phase {
-    /// Between cycles.
+    /// Between cycles, while nothing moves.
     Idle,
     /// From `begin` to `endmark`: what is reached is found out.
     Marking,
@@ -11,4 +11,6 @@ pub enum Phase {
     Clearing,
     /// From `endclear` to `endsweep`: the doomed are freed.
     Sweeping,
+    /// From `select` to `endmove`, between cycles: objects move to other pages.
+    Moving,
 }

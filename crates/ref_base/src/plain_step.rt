@@ -1,5 +1,5 @@
-//! The steps that hand nothing over: what mutators and workers do with a heap's objects alone, and the turns of a
-//! cycle.
+//! The steps that hand nothing over: what mutators and workers do with a heap's objects alone, and the turns of cycles
+//! and moves.
 
 ghost use Rattle.std.specs.Prelude.{◌≡◌, [], ◌∷◌};
 ghost use Rattle.ref_base.specs.Texts.{Letters, mutator, slot, queue_or_none};
@@ -100,6 +100,14 @@ pub enum PlainStep {
     },
     /// `endsweep`: ends the sweep, and the cycle.
     EndSweep,
+    /// `select`: chooses the objects that are to move to other pages.
+    Select,
+    /// `w0 move`: moves the next of them.
+    MoveNext {
+        worker: WorkerNo,
+    },
+    /// `endmove`: ends the move.
+    EndMove,
 }
 
 impl PlainStep {
@@ -157,6 +165,9 @@ impl PlainStep {
             PlainStep::EndClear => alone("endclear"),
             PlainStep::Sweep { worker } => by_worker(worker, "sweep"),
             PlainStep::EndSweep => alone("endsweep"),
+            PlainStep::Select => alone("select"),
+            PlainStep::MoveNext { worker } => by_worker(worker, "move"),
+            PlainStep::EndMove => alone("endmove"),
         }
     }
 }

@@ -56,6 +56,10 @@ pub enum Reply {
     Skipped(ObjNo),
     /// `swept 1`: how many objects were freed.
     Swept(u32),
+    /// `selected 3`: how many objects are to move.
+    Selected(u32),
+    /// `moved 1`: the object that moved.
+    Moved(ObjNo),
     /// `refused 9 NoSuchActor`: nothing was done.
     Refused(Fault),
 }
@@ -89,6 +93,8 @@ impl Reply {
             Reply::Kept(object) => with_number("kept", object.0),
             Reply::Skipped(object) => with_number("skipped", object.0),
             Reply::Swept(count) => with_number("swept", count),
+            Reply::Selected(count) => with_number("selected", count),
+            Reply::Moved(object) => with_number("moved", object.0),
             Reply::Refused(fault) => refusal_words(fault),
         }
     }

@@ -62,6 +62,7 @@ pub enum Dead {
     None,
     Third,
     Half,
+    ThreeQuarters,
 }
 
 impl Dead {
@@ -70,6 +71,7 @@ impl Dead {
             Dead::None => "",
             Dead::Third => ", a third dead",
             Dead::Half => ", half dead",
+            Dead::ThreeQuarters => ", three quarters dead",
         }
     }
 
@@ -79,6 +81,7 @@ impl Dead {
             Dead::None => false,
             Dead::Third => place % 3 == 2,
             Dead::Half => place % 2 == 1,
+            Dead::ThreeQuarters => place % 4 != 0,
         }
     }
 }
@@ -96,7 +99,7 @@ pub fn reads<R: Clock>(
     timed_reads(rt, &mut heap, (read, route), times)
 }
 
-fn timed_reads<R: Clock>(
+pub fn timed_reads<R: Clock>(
     rt: &R,
     heap: &mut Heap,
     (read, route): (Read, Route),
@@ -186,7 +189,7 @@ pub fn cycle_part<R: Clock>(rt: &R, alloc: Global, part: Part) -> Result<Sample,
 
 /// What the parts of a cycle took.
 #[derive(Clone, Copy)]
-struct Samples {
+pub struct Samples {
     begin: Sample,
     end_clear: Sample,
     sweep: Sample,
@@ -194,7 +197,7 @@ struct Samples {
 
 /// As many references as there are cells, but for one object that they begin with. Each has the one before it that
 /// isn't to die as its referent and in a field. Those that are to die are let go at once.
-fn fill(heap: &mut Heap, dead: Dead) -> Result<(), Fault> {
+pub fn fill(heap: &mut Heap, dead: Dead) -> Result<(), Fault> {
     heap.alloc_obj(MUTATOR, LAST, 1)?;
     for place in 1..CONFIG.cells {
         heap.alloc_ref(MUTATOR, NEWEST, Strength::Weak, LAST, None, 1)?;
@@ -206,7 +209,7 @@ fn fill(heap: &mut Heap, dead: Dead) -> Result<(), Fault> {
     heap.drop_slot(MUTATOR, NEWEST)
 }
 
-fn cycle<R: Clock>(rt: &R, heap: &mut Heap) -> Result<Samples, Fault> {
+pub fn cycle<R: Clock>(rt: &R, heap: &mut Heap) -> Result<Samples, Fault> {
     let timer = Timer::start(rt);
     heap.begin(0, Urgency::Normal)?;
     let begin = timer.stop(rt, 1);

@@ -8,6 +8,7 @@ mod heap_runs;
 mod letters;
 mod load_runs;
 mod measure;
+mod move_runs;
 mod plain_queue;
 mod queue_runs;
 mod script_run;

@@ -4,6 +4,7 @@ use crate::cleaner_runs::jobs_registered_and_run;
 use crate::crowds::{plain_queue, shared_queue};
 use crate::heap_runs::{dead_references, hands, heap_calls, looks, scans};
 use crate::load_runs::{Dead, Part, Read, Route, cycle_part, reads};
+use crate::move_runs::{Moves, move_part};
 use crate::queue_runs::{plain_queue_alone, queue_alone, shared_queue_alone};
 use crate::script_run::script_steps;
 use crate::timing::Sample;
@@ -38,6 +39,8 @@ pub enum Measure {
     Read(Read, Route, Dead),
     /// A part of a cycle.
     Cycle(Part),
+    /// Moves of a quarter of the objects.
+    Move(Moves),
     /// Calls of a shared heap by so many threads.
     HeapCallAmong(u32),
     /// A job that is registered and run by hand, while so many others are registered.
@@ -47,7 +50,7 @@ pub enum Measure {
 }
 
 /// All measures, in the order in which they are printed.
-pub const ALL: [Measure; 33] = [
+pub const ALL: [Measure; 37] = [
     Measure::Queue,
     Measure::SharedQueue,
     Measure::PlainQueue,
@@ -74,6 +77,10 @@ pub const ALL: [Measure; 33] = [
     Measure::Cycle(Part::Begin),
     Measure::Cycle(Part::EndClear),
     Measure::Cycle(Part::Sweep),
+    Measure::Move(Moves::Select),
+    Measure::Move(Moves::Move),
+    Measure::Move(Moves::Load),
+    Measure::Move(Moves::Cycles),
     Measure::HeapCallAmong(1),
     Measure::HeapCallAmong(2),
     Measure::HeapCallAmong(4),
@@ -108,6 +115,7 @@ impl Measure {
                 format!(in alloc; "a {}{}{}", read.word(), route.words(), dead.words())
             }
             Measure::Cycle(part) => format!(in alloc; "{}", part.words()),
+            Measure::Move(part) => format!(in alloc; "{}", part.words()),
             Measure::HeapCallAmong(n) => format!(in alloc; "shared heap, {n} calling, a call"),
             Measure::CleanedJob(n) => {
                 format!(in alloc; "a job registered and run, {n} others registered")
@@ -136,6 +144,7 @@ impl Measure {
             Measure::DeadReference => dead_references(rt, alloc),
             Measure::Read(read, route, dead) => reads(rt, alloc, (read, route, dead), size),
             Measure::Cycle(part) => cycle_part(rt, alloc, part),
+            Measure::Move(part) => move_part(rt, alloc, part),
             Measure::HeapCallAmong(n) => heap_calls(rt, alloc, n, size.saturating_mul(2_000)),
             Measure::CleanedJob(n) => jobs_registered_and_run(rt, alloc, n),
             Measure::ScriptStep => script_steps(rt, alloc, size.saturating_mul(500)),

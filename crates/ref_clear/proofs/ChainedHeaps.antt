@@ -1,7 +1,7 @@
 -- What holds of a heap, its chains among it, goes on holding by the steps of marking and as phases end.
 use Rattle.ref_clear.proofs.Common.{arith, ◌≡◌, ℕ, true, false, not, refl, sym, ap, subst, ◌∙◌, List, [], Option, Some}
 use Rattle.ref_clear.proofs.Common.{None, joined, NamedStep, Reply, is_in, is_empty, work_refusal, Fault, Urgency}
-use Rattle.ref_clear.proofs.Common.{CycleHeap, Clearing, Idle, Sweeping, shaded_all, cycle_in_phase, doomed, ClearHeap}
+use Rattle.ref_clear.proofs.Common.{CycleHeap, Clearing, Sweeping, shaded_all, cycle_ended, doomed, ClearHeap}
 use Rattle.ref_clear.proofs.Common.{with_mark, answer_in, after_in, swept_some, Chain, lists_in, seen_heap, seen_lists}
 use Rattle.ref_clear.proofs.Common.{IsSoundHeap, MaySweep, MarkerDoes, answer_in_cycle, after_in_cycle, Heap, ◌≤◌}
 use Rattle.ref_clear.proofs.Common.{length, unmarked, Worklist, emptied_list, with_more, unless_refused, cycle_begun}
@@ -16,6 +16,8 @@ use Rattle.ref_clear.proofs.BeginAnswers.{refused_by, left, does_begun as begun_
 use Rattle.ref_clear.proofs.SoundEnds.{sound_clear_ended as clear_ended, sound_sweep_ended as sweep_ended}
 use Rattle.ref_clear.proofs.SoundEnds.{sound_swept as sound_swept_lists, seen_swept as seen_swept_lists}
 use Rattle.ref_clear.proofs.SoundEnds.{may_free as may_free_lists, links_swept, seen_clear_ended}
+use Rattle.std.proofs.lemmas.Bool.{not-false}
+use Rattle.ref_mark.proofs.HealedMarks.{swept_healed}
 use Rattle.ref_mark.proofs.SweepBegins.{closed_clearing}
 use Rattle.ref_clear.proofs.PendingChains.{KeepsLinks, AreCleared, keeps_parts, marks_keep, shading_keeps, chains_stay}
 use Rattle.ref_clear.proofs.PendingChains.{seen_still, sound_still}
@@ -127,12 +129,17 @@ module _ {k : CycleHeap} {chains : List Chain} {condemned : Worklist} (sound : I
   closed_clear_ended clearing looked formed = grind (arith, closed_clearing)
 
   pub sound_sweep_ended : {j : CycleHeap} → is_in k.phase Sweeping ≡ true → not (is_empty (doomed k)) ≡ false
-      → j ≡ cycle_in_phase k Idle → IsSoundHeap j chains condemned
+      → j ≡ cycle_ended k → IsSoundHeap j chains condemned
   sound_sweep_ended {j} sweeping swept after =
       subst (λ (i : CycleHeap). IsSoundHeap i chains condemned) (sym after)
       (sound_still refl
-      (keeps_parts k (cycle_in_phase k Idle) (joined (lists_in k chains)) refl refl sound.apart) sound condemned refl
+      (keeps_parts k (cycle_ended k) (joined (lists_in k chains)) refl refl sound.apart) sound condemned refl
       (sweep_ended sweeping swept refl sound.lists))
+
+  -- each object is healed then
+  pub healed_sweep_ended : is_in k.phase Sweeping ≡ true → not (is_empty (doomed k)) ≡ false → k.space.unhealed ≡ []
+  healed_sweep_ended sweeping swept =
+      swept_healed k sound.lists.stands.0 sound.lists.stands.1.mark sweeping (not-false (is_empty (doomed k)) swept)
 
   -- ---- a sweep
 

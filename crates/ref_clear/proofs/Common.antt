@@ -36,7 +36,8 @@ pub use Rattle.ref_space.specs.Worklists.{Worklist, emptied_list, empty_worklist
 pub use Rattle.ref_space.specs.Tables.{Tag}
 pub use Rattle.ref_objects.specs.Grounds.{Ground, IsWellFormed, cleared_in_at, mint_refusal, unmarked}
 pub use Rattle.ref_mark.specs.Chains.{is_tagged, linked_last_of, listed, no_chain}
-pub use Rattle.ref_mark.specs.CycleHeaps.{CycleHeap, barred, cut_at, cycle_begun, cycle_in_phase, doomed, grey_scanned}
+pub use Rattle.ref_mark.specs.CycleHeaps.{CycleHeap, barred, cut_at, cycle_begun, cycle_ended, cycle_in_phase, doomed}
+pub use Rattle.ref_mark.specs.CycleHeaps.{grey_scanned}
 pub use Rattle.ref_mark.specs.CycleHeaps.{is_black, is_doomed, is_in_cycle, is_past_mark, is_to_clear, is_white}
 pub use Rattle.ref_mark.specs.CycleHeaps.{shaded_all, sweep_begun, with_cleared, with_found_taken, with_made}
 pub use Rattle.ref_mark.specs.MarkCalls.{MarkerDoes, after_in_cycle, after_mint_in, answer_in_cycle, done_in}

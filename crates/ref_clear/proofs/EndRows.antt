@@ -1,9 +1,11 @@
 -- The ends of the clearing and of the sweep: nothing found is left, and then nothing doomed.
 use Rattle.ref_clear.proofs.Common.{arith, ◌≡◌, ℕ, refl, sym, ap, ◌∙◌, [], None, false≢true, false_from_ne_true, has}
 use Rattle.ref_clear.proofs.Common.{refers_into, reference_at, graph_of, State, joined, HeapAccepts, with_world}
-use Rattle.ref_clear.proofs.Common.{heap_but, Idle, Clearing, Sweeping, unmarked, CycleHeap, is_white, cycle_in_phase}
+use Rattle.ref_clear.proofs.Common.{heap_but, Clearing, Sweeping, unmarked, CycleHeap, is_white, cycle_ended}
+use Rattle.ref_clear.proofs.Common.{cycle_in_phase}
 use Rattle.ref_clear.proofs.Common.{MarkStands, FactsBut, shown_heap, ClearHeap, with_mark, refusal_in, HeapStands}
 use Rattle.ref_clear.proofs.Common.{referent_of, sweep_begun}
+use Rattle.ref_base.specs.CollectorRows.{sweep_ended}
 use Rattle.ref_base.specs.Replay.{with_phase as world_with_phase}
 use Rattle.ref_base.proofs.Forgetting.{heap_but-none}
 use Rattle.ref_objects.proofs.SparedLemmas.{has-unmarked, unreferring_at}
@@ -37,6 +39,7 @@ phase_ended_stands k a stands none =
       finders = stands.finders;
       there = record { named = stands.there.named; led = λ m n due target. stands.there.led m n refl target };
       healed = λ n unhealed. let was = stands.healed n unhealed in (was.0, refl, was.2);
+      moved = stands.moved;
       facts = λ begun. record { rooted = facts.rooted; closed = facts.closed };
       marking = λ now. absurd (false≢true now);
       clearing = λ now. absurd (false≢true now);
@@ -69,14 +72,14 @@ end_clear_row c a stands none = grind (arith, clear_ended_stands, still_cleared)
 
 sweep_ended_stands : (k : CycleHeap) (a : State) → MarkStands k a → k.phase ≡ Sweeping
     → unmarked k.heap.objects k.marked ≡ []
-    → MarkStands (cycle_in_phase k Idle) (with_world a (world_with_phase a.world Idle))
+    → MarkStands (cycle_ended k) (sweep_ended a)
 sweep_ended_stands k a stands sweeping none = grind (arith, has-unmarked)
 
 pub end_sweep_row : (c : ClearHeap) (a : State) → HeapStands c a → refusal_in c (heap.Plain plain.EndSweep) ≡ None
     → (b : State) × HeapAccepts a (heap.Plain plain.EndSweep) replies.Done b
-    × HeapStands (with_mark c (cycle_in_phase c.mark Idle)) b
+    × HeapStands (with_mark c (cycle_ended c.mark)) b
 end_sweep_row c a stands none =
     let sweeping : c.mark.phase ≡ Sweeping = grind arith in
     let swept : unmarked c.mark.heap.objects c.mark.marked ≡ [] = grind arith in
     let mark = sweep_ended_stands c.mark a stands.mark sweeping swept in
-    (with_world a (world_with_phase a.world Idle), grind arith, assumption (stands, mark))
+    (sweep_ended a, grind arith, assumption (stands, mark))

@@ -54,6 +54,11 @@ pub unhealed-left : (gone : List ℕ) (s : Space) (n : ℕ) → has (vacated_all
 unhealed-left [] s n unhealed = (unhealed, refl)
 unhealed-left (m ∷ ms) s n unhealed = grind (arith, has-without_number, unhealed-left ms (vacated s m) n)
 
+-- whether objects were chosen to move doesn't change
+pub has_choice-left : (gone : List ℕ) (s : Space) → (vacated_all gone s).has_choice ≡ s.has_choice
+has_choice-left [] s = refl
+has_choice-left (m ∷ ms) s = has_choice-left ms (vacated s m)
+
 -- what goes isn't there any more
 pub object_at-gone : (gone : List ℕ) (os : List Object) (n : ℕ) → has gone n ≡ true
     → object_at (without gone os) n ≡ None

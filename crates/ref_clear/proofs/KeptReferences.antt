@@ -7,6 +7,9 @@ use Rattle.ref_clear.proofs.Common.{CycleHeap, shaded_all, with_cleared, cycle_b
 use Rattle.ref_clear.proofs.Common.{grey_scanned, done_in, after_in_cycle, refusal_in_cycle}
 use Rattle.ref_base.specs.Heaps.{made, stored, got, with_field, got_at}
 use Rattle.ref_mark.specs.CycleHeaps.{cycle_healed, whitened, roots_of}
+use Rattle.std.proofs.Common.{Result, Ok, Err}
+use Rattle.ref_objects.specs.Grounds.{choice_in}
+use Rattle.ref_mark.specs.CycleHeaps.{chosen_by, moves_begun, moves_ended}
 use Rattle.ref_mark.specs.MarkCalls.{with_hold_of}
 use Rattle.ref_base.proofs.Lookups.{lookup-changed, object_at-push}
 use Rattle.ref_base.proofs.Reshaping.{queue-cleared}
@@ -106,11 +109,20 @@ cleared_stays k m s = grind (arith, stays-cut k.heap m s)
 pub config-cleared : (k : CycleHeap) (m s : ℕ) → (with_cleared k m s).heap.config ≡ k.heap.config
 config-cleared k m s = grind arith
 
+chosen_stays : (k : CycleHeap) (answer : Result ℕ Fault) → (chosen_by k answer).heap ≡ k.heap
+chosen_stays k (Ok count) = refl
+chosen_stays k (Err fault) = refl
+
+ended_stays : (k : CycleHeap) → (moves_ended k).heap ≡ k.heap
+ended_stays k = grind arith
+
 done_stays : (k : CycleHeap) (step : NamedStep) → KeepsReferences k.heap (done_in k step).heap
 done_stays k (heap.Plain (plain.Get m d s)) = grind (arith, stays-got k.heap m d s)
 done_stays k (heap.Plain (plain.Begin now how)) =
     same_objects k.heap (cycle_begun k now how).heap
     (ap (λ (h : Heap). h.objects) (shaded_heap (whitened k now how) (cycle_begun k now how) (roots_of k.heap) refl))
+done_stays k (heap.Plain plain.Select) = same_heap k.heap (moves_begun k).heap (chosen_stays k (choice_in k.space))
+done_stays k (heap.Plain plain.EndMove) = same_heap k.heap (moves_ended k).heap (ended_stays k)
 done_stays k step =
     search (
       made_stays,

@@ -199,6 +199,7 @@ module _ (k : CycleHeap) (a : State) (w n : ℕ) (rest : List ℕ) (f : Object �
         healed = λ m unhealed.
             let was = stands.healed m unhealed in
             (same_there m ∙ was.0, was.1, same_black m ∙ was.2);
+        moved = stands.moved;
         facts = λ begun. record {
           rooted = λ m root.
               elim (roots_before m root) [

@@ -15,6 +15,10 @@ use Rattle.ref_mark.proofs.ChainLemmas.{IsSame, lists-same, same_new, same_writt
 use Rattle.ref_mark.proofs.KeptParts.{cleared-tags}
 use Rattle.ref_mark.proofs.Shading.{shaded_all-only}
 use Rattle.ref_clear.proofs.PendingRoom.{cleared_refers_to_none}
+use Rattle.std.proofs.Common.{Result, Ok, Err}
+use Rattle.ref_objects.specs.Grounds.{choice_in}
+use Rattle.ref_mark.specs.CycleHeaps.{chosen_by, cycle_in_phase, moves_ended}
+use Rattle.ref_clear.proofs.Common.{Idle}
 use Rattle.ref_base.specs.declared.heap_step.HeapStep.TheVariants as heap
 use Rattle.ref_base.specs.declared.plain_step.PlainStep.TheVariants as plain
 
@@ -131,9 +135,22 @@ module _ (ps : List ℕ) where
   barred_keeps : (k : CycleHeap) (value : Option ℕ) → (barred k value).found ≡ k.found
   barred_keeps k value = grind arith
 
+  chosen_keeps : (k : CycleHeap) (answer : Result ℕ Fault) → AreCleared k → KeepsLinks k (chosen_by k answer) ps
+  chosen_keeps k (Ok count) are = keeps_parts k (chosen_by k (Ok count)) ps refl refl are.apart
+  chosen_keeps k (Err fault) are = keeps_parts k k ps refl refl are.apart
+
+  ended_keeps : (k : CycleHeap) → AreCleared k → KeepsLinks k (moves_ended k) ps
+  ended_keeps k are =
+      elim (cases_Bool (is_empty k.space.still_to_move)) [
+        | inl none ↦ simp none (keeps_parts k (cycle_in_phase k Idle) ps refl refl are.apart)
+        | inr some ↦ simp some (keeps_parts k k ps refl refl are.apart)
+      ]
+
   done_keeps : (k : CycleHeap) (step : NamedStep) → AreCleared k → KeepsLinks k (done_in k step) ps
   done_keeps k (heap.Plain (plain.Scan w)) are = scanned_keeps k w k.grey are
   done_keeps k (heap.Plain (plain.Begin now how)) are = begun_keeps k now how
+  done_keeps k (heap.Plain plain.Select) are = chosen_keeps k (choice_in k.space) are
+  done_keeps k (heap.Plain plain.EndMove) are = ended_keeps k are
   done_keeps k step are = search (made_keeps, keeps_parts, barred-tags, barred_keeps, cleared-tags, cleared_found)
 
   unless_keeps : (k done : CycleHeap) (refused : Option Fault) → AreCleared k → KeepsLinks k done ps

@@ -1,7 +1,7 @@
 -- What holds of a heap goes on holding as its clearing ends, by a sweep, and as the sweep ends.
 use Rattle.ref_clear.proofs.Common.{◌≡◌, ℕ, Bool, true, false, not, refl, sym, ap, subst, ◌∙◌, arith, List, None, take}
-use Rattle.ref_clear.proofs.Common.{joined, unless, is_in, is_empty, work_refusal, Fault, WrongPhase, Idle, Clearing}
-use Rattle.ref_clear.proofs.Common.{Sweeping, CycleHeap, doomed, cycle_in_phase, unless_refused, ClearHeap, with_mark}
+use Rattle.ref_clear.proofs.Common.{joined, unless, is_in, is_empty, work_refusal, Fault, WrongPhase, Clearing}
+use Rattle.ref_clear.proofs.Common.{Sweeping, CycleHeap, doomed, cycle_ended, unless_refused, ClearHeap, with_mark}
 use Rattle.ref_clear.proofs.Common.{swept_some, refusal_in, has, reference_in, registered_in, after_in, AreRegistered}
 use Rattle.ref_clear.proofs.Common.{HeapStands, seen_lists, AreSoundLists, MaySweep, forgotten, Object, unmarked}
 use Rattle.ref_clear.proofs.Common.{sweep_begun, is_white, ◌&&◌, is_some}
@@ -84,7 +84,7 @@ seen_clear_ended {j} k lists clearing looked after = grind (arith, seen_kept, ke
 
 -- the sweep ends
 pub sound_sweep_ended : {j k : CycleHeap} {lists : List (List ℕ)} {condemned : List ℕ} → is_in k.phase Sweeping ≡ true
-    → not (is_empty (doomed k)) ≡ false → j ≡ cycle_in_phase k Idle → AreSoundLists k lists condemned
+    → not (is_empty (doomed k)) ≡ false → j ≡ cycle_ended k → AreSoundLists k lists condemned
     → AreSoundLists j lists condemned
 sound_sweep_ended {j} {k} {lists} {condemned} sweeping swept after sound =
     let c : ClearHeap = seen_lists k lists in
@@ -93,7 +93,7 @@ sound_sweep_ended {j} {k} {lists} {condemned} sweeping swept after sound =
     (not-false (is_empty (doomed k)) swept) in
     sound_after (heap.Plain plain.EndSweep) refl sound
     (ap (λ (i : CycleHeap). seen_lists i lists) after
-    ∙ sym (ap (λ refused. unless_refused refused (λ fault. c) (with_mark c (cycle_in_phase k Idle))) none))
+    ∙ sym (ap (λ refused. unless_refused refused (λ fault. c) (with_mark c (cycle_ended k))) none))
     (subst (λ (i : CycleHeap). AreRegistered i.heap.objects lists) (sym after) sound.registered)
 
 -- a sweep: what is doomed is held by nobody, and what is left of it stands in the list

@@ -27,7 +27,8 @@ use Rattle.ref_mark.proofs.Passed.{work_passed}
 use Rattle.ref_mark.proofs.RootFacts.{hold_root}
 use Rattle.ref_mark.proofs.SafeMarks.{marked_is_black}
 use Rattle.ref_mark.proofs.Shading.{not_white_marked}
-use Rattle.ref_clear.proofs.GoneObjects.{without-none, has-take, object_at-gone, object_at-left, left_from_there}
+use Rattle.ref_clear.proofs.GoneObjects.{has_choice-left, without-none, has-take, object_at-gone, object_at-left}
+use Rattle.ref_clear.proofs.GoneObjects.{left_from_there}
 use Rattle.ref_clear.proofs.GoneObjects.{rising-without, unhealed-left}
 use Rattle.ref_clear.proofs.SweepLoops.{doomed-so_many, doomed-sweeping, white_is_doomed}
 use Rattle.ref_base.specs.declared.heap_step.HeapStep.TheVariants as heap
@@ -214,6 +215,7 @@ module _ (k : CycleHeap) (a : State) (stands : MarkStands k a) (sweeping : is_in
   swept_stands =
       grind (
         arith,
+        has_choice-left,
         swept_agrees,
         swept_doomed,
         swept_rising,

@@ -9,12 +9,11 @@ use Rattle.ref_base.specs.CollectorRows.{reference_of, referent_of, list_at}
 use Rattle.ref_base.specs.Refusals.{heap_refusal}
 use Rattle.ref_base.specs.declared.fault.Fault.{Fault}
 use Rattle.ref_base.specs.declared.cause.Cause.TheVariants.{Own, Cycle}
-use Rattle.ref_base.specs.declared.phase.Phase.TheVariants.{Idle}
 use Rattle.ref_base.specs.declared.heap_step.HeapStep.TheVariants as heap
 use Rattle.ref_base.specs.declared.plain_step.PlainStep.TheVariants as plain
 use Rattle.ref_base.specs.declared.reply.Reply.{Reply}
 use Rattle.ref_base.specs.declared.reply.Reply.TheVariants as replies
-use Rattle.ref_mark.specs.CycleHeaps.{is_to_clear, CycleHeap, doomed, cycle_in_phase, sweep_begun}
+use Rattle.ref_mark.specs.CycleHeaps.{is_to_clear, CycleHeap, doomed, cycle_ended, sweep_begun}
 use Rattle.ref_mark.specs.MarkCalls as marks
 use Rattle.ref_mark.specs.MarkCalls.{unless_refused}
 use Rattle.ref_clear.specs.ClearHeaps.{ClearHeap, HeldNotice, with_mark, pending_at, begun_with}
@@ -122,7 +121,7 @@ after_in c (heap.Plain plain.EndClear) =
     left c (heap.Plain plain.EndClear) (with_mark c (sweep_begun c.mark))
 after_in c (heap.Plain (plain.Sweep w)) = left c (heap.Plain (plain.Sweep w)) (with_mark c (swept_some c.mark))
 after_in c (heap.Plain plain.EndSweep) =
-    left c (heap.Plain plain.EndSweep) (with_mark c (cycle_in_phase c.mark Idle))
+    left c (heap.Plain plain.EndSweep) (with_mark c (cycle_ended c.mark))
 after_in c step = with_mark c (marks.after_in_cycle c.mark step)
 
 -- from the heap as it was, this step, with this reply, leaves this one

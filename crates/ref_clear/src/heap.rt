@@ -16,6 +16,7 @@ ghost use Rattle.ref_clear.specs.Standing.{HeapStands};
 mod clearing;
 mod cycle;
 mod holds;
+mod moves;
 mod notices;
 mod objects;
 mod sweep;

@@ -2,6 +2,7 @@
 use Rattle.ref_mark.proofs.Common.{arith, ◌≡◌, ℕ, true, false, refl, sym, ap, ◌∙◌, List, [], Option, Some, None, has}
 use Rattle.ref_mark.proofs.Common.{Object, is_there, any_is, Heap, slot_at, changed_in, made, shown, field_in}
 use Rattle.ref_mark.proofs.Common.{reference_of, heap_but, is_in, State, Phase, Idle, Marking, Clearing, Sweeping}
+use Rattle.ref_mark.proofs.Common.{Moving}
 use Rattle.ref_mark.proofs.Common.{CycleHeap, is_white, is_past_mark, is_in_cycle, doomed, MarkStands, ReadsAs, unsaid}
 use Rattle.ref_mark.proofs.Common.{shown_heap}
 use Rattle.ref_base.proofs.Forgetting.{IsSaid, heap_but-none, field_in-but, reference_of-but, changed_in-but, made-but}
@@ -84,6 +85,7 @@ sweeping_begun Idle sweeping = sweeping
 sweeping_begun Marking sweeping = refl
 sweeping_begun Clearing sweeping = refl
 sweeping_begun Sweeping sweeping = refl
+sweeping_begun Moving sweeping = sweeping
 
 pub said_slot : (k : CycleHeap) (a : State) (m s : ℕ) → MarkStands k a → IsSaid (unsaid k) (slot_at k.heap m s)
 said_slot k a m s stands =

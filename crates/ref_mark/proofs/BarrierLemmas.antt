@@ -8,7 +8,9 @@ use Rattle.std.proofs.lemmas.List.{get_or-set_same}
 use Rattle.ref_objects.specs.Grounds.{read_as}
 use Rattle.ref_mark.specs.MarkCalls.{MarkerDoes}
 use Rattle.ref_mark.proofs.ReferenceChanges.{with_got-barred}
-use Rattle.ref_mark.proofs.MarkerLemmas.{seen_heaped}
+use Rattle.ref_mark.proofs.MarkerLemmas.{seen_heaped, sound_brought}
+use Rattle.ref_mark.proofs.ReferenceChanges.{got_there}
+use Rattle.ref_mark.proofs.Common.{cycle_brought, ground_brought}
 use Rattle.ref_base.specs.declared.heap_step.HeapStep.TheVariants as heap
 use Rattle.ref_base.specs.declared.plain_step.PlainStep.TheVariants as plain
 
@@ -28,14 +30,14 @@ slot_at-got h m d s None there sized = slot_at-written h m d None there sized
 slot_at-got h m d s (Some n) there sized = grind (arith, slots-got, get_or-set_same)
 
 got-barred : (k : CycleHeap) (m d s : ℕ) (value : Option ℕ)
-    → barred (record k { heap = got k.heap m d s value }) value ≡ with_got k m d s value
+    → barred (record k { heap = got k.heap m d s value }) value ≡ got_there k m d s value
 got-barred k m d s None = grind arith
 got-barred k m d s (Some n) = sym (with_got-barred k m d s n)
 
 got_by : (k : CycleHeap) (m d s : ℕ) (value : Option ℕ) → has_slot k.heap m d ≡ true
     → length k.heap.slots ≡ 16 * k.heap.config.mutators
     → barred (record k { heap = got k.heap m d s value }) (slot_at (got k.heap m d s value) m d)
-    ≡ with_got k m d s value
+    ≡ got_there k m d s value
 got_by k m d s value there sized = search (slot_at-got, got-barred)
 
 config-got : (h : Heap) (m d s : ℕ) (value : Option ℕ) → (got h m d s value).config ≡ h.config
@@ -57,8 +59,9 @@ pub get_does : {g after : Ground} {grey : Worklist} {found : List Chain} {phase 
     → hide ≡ is_past_mark phase
     → get_refusal g.heap m d s ≡ None
     → value ≡ read_as g hide (referent_got (reference_of g.heap (slot_at g.heap m s)))
-    → after ≡ ground_with_heap g (got g.heap m d s
-    (read_as g hide (referent_got (reference_of g.heap (slot_at g.heap m s)))))
+    → after ≡ ground_with_heap
+    (ground_brought g (read_as g hide (referent_got (reference_of g.heap (slot_at g.heap m s)))))
+    (got g.heap m d s (read_as g hide (referent_got (reference_of g.heap (slot_at g.heap m s)))))
     → j ≡ barred (seen_marker after grey found phase how cycle) (slot_at after.heap m d)
     → MarkerDoes (seen_marker g grey found phase how cycle) (heap.Plain (plain.Get m d s)) (value_reply value) j
 get_does {g} {after} {grey} {found} {phase} {how} {cycle} m d s {hide} sound formed hides accepted answer objects bars =
@@ -71,8 +74,8 @@ get_does {g} {after} {grey} {found} {phase} {how} {cycle} m d s {hide} sound for
     let left =
     bars
     ∙ ap (λ (i : CycleHeap). barred i (slot_at i.heap m d))
-    (seen_heaped (got g.heap m d s read) (config-got g.heap m d s read) objects sound how cycle)
-    ∙ got_by k m d s read there formed.orderly.slots in
+    (seen_heaped (got g.heap m d s read) (config-got g.heap m d s read) objects (sound_brought read sound) how cycle)
+    ∙ got_by (cycle_brought k read) m d s read there formed.orderly.slots in
     record {
       answer = simp accepted (ap value_reply (answer ∙ told));
       after = simp accepted (left ∙ ap (with_got k m d s) told);

@@ -124,7 +124,7 @@ begun_stands k a now urgent stands idle =
     (length-emptied k.found ∙ stands.finders)
     (plain_there k a stands (ap (λ p. is_in p Sweeping) idle)
     (record (whitened k now urgent) { marked = j.marked; grey = j.grey }) refl)
-    (all_unscanned k a now urgent stands.orderly.below)
+    (all_unscanned k a now urgent stands.orderly.below) stands.moved
     (subst (λ (i : CycleHeap). MarkingBut i b [] []) only
     (begun_marking k a now urgent (not (is_empty j.grey)) stands)))
 

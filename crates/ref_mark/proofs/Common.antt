@@ -31,7 +31,7 @@ pub use Rattle.ref_base.specs.declared.config.Config.{Config}
 pub use Rattle.ref_base.specs.declared.fault.Fault.{Fault}
 pub use Rattle.ref_base.specs.declared.fault.Fault.TheVariants.{NoSuchActor}
 pub use Rattle.ref_base.specs.declared.phase.Phase.{Phase}
-pub use Rattle.ref_base.specs.declared.phase.Phase.TheVariants.{Clearing, Idle, Marking, Sweeping}
+pub use Rattle.ref_base.specs.declared.phase.Phase.TheVariants.{Clearing, Idle, Marking, Moving, Sweeping}
 pub use Rattle.ref_base.specs.declared.policy.Policy.{Policy}
 pub use Rattle.ref_base.specs.declared.strength.Strength.{Strength}
 pub use Rattle.ref_base.specs.declared.urgency.Urgency.{Urgency}
@@ -39,11 +39,12 @@ pub use Rattle.ref_space.specs.Tables.{Tag, fields_in}
 pub use Rattle.ref_objects.specs.declared.start.Start.{Start}
 pub use Rattle.ref_objects.specs.Grounds.{Ground, IsInOrder, IsWellFormed, Space, all_marked, all_newly_marked}
 pub use Rattle.ref_objects.specs.Grounds.{cleared_in_at, ground_with_heap, healed, least_from, link_at, look_of}
-pub use Rattle.ref_objects.specs.Grounds.{occupied}
+pub use Rattle.ref_objects.specs.Grounds.{brought, ground_brought, occupied}
 pub use Rattle.ref_objects.specs.Grounds.{unmarked, with_cleared_tag, with_link, with_new_tag, without_tag}
 pub use Rattle.ref_mark.specs.Chains.{AreChains, chain_first, chain_with, chain_without_first, is_tagged, linked_last}
 pub use Rattle.ref_mark.specs.Chains.{linked_last_of, listed, lists_of, no_chain, walk}
-pub use Rattle.ref_mark.specs.CycleHeaps.{CycleHeap, barred, cycle_begun, cycle_in_phase, doomed, first_cycle_heap}
+pub use Rattle.ref_mark.specs.CycleHeaps.{CycleHeap, barred, cycle_begun, cycle_brought, cycle_in_phase, doomed}
+pub use Rattle.ref_mark.specs.CycleHeaps.{first_cycle_heap}
 pub use Rattle.ref_mark.specs.CycleHeaps.{grey_scanned, is_black, is_doomed, is_due, is_in_cycle, is_past_mark}
 pub use Rattle.ref_mark.specs.CycleHeaps.{is_white, roots_of, shaded, shaded_all, shaded_if_any, undoomed, value_got}
 pub use Rattle.ref_mark.specs.CycleHeaps.{whitened, with_cleared, with_found, with_got, with_made, young}

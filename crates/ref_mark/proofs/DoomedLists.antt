@@ -3,7 +3,8 @@ use Rattle.ref_mark.proofs.Common.{occupied, ◌≡◌, ℕ, ◌+◌, ◌<◌, t
 use Rattle.ref_mark.proofs.Common.{arith, inl}
 use Rattle.ref_mark.proofs.Common.{inr, List, [], ◌∷◌, ◌++◌, Option, Some, None, cases_Bool, eq-eqb, with_new_tag, has}
 use Rattle.ref_mark.proofs.Common.{Object, is_there, changed_at, with_changed, changed_in, made, is_in, Phase, Idle}
-use Rattle.ref_mark.proofs.Common.{Marking, Clearing, Sweeping, is_in_cycle, CycleHeap, is_past_mark, is_doomed, doomed}
+use Rattle.ref_mark.proofs.Common.{Marking, Clearing, Sweeping, Moving, is_in_cycle, CycleHeap, is_past_mark, is_doomed}
+use Rattle.ref_mark.proofs.Common.{doomed}
 use Rattle.ref_mark.proofs.Common.{young, with_made, unmarked, shown_heap}
 use Rattle.ref_base.proofs.OneMore.{has-one_more}
 use Rattle.ref_objects.proofs.SparedLemmas.{has-unmarked}
@@ -47,6 +48,7 @@ past_is_in_cycle Idle past = past
 past_is_in_cycle Marking past = refl
 past_is_in_cycle Clearing past = refl
 past_is_in_cycle Sweeping past = refl
+past_is_in_cycle Moving past = past
 
 -- and no mark runs
 pub past_is_not_marking : (phase : Phase) → is_past_mark phase ≡ true → is_in phase Marking ≡ false
@@ -54,6 +56,7 @@ past_is_not_marking Idle past = refl
 past_is_not_marking Marking past = sym past
 past_is_not_marking Clearing past = refl
 past_is_not_marking Sweeping past = refl
+past_is_not_marking Moving past = refl
 
 pub is_there-push : (os : List Object) (o : Object) → is_there (os ++ o ∷ []) o.no ≡ true
 is_there-push [] o = let own : (o.no == o.no) ≡ true = eq-eqb o.no o.no refl in simp own refl

@@ -1,7 +1,9 @@
--- What is unhealed: in a mark what was made before the cycle, and wasn't scanned; and between cycles nothing.
+-- What is unhealed: in a mark what was made before the cycle, and wasn't scanned; and nothing between cycles, nor once
+-- all is swept.
 use Rattle.ref_mark.proofs.Common.{arith, ◌≡◌, ℕ, ◌<◌, true, false, true≢false, sym, ◌∙◌, refl, List, [], ◌∷◌, has}
 use Rattle.ref_mark.proofs.Common.{is_there, is_in, is_in_cycle, State, joined, Marking, CycleHeap, Coloured}
-use Rattle.ref_mark.proofs.Common.{MarkStands}
+use Rattle.ref_mark.proofs.Common.{MarkStands, is_empty, Sweeping, doomed}
+use Rattle.ref_mark.proofs.DoomedLists.{has-doomed}
 use Rattle.ref_mark.specs.Standing.{AreHealed}
 use Rattle.ref_base.proofs.HasLaws.{has-first}
 
@@ -33,3 +35,21 @@ pub none_unhealed : (k : CycleHeap) (a : State) → MarkStands k a → is_in_cyc
     → k.space.unhealed ≡ []
 none_unhealed k a stands between =
     none_within k.space.unhealed (λ n unhealed. true≢false (sym (stands.healed n unhealed).1 ∙ between))
+
+-- ---- at a cycle's end
+
+has-empty : (ns : List ℕ) (n : ℕ) → is_empty ns ≡ true → has ns n ≡ false
+has-empty [] n none = refl
+has-empty (m ∷ ms) n none = absurd (true≢false (sym none))
+
+-- in a sweep what is unhealed is doomed
+unhealed_doomed : (k : CycleHeap) (a : State) (n : ℕ) → MarkStands k a → is_in k.phase Sweeping ≡ true
+    → has k.space.unhealed n ≡ true → has (doomed k) n ≡ true
+unhealed_doomed k a n stands sweeping unhealed = grind (arith, has-doomed)
+
+pub swept_healed : (k : CycleHeap) (a : State) → MarkStands k a → is_in k.phase Sweeping ≡ true
+    → is_empty (doomed k) ≡ true → k.space.unhealed ≡ []
+swept_healed k a stands sweeping swept =
+    none_within k.space.unhealed
+    (λ n unhealed.
+    true≢false (sym (unhealed_doomed k a n stands sweeping unhealed) ∙ has-empty (doomed k) n swept))

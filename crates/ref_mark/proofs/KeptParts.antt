@@ -3,6 +3,9 @@ use Rattle.ref_mark.proofs.Common.{arith, ◌≡◌, ℕ, List, Option, Some, No
 use Rattle.ref_mark.proofs.Common.{Object, plain_object, nulls, NamedStep, Fault, CycleHeap, shaded_all, with_found}
 use Rattle.ref_mark.proofs.Common.{linked_last_of, with_made, barred, with_cleared, grey_scanned, done_in}
 use Rattle.ref_mark.proofs.Common.{refusal_in_cycle, unless_refused}
+use Rattle.std.proofs.Common.{Result, Ok, Err}
+use Rattle.ref_objects.specs.Grounds.{choice_in}
+use Rattle.ref_mark.specs.CycleHeaps.{chosen_by, moves_ended}
 use Rattle.ref_mark.specs.MarkCalls.{after_in_cycle}
 use Rattle.ref_objects.proofs.TagLemmas.{cleared_in_at-new}
 use Rattle.ref_mark.proofs.LinkLemmas.{cleared_in_at-written}
@@ -45,8 +48,18 @@ scanned-cycles : (k : CycleHeap) (w : ℕ) (grey : List ℕ) → KeepsCycles k.t
 scanned-cycles k w [] m = refl
 scanned-cycles k w (n ∷ rest) m = grind (arith, found-cycles, shaded_all-tags)
 
+-- nor do moves
+chosen-tags : (k : CycleHeap) (answer : Result ℕ Fault) → (chosen_by k answer).tags ≡ k.tags
+chosen-tags k (Ok count) = refl
+chosen-tags k (Err fault) = refl
+
+ended-tags : (k : CycleHeap) → (moves_ended k).tags ≡ k.tags
+ended-tags k = grind arith
+
 done-cycles : (k : CycleHeap) (step : NamedStep) → KeepsCycles k.tags (done_in k step).tags
 done-cycles k (heap.Plain (plain.New m d f)) = made-cycles k m d (plain_object k.next (nulls f))
+done-cycles k (heap.Plain plain.Select) = same_cycles (chosen-tags k (choice_in k.space))
+done-cycles k (heap.Plain plain.EndMove) = same_cycles (ended-tags k)
 done-cycles k step =
     search (made-cycles, same_cycles, barred-tags, cleared-tags, shaded_all-tags, scanned-cycles, refl)
 

@@ -6,6 +6,7 @@ pub mod ShownReads
 pub mod Passed
 pub mod HealedMarks
 pub mod PlainStates
+pub mod MovedSpaces
 pub mod BeginRows
 pub mod Scanning
 pub mod ScanRows
@@ -24,6 +25,8 @@ pub mod ObjectRows
 pub mod ReferenceChanges
 pub mod ReferenceRows
 pub mod OtherHands
+pub mod MoveRows
+pub mod SettledMoves
 pub mod MarkLaws
 pub mod BarrierLemmas
 pub mod DistinctLists

@@ -1,11 +1,11 @@
 -- What the loops of a begin and of a scan shade, turn by turn.
-use Rattle.ref_mark.proofs.Common.{◌≡◌, ℕ, ◌+◌, ◌<◌, ◌≤◌, true, refl, sym, ap, ◌∙◌, arith, List, [], ◌∷◌, ◌++◌}
+use Rattle.ref_mark.proofs.Common.{◌≡◌, ℕ, ◌+◌, ◌<◌, ◌≤◌, true, false, refl, sym, ap, ◌∙◌, arith, List, [], ◌∷◌, ◌++◌}
 use Rattle.ref_mark.proofs.Common.{length, take, Option, Some, None, inl, inr, slice_index_or}
 use Rattle.ref_mark.proofs.Common.{if◌then◌else◌, cases_Bool, append-nil, append_assoc, all_marked}
 use Rattle.ref_mark.proofs.Common.{all_newly_marked, ground_of, present}
 use Rattle.ref_mark.proofs.Common.{Urgency, least_from}
 use Rattle.ref_mark.proofs.Common.{IsInOrder, first_in, CycleHeap, shaded, shaded_all, shaded_if_any, whitened}
-use Rattle.ref_mark.proofs.Common.{cycle_begun, roots_of}
+use Rattle.ref_mark.proofs.Common.{cycle_begun, is_white, one_more, roots_of}
 use Rattle.std.proofs.Common.{nat_le}
 use Rattle.std.proofs.lemmas.Bool.{le-leb}
 use Rattle.std.proofs.lemmas.List.{take_more}
@@ -147,6 +147,13 @@ fewer_after_turn start k n holds so_far = grind (arith, still-least_from, fewer)
 
 -- ---- what is marked anew becomes grey, one by one
 
+shaded_white : (k : CycleHeap) (n : ℕ) → is_white k n ≡ true
+    → shaded k n ≡ record k { marked = one_more k.marked n; grey = k.grey ++ n ∷ [] }
+shaded_white k n white = simp white refl
+
+shaded_other : (k : CycleHeap) (n : ℕ) → is_white k n ≡ false → shaded k n ≡ k
+shaded_other k n other = simp other refl
+
 -- objects that become grey are marked, and what is marked anew is grey
 pub shaded_marks : (k : CycleHeap) (held : List (Option ℕ))
     → record k {
@@ -156,4 +163,17 @@ pub shaded_marks : (k : CycleHeap) (held : List (Option ℕ))
     ≡ shaded_all k (present held)
 shaded_marks k [] = ap (λ ns. record k { grey = ns }) (append-nil k.grey)
 shaded_marks k (None ∷ held) = shaded_marks k held
-shaded_marks k (Some n ∷ held) = grind (arith, append_assoc, append-nil, shaded_marks (shaded k n) held)
+shaded_marks k (Some n ∷ held) =
+    elim (cases_Bool (is_white k n)) [
+      | inl white ↦ simp white (ap (λ ns. record k {
+        marked = (all_marked (ground_of (record k { marked = one_more k.marked n })) held).marked;
+        grey = ns;
+      })
+          (sym (append_assoc k.grey (n ∷ []) (all_newly_marked (ground_of
+          (record k { marked = one_more k.marked n })) held)))
+          ∙ shaded_marks (record k { marked = one_more k.marked n; grey = k.grey ++ n ∷ [] }) held
+          ∙ ap (λ j. shaded_all j (present held)) (sym (shaded_white k n white)))
+      | inr other ↦
+          simp other
+          (shaded_marks k held ∙ ap (λ j. shaded_all j (present held)) (sym (shaded_other k n other)))
+    ]

@@ -195,6 +195,7 @@ module _ (k : CycleHeap) (a : State) (m d : ℕ) (o : Object) (stands : MarkStan
           | inr same ↦ inr (omega (arith, same, number))
         ];
     unhealed = refl;
+    choice = refl;
     roots = λ begun.
         roots_of_set k a stands begun (16 * m + d) (Some o.no) []
         (λ n is.

@@ -18,6 +18,9 @@ use Rattle.ref_mark.proofs.HoldRows.{hold_row, adopt_row, release_row}
 use Rattle.ref_mark.proofs.BeginRows.{begin_row}
 use Rattle.ref_mark.proofs.ScanRows.{scan_row}
 use Rattle.ref_mark.proofs.MarkEndRows.{end_mark_row, same_end_mark}
+use Rattle.ref_mark.proofs.MoveRows.{select_row, move_row, end_move_row}
+use Rattle.ref_base.specs.declared.fault.Fault.TheVariants.{WrongPhase}
+use Rattle.ref_mark.proofs.Common.{Moving, is_in, unless}
 use Rattle.ref_base.specs.declared.heap_step.HeapStep.TheVariants as heap
 use Rattle.ref_base.specs.declared.plain_step.PlainStep.TheVariants as plain
 use Rattle.ref_base.specs.declared.reply.Reply.TheVariants as replies
@@ -42,6 +45,9 @@ module _ (k : CycleHeap) (a : State) (stands : MarkStands k a) where
   own_refusal (heap.Plain (plain.Begin now how)) own = cc
   own_refusal (heap.Plain (plain.Scan w)) own = ap (λ p. work_refusal k.heap p Marking w) stands.phase
   own_refusal (heap.Plain plain.EndMark) own = same_end_mark k a stands
+  own_refusal (heap.Plain plain.Select) own = cc
+  own_refusal (heap.Plain (plain.MoveNext w)) own = ap (λ p. work_refusal k.heap p Moving w) stands.phase
+  own_refusal (heap.Plain plain.EndMove) own = ap (λ p. unless (is_in p Moving) WrongPhase None) stands.phase
   own_refusal step own = search (own, refl)
 
   -- ---- rows
@@ -50,6 +56,7 @@ module _ (k : CycleHeap) (a : State) (stands : MarkStands k a) where
       → (b : State) × HeapAccepts a step (reply_in k step) b
       × MarkStands (shaded_all (done_in k step) (late_roots a step)) b
   accepted (heap.Plain (plain.RefersTo m s v)) own none = refers_to_row k a stands m s v
+  accepted (heap.Plain (plain.MoveNext w)) own none = move_row k a w stands none
   accepted step own none =
       search (
         new_row,
@@ -67,6 +74,8 @@ module _ (k : CycleHeap) (a : State) (stands : MarkStands k a) where
         begin_row,
         scan_row,
         end_mark_row,
+        select_row,
+        end_move_row,
         false≢true,
         refl,
       )

@@ -33,6 +33,7 @@ use Rattle.ref_mark.proofs.Common.{present, targets_at, is_kept, object_at}
 use Rattle.ref_mark.proofs.DistinctLists.{distinct-append}
 use Rattle.ref_objects.specs.Grounds.{is_condemned, cut_but, if_done, first_ground, after_freeing, with_new_object}
 use Rattle.ref_objects.specs.Grounds.{newly_marked, ground_marked_if_any, ground_healed, occupied, vacated}
+use Rattle.ref_objects.specs.Grounds.{ground_brought}
 use Rattle.ref_objects.specs.declared.start.Start.{Start}
 use Rattle.ref_base.specs.CollectorRows.{without, emptied as none_found}
 use Rattle.ref_mark.specs.MarkViews.{AreListed, found_look}
@@ -152,6 +153,20 @@ module _ {g after : Ground} {grey : Worklist} {found : List Chain} {phase : Phas
   pub seen_heaped : (how : Policy) (cycle : ℕ)
       → seen_marker after grey found phase how cycle ≡ record (seen_marker g grey found phase how cycle) { heap = h }
   seen_heaped how cycle = rw (is, config) refl
+
+-- what is handed out has moved
+pub sound_brought : {g : Ground} {grey : Worklist} {found : List Chain} {phase : Phase} (value : Option ℕ)
+    → IsSoundMarker g grey found phase → IsSoundMarker (ground_brought g value) grey found phase
+sound_brought {g} {grey} {found} {phase} value sound = record {
+  few = sound.few;
+  grey_fits = sound.grey_fits;
+  finders = sound.finders;
+  begins = sound.begins;
+  none_0 = sound.none_0;
+  chains = sound.chains;
+  listed = sound.listed;
+  condemning = sound.condemning;
+}
 
 -- a new object
 module _ {g after : Ground} {grey : Worklist} {found : List Chain} {phase : Phase} (m d : ℕ) (o : Object)

@@ -2,7 +2,8 @@
 use Rattle.ref_mark.proofs.Common.{◌≡◌, ℕ, ◌≤◌, Bool, true, false, not, refl, sym, ap, subst, ◌∙◌, arith, List, [], ◌∷◌}
 use Rattle.ref_mark.proofs.Common.{inl, inr, cases_Bool, true≢false, or_right, Heap, IsOrderly, World, with_heap}
 use Rattle.ref_mark.proofs.Common.{graph_of, pending_numbers, is_in, is_empty, State, ticked, Phase, Idle, Marking}
-use Rattle.ref_mark.proofs.Common.{Clearing, Sweeping, is_in_cycle, CycleHeap, is_past_mark, MarkStands, ReadsAs}
+use Rattle.ref_mark.proofs.Common.{Clearing, Sweeping, Moving, is_in_cycle, CycleHeap, is_past_mark, MarkStands}
+use Rattle.ref_mark.proofs.Common.{ReadsAs}
 use Rattle.ref_mark.proofs.Agreeing.{agrees_same, same_before}
 use Rattle.ref_mark.proofs.Shading.{MarkingBut}
 use Rattle.ref_mark.proofs.DoomedLists.{shown_heap-before}
@@ -16,12 +17,14 @@ marking_is_in_cycle Idle marking = marking
 marking_is_in_cycle Marking marking = refl
 marking_is_in_cycle Clearing marking = refl
 marking_is_in_cycle Sweeping marking = refl
+marking_is_in_cycle Moving marking = marking
 
 pub marking_is_not_past : (phase : Phase) → is_in phase Marking ≡ true → is_past_mark phase ≡ false
 marking_is_not_past Idle marking = refl
 marking_is_not_past Marking marking = refl
 marking_is_not_past Clearing marking = sym marking
 marking_is_not_past Sweeping marking = sym marking
+marking_is_not_past Moving marking = refl
 
 marking_is_not : (phase : Phase) → is_in phase Marking ≡ true
     → (is_in phase Clearing ≡ false) × (is_in phase Sweeping ≡ false)
@@ -29,6 +32,7 @@ marking_is_not Idle marking = (refl, refl)
 marking_is_not Marking marking = (refl, refl)
 marking_is_not Clearing marking = (sym marking, refl)
 marking_is_not Sweeping marking = (refl, sym marking)
+marking_is_not Moving marking = (refl, refl)
 
 pub sweeping_is_past : (phase : Phase) → is_in phase Sweeping ≡ true → is_past_mark phase ≡ true
 sweeping_is_past phase sweeping = or_right (is_in phase Clearing) (is_in phase Sweeping) sweeping
@@ -91,6 +95,7 @@ module _ (k : CycleHeap) (c : Change) (a : State) (w : World) (beside : IsAlongs
               mutation.led m n (simp quiet refl) target;
         };
         healed = unscanned_healed j a.born a.scanned marking but.coloured (unscanned_after marking);
+        moved = stands.moved ∙ sym mutation.choice;
         facts = λ begun. but.facts;
         marking = λ again. record { coloured = but.coloured; reached = but.reached; found = but.found; left = left_is };
         clearing = λ clearing. absurd (true≢false (sym clearing ∙ (marking_is_not k.phase marking).0));

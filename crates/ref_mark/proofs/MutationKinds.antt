@@ -78,6 +78,7 @@ altered_mutation k a slots holds i f pending todo stands keeps count roots named
       marked_stays = λ n marked. marked;
       marked_was = λ n marked. inl marked;
       unhealed = refl;
+      choice = refl;
       roots = roots;
       named = λ n root. stays n (named n root);
       led = λ m n due target.

@@ -54,7 +54,7 @@ MayLead k c pending m n =
 -- A step of a mutator: no object goes, and what comes is new and healed; nothing else is doomed than before; no root is
 -- white but for some numbers that are still to be shaded; what is named is there; where an object leads to another,
 -- this is allowed; references stay references, and none refers to a white object that didn't before; and once a mark
--- has ended none stops to.
+-- has ended none stops to. No objects are chosen to move.
 pub record IsMutation (k : CycleHeap) (c : Change) (pending todo : List ℕ) : Type 0 where
   pub next : k.next ≤ c.next
   pub stays : (n : ℕ) → is_there k.heap.objects n ≡ true → is_there c.objects n ≡ true
@@ -65,6 +65,7 @@ pub record IsMutation (k : CycleHeap) (c : Change) (pending todo : List ℕ) : T
   pub marked_stays : (n : ℕ) → has k.marked n ≡ true → has c.marked n ≡ true
   pub marked_was : (n : ℕ) → has c.marked n ≡ true → (has k.marked n ≡ true) ⊎ (k.next ≤ n)
   pub unhealed : c.space.unhealed ≡ k.space.unhealed
+  pub choice : c.space.has_choice ≡ k.space.has_choice
   pub roots : is_in_cycle k.phase ≡ true → (n : ℕ) → has (roots_after c pending) n ≡ true
       → (is_white k n ≡ false) ⊎ (has todo n ≡ true)
   pub named : (n : ℕ) → has (roots_after c pending) n ≡ true → is_there c.objects n ≡ true

@@ -31,8 +31,9 @@ plain_state-is k a phase stands is before = grind (arith, same_before, shown_hea
 pub marking_stands : (k : CycleHeap) (a : State) → k.phase ≡ Marking → a ≡ plain_state k Marking a
     → a.left ≡ not (is_empty k.grey) → a.born ≤ k.next → IsOrderly k.heap k.next
     → length a.scanned ≡ k.heap.config.workers → length k.found ≡ k.heap.config.workers
-    → AreThere k (graph_of a.world).roots → AreUnscanned k a.born a.scanned → MarkingBut k a [] [] → MarkStands k a
-marking_stands k a phase plain left born orderly scanners finders there unscanned but =
+    → AreThere k (graph_of a.world).roots → AreUnscanned k a.born a.scanned
+    → a.moved ≡ k.space.has_choice → MarkingBut k a [] [] → MarkStands k a
+marking_stands k a phase plain left born orderly scanners finders there unscanned moved but =
     grind (arith, shown_heap-before, unscanned_healed)
 
 -- a mark that is under way is so in its plain state

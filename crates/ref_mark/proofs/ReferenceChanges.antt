@@ -4,7 +4,7 @@ use Rattle.ref_mark.proofs.Common.{false≢true, refers_into, any_is, has, Objec
 use Rattle.ref_mark.proofs.Common.{allowed_referent, targets_of, targets_at, soft_and_weak_referents, Heap}
 use Rattle.ref_mark.proofs.Common.{reference_in, changed_in, with_reference, cleared, got_at, got, reference_refusal}
 use Rattle.ref_mark.proofs.Common.{reference_of, referent_got, CycleHeap, is_white, is_past_mark, is_doomed, undoomed}
-use Rattle.ref_mark.proofs.Common.{barred, with_got}
+use Rattle.ref_mark.proofs.Common.{barred}
 use Rattle.ref_base.proofs.HasLaws.{has-left, has-right, has-cases}
 use Rattle.ref_base.proofs.Lookups.{lookup-changed}
 use Rattle.ref_mark.proofs.MutationKinds.{MayBecome}
@@ -67,9 +67,13 @@ is_there-changed_in h None f n keeps = refl
 is_there-changed_in h (Some i) f n keeps =
     lookup-changed (λ o p. is_some p ≡ is_some o) h.objects i f keeps (λ o. refl) (λ o found. refl) n
 
+-- slot d holds what was got, before it is known whether the object has to move
+abbrev pub got_there : CycleHeap → ℕ → ℕ → ℕ → Option ℕ → CycleHeap
+got_there k m d s value = let after = barred k value in record after { heap = got after.heap m d s value }
+
 -- the barrier may as well come after what is got
 pub with_got-barred : (k : CycleHeap) (m d s n : ℕ)
-    → with_got k m d s (Some n) ≡ barred (record k { heap = got k.heap m d s (Some n) }) (Some n)
+    → got_there k m d s (Some n) ≡ barred (record k { heap = got k.heap m d s (Some n) }) (Some n)
 with_got-barred k m d s n = grind (arith, is_there-changed_in)
 
 pub reference_of-held : (k : CycleHeap) (held : Option ℕ) (n : ℕ)

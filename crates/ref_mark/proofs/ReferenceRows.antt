@@ -29,7 +29,9 @@ use Rattle.ref_mark.proofs.MutationKinds.{rooted, altered, altered_mutation}
 use Rattle.ref_mark.proofs.SlotRows.{set_stands}
 use Rattle.ref_mark.proofs.ReferenceChanges.{reference_refusal-there, refers_into_doomed-past, cleared_becomes}
 use Rattle.ref_mark.proofs.ReferenceChanges.{got_becomes, gives_target, undoomed-some, with_got-barred}
-use Rattle.ref_mark.proofs.ReferenceChanges.{reference_of-held}
+use Rattle.ref_mark.proofs.ReferenceChanges.{reference_of-held, got_there}
+use Rattle.ref_mark.proofs.MovedSpaces.{brought_stands, undoomed-brought}
+use Rattle.ref_mark.proofs.Common.{cycle_brought}
 use Rattle.ref_base.specs.declared.heap_step.HeapStep.TheVariants as heap
 use Rattle.ref_base.specs.declared.plain_step.PlainStep.TheVariants as plain
 use Rattle.ref_base.specs.declared.reply.Reply.TheVariants as replies
@@ -125,7 +127,7 @@ clear_row k a m s stands accepted =
 
 get_values : (k : CycleHeap) (a : State) (m d s : ℕ) (value : Option ℕ) → MarkStands k a → value_got k m s ≡ value
     → has_slot k.heap m d ≡ true
-    → (b : State) × Gets a m d s value (value_reply value) b × MarkStands (with_got k m d s value) b
+    → (b : State) × Gets a m d s value (value_reply value) b × MarkStands (got_there k m d s value) b
 get_values k a m d s None stands is there = grind (arith, set_stands k a m d None stands)
 get_values k a m d s (Some n) stands is there =
     let pending = pending_numbers a.world.pending in
@@ -197,5 +199,6 @@ get_row k a m d s stands accepted =
     let slots : has_slots k.heap m d s ≡ true =
     (unless_passes (has_slots k.heap m d s) NoSuchActor (reference_refusal k.heap (slot_at k.heap m s)) accepted).0 in
     let there : has_slot k.heap m d ≡ true = (and_parts (has_slot k.heap m d) (nat_lt s 16) slots).0 in
-    let row = get_values k a m d s value stands refl there in
+    let row = get_values (cycle_brought k value) a m d s value (brought_stands k a value stands)
+    (undoomed-brought k value (referent_got (reference_of k.heap (slot_at k.heap m s)))) there in
     (row.0, subst (λ (v : Option ℕ). Gets a m d s v (value_reply value) row.0) (sym same) row.1, row.2)

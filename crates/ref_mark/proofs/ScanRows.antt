@@ -38,7 +38,8 @@ scan_none k a w stands phase is =
       b,
       (left ∙ ap (λ ns. not (is_empty ns)) is, (refl, refl)),
       marking_stands k b phase refl left stands.born stands.orderly stands.scanners stands.finders
-          (plain_there k a stands (ap (λ p. is_in p Sweeping) phase) k refl) (unhealed_unscanned k a stands now) later,
+          (plain_there k a stands (ap (λ p. is_in p Sweeping) phase) k refl) (unhealed_unscanned k a stands now)
+          stands.moved later,
     )
 
 -- of what is unhealed the others weren't scanned
@@ -91,7 +92,7 @@ scan_some k a w n rest stands phase within is =
     marking_stands (record i { found = found; tags = tags }) b phase refl refl stands.born stands.orderly scanners
     finders
     (plain_there k a stands (ap (λ p. is_in p Sweeping) phase) (record i { found = found; tags = tags }) refl)
-    (unscanned_still k a w n scanner (unhealed_unscanned k a stands now))
+    (unscanned_still k a w n scanner (unhealed_unscanned k a stands now)) stands.moved
     (subst (λ (l : CycleHeap). MarkingBut l b [] []) found_only done) in
     let was_left : a.left ≡ true = (stands.marking now).left ∙ ap (λ ns. not (is_empty ns)) is in
     let policy : b.world.policy ≡ j.policy = sym (ap (λ (l : CycleHeap). l.policy) only) in (

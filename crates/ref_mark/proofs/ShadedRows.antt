@@ -1,5 +1,5 @@
 -- A row that gives out an object: in a mark the barrier shades it, and it is said anew whether an object is left.
-use Rattle.ref_mark.proofs.Common.{arith, ◌≡◌, ℕ, true, false, not, refl, sym, ap, subst, ◌∙◌, [], ◌∷◌, Some, inl, inr}
+use Rattle.ref_mark.proofs.Common.{◌≡◌, ℕ, true, false, not, refl, sym, ap, subst, ◌∙◌, [], ◌∷◌, Some, inl, inr}
 use Rattle.ref_mark.proofs.Common.{cases_Bool, has, is_there, is_kept, EverKept, Heap, World, with_heap}
 use Rattle.ref_mark.proofs.Common.{pending_numbers, is_in, is_empty, State, ticked, Marking, CycleHeap, shaded, barred}
 use Rattle.ref_mark.proofs.Common.{ReadsAs, MarkStands}
@@ -12,7 +12,7 @@ use Rattle.ref_mark.proofs.DoomedLists.{shown_heap-before}
 use Rattle.ref_mark.proofs.Mutations.{Change, mutated, IsMutation, roots_after, graph_after, mutated_state}
 use Rattle.ref_mark.proofs.Mutations.{mutated_marking}
 use Rattle.ref_mark.proofs.MutatedStates.{IsAlongside, in_mark, marking_stands, mutated_beside, marking_is_in_cycle}
-use Rattle.ref_mark.proofs.MutatedStates.{marking_is_not_past}
+use Rattle.ref_mark.proofs.MutatedStates.{marking_is_not_past, ticked_marking}
 
 module _ (k : CycleHeap) (c : Change) (a : State) (w : World) (beside : IsAlongside a.world w) (n : ℕ)
     (stands : MarkStands k a)
@@ -44,7 +44,33 @@ module _ (k : CycleHeap) (c : Change) (a : State) (w : World) (beside : IsAlongs
   anew_in_mark : IsMutation k c (pending_numbers w.pending) (n ∷ []) → is_in k.phase Marking ≡ true → a.next ≡ c.next
       → (b : State) × IsBut (ticked (with_world a (with_heap w (mutated k c).heap))) b
       × MarkStands (shaded (mutated k c) n) b
-  anew_in_mark mutation marking next = grind (arith, shaded_stands, some_left)
+  anew_in_mark mutation marking next =
+      let new : CycleHeap = shaded (mutated k c) n in
+      let base : State = with_world a (with_heap w (mutated k c).heap) in
+      let left = not (is_empty new.grey) in
+      let then : MarkStands new state_anew = shaded_stands mutation marking in
+      let still : is_in new.phase Marking ≡ true =
+      ap (λ (j : CycleHeap). is_in j.phase Marking) (shaded-only (mutated k c) n) ∙ marking in
+      let now : is_in base.world.phase Marking ≡ true =
+      ap (λ p. is_in p Marking) (beside.phase ∙ stands.phase) ∙ marking in
+      let same : state_anew ≡ record (ticked base) { left = left } =
+      ap (λ (i : ℕ).
+      record a {
+        world = base.world;
+        next = i;
+        moments = graph_after c (pending_numbers w.pending) ∷ a.moments;
+        left = left;
+      }) (sym next)
+      ∙ ap (λ (s : State). record s { left = left }) (sym (ticked_marking base now)) in (
+        state_anew,
+        (
+          left,
+          same,
+          λ some.
+              some_left new state_anew (then.marking still).coloured (then.marking still).reached then.policy some,
+        ),
+        then,
+      )
 
   -- The row gives out n, which is a root after the mutation: in a mark it may be white until it is shaded.
   pub barred_row : (h : Heap) (answer : Reply)

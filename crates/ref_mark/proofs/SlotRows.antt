@@ -5,11 +5,12 @@ use Rattle.ref_mark.proofs.Common.{or_left, eq-eqb, length-set, has, Object, obj
 use Rattle.ref_mark.proofs.Common.{targets_of, targets_at, allowed_referent, soft_and_weak_referents, is_kept, Heap}
 use Rattle.ref_mark.proofs.Common.{slot_at, with_slot, pending_numbers, is_in, has_slot, has_slots, field_refusal}
 use Rattle.ref_mark.proofs.Common.{State, ticked, on_heap, field_in, value_reply, HeapAccepts, Marking, NoSuchActor}
-use Rattle.ref_mark.proofs.Common.{is_in_cycle, CycleHeap, is_white, barred, MarkStands}
+use Rattle.ref_mark.proofs.Common.{is_in_cycle, CycleHeap, is_white, barred, cycle_brought, MarkStands}
 use Rattle.ref_base.specs.Refusals.{load_refusal}
 use Rattle.ref_base.specs.CollectorRows.{field_of, Loads}
 use Rattle.ref_mark.specs.CycleHeaps.{loaded}
 use Rattle.ref_base.proofs.HasLaws.{has-left}
+use Rattle.ref_mark.proofs.MovedSpaces.{brought_stands}
 use Rattle.ref_mark.proofs.Agreeing.{field_in-agrees, said_slot}
 use Rattle.ref_mark.proofs.Mutations.{Change, mutated, IsMutation}
 use Rattle.ref_mark.proofs.MutatedStates.{mutated_stands, alongside_itself}
@@ -79,9 +80,13 @@ field_of-leads : (allow : Allowed) (h : Heap) (held : Option ℕ) (i n : ℕ) �
 field_of-leads allow h None i n is = absurd (cc)
 field_of-leads allow h (Some m) i n is = (m, refl, field_of-target allow (object_at h.objects m) i n is)
 
+-- before it is known whether the object has to move
+abbrev loaded_there : CycleHeap → ℕ → ℕ → Option ℕ → CycleHeap
+loaded_there k m d value = let after = barred k value in record after { heap = with_slot after.heap m d value }
+
 load_values : (k : CycleHeap) (a : State) (m d s i : ℕ) (value : Option ℕ) → MarkStands k a
     → field_in k.heap (slot_at k.heap m s) i ≡ value → has_slot k.heap m d ≡ true
-    → (b : State) × Loads a m d value (value_reply value) b × MarkStands (loaded k m d value) b
+    → (b : State) × Loads a m d value (value_reply value) b × MarkStands (loaded_there k m d value) b
 load_values k a m d s i None stands is there = grind (arith, set_stands k a m d None stands)
 load_values k a m d s i (Some n) stands is there =
     let pending = pending_numbers a.world.pending in
@@ -90,7 +95,7 @@ load_values k a m d s i (Some n) stands is there =
     let root : has (present set ++ k.heap.holds ++ pending) n ≡ true =
     slot_root (present set) k.heap.holds pending n
     (has-present_here k.heap.slots (16 * m + d) n (slot_within k a m d stands there)) in
-    let same : loaded k m d (Some n) ≡ barred (mutated k c) (Some n) =
+    let same : loaded_there k m d (Some n) ≡ barred (mutated k c) (Some n) =
     elim (cases_Bool (is_in k.phase Marking)) [
       | inl marking ↦ elim (cases_Bool (is_white k n)) [
         | inl white ↦ simp (marking, white) refl
@@ -128,5 +133,5 @@ load_row k a m d s i stands accepted =
     let slots : has_slots k.heap m d s ≡ true =
     (unless_passes (has_slots k.heap m d s) NoSuchActor (field_refusal k.heap (slot_at k.heap m s) i) accepted).0 in
     let there : has_slot k.heap m d ≡ true = (and_parts (has_slot k.heap m d) (nat_lt s 16) slots).0 in
-    let row = load_values k a m d s i value stands refl there in
+    let row = load_values (cycle_brought k value) a m d s i value (brought_stands k a value stands) refl there in
     (row.0, subst (λ (v : Option ℕ). Loads a m d v (value_reply value) row.0) (sym same) row.1, row.2)

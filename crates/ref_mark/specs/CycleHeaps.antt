@@ -2,7 +2,7 @@
 -- load barriers; package `java.lang.ref` of Java SE 17 for what the calls of a reference do; the order of the grey
 -- list, and what is found for clearing: this project's profile).
 use Rattle.std.specs.Prelude.{ℕ, ◌+◌, Bool, true, false, ◌&&◌, ◌||◌, not, if◌then◌else◌, List, [], ◌∷◌, ◌++◌, replicate}
-use Rattle.std.specs.Prelude.{Option, Some, None, slice_set}
+use Rattle.std.specs.Prelude.{Option, Some, None, Result, Ok, Err, slice_set}
 use Rattle.ref_base.specs.Members.{has, rest_of}
 use Rattle.ref_base.specs.Graphs.{Object, is_there, numbers}
 use Rattle.ref_base.specs.Paths.{present, targets_at}
@@ -12,17 +12,20 @@ use Rattle.ref_base.specs.Forgetting.{heap_but}
 use Rattle.ref_base.specs.Heaps.{Heap, first_heap, slot_at, reference_at, one_more, with_slot, made, got, cut}
 use Rattle.ref_base.specs.Heaps.{with_clock, with_changed, with_reference, cleared}
 use Rattle.ref_base.specs.CollectorRows.{reference_of, referent_of, referent_got, is_same, list_at, emptied, without}
-use Rattle.ref_base.specs.Refusals.{is_in}
+use Rattle.ref_base.specs.Refusals.{is_in, is_empty}
 use Rattle.ref_base.specs.declared.config.Config.{Config}
 use Rattle.ref_base.specs.declared.phase.Phase.{Phase}
-use Rattle.ref_base.specs.declared.phase.Phase.TheVariants.{Idle, Marking, Clearing, Sweeping}
+use Rattle.ref_base.specs.declared.fault.Fault.{Fault}
+use Rattle.ref_base.specs.declared.phase.Phase.TheVariants.{Idle, Marking, Clearing, Sweeping, Moving}
 use Rattle.ref_base.specs.declared.policy.Policy.{Policy}
 use Rattle.ref_base.specs.declared.urgency.Urgency.{Urgency}
 use Rattle.ref_base.specs.declared.urgency.Urgency.TheVariants.{Normal}
 use Rattle.ref_space.specs.Tables.{Tag}
 use Rattle.ref_space.specs.ColouredWords.{cycle_colour}
+use Rattle.ref_space.specs.Worklists.{first_in}
 use Rattle.ref_objects.specs.Grounds.{unmarked, with_new_tag, without_tag, with_cleared_tag}
-use Rattle.ref_objects.specs.Grounds.{Space, first_space, occupied, vacated, coloured_anew, healed}
+use Rattle.ref_objects.specs.Grounds.{Space, first_space, occupied, vacated, coloured_anew, healed, brought}
+use Rattle.ref_objects.specs.Grounds.{choice_in, with_choice, with_choice_ended}
 use Rattle.ref_objects.specs.declared.start.Start.{Start}
 use Rattle.ref_mark.specs.Chains.{linked_last_of}
 
@@ -49,7 +52,7 @@ first_cycle_heap config number start = record {
   next = start.obj;
   marked = [];
   tags = [];
-  space = first_space config.cells start.page;
+  space = first_space config.cells start;
   grey = [];
   found = replicate config.workers [];
   phase = Idle;
@@ -89,12 +92,13 @@ blackened k n = if is_white k n then record k { marked = one_more k.marked n } e
 abbrev pub is_past_mark : Phase → Bool
 is_past_mark phase = is_in phase Clearing || is_in phase Sweeping
 
--- whether a cycle has begun, and has not ended
+-- whether a cycle has begun, and has not ended: while objects move none has
 abbrev pub is_in_cycle : Phase → Bool
 is_in_cycle Idle = false
 is_in_cycle Marking = true
 is_in_cycle Clearing = true
 is_in_cycle Sweeping = true
+is_in_cycle Moving = false
 
 -- an object is doomed that is white once the mark has ended
 abbrev pub is_doomed : CycleHeap → ℕ → Bool
@@ -129,9 +133,14 @@ with_made k m d o =
       space = occupied k.space o.no;
     }) o.no
 
+-- what is handed out has moved first, where it was still to move
+abbrev pub cycle_brought : CycleHeap → Option ℕ → CycleHeap
+cycle_brought k value = record k { space = brought k.space value }
+
 -- the slot holds what was loaded
 abbrev pub loaded : CycleHeap → ℕ → ℕ → Option ℕ → CycleHeap
-loaded k m d value = let after = barred k value in record after { heap = with_slot after.heap m d value }
+loaded k m d value =
+    let after = barred (cycle_brought k value) value in record after { heap = with_slot after.heap m d value }
 
 -- what a get of the reference in the slot answers: nothing of a phantom reference, and else the referent, as it reads
 abbrev pub value_got : CycleHeap → ℕ → ℕ → Option ℕ
@@ -139,7 +148,8 @@ value_got k m s = undoomed k (referent_got (reference_of k.heap (slot_at k.heap 
 
 -- slot d holds what was got, which renews the stamp of a soft reference
 abbrev pub with_got : CycleHeap → ℕ → ℕ → ℕ → Option ℕ → CycleHeap
-with_got k m d s value = let after = barred k value in record after { heap = got after.heap m d s value }
+with_got k m d s value =
+    let after = barred (cycle_brought k value) value in record after { heap = got after.heap m d s value }
 
 -- a clear: of a reference whose referent is doomed nothing is left to clear but for its worker
 abbrev pub with_cleared : CycleHeap → ℕ → ℕ → CycleHeap
@@ -245,3 +255,30 @@ swept k n =
       space = vacated k.space n;
     }
     else k
+
+-- a cycle ends, and with it what was chosen to move
+abbrev pub cycle_ended : CycleHeap → CycleHeap
+cycle_ended k = record k { space = with_choice_ended k.space; phase = Idle }
+
+-- ---- moves
+
+-- objects are chosen to move, and move in the phase that begins, unless none is chosen
+abbrev pub chosen_by : CycleHeap → Result ℕ Fault → CycleHeap
+chosen_by k (Ok count) = record k { space = with_choice k.space; phase = Moving }
+chosen_by k (Err fault) = k
+
+abbrev pub moves_begun : CycleHeap → CycleHeap
+moves_begun k = chosen_by k (choice_in k.space)
+
+-- an object that is there
+abbrev pub only_there : CycleHeap → Option ℕ → Option ℕ
+only_there k None = None
+only_there k (Some n) = if is_there k.heap.objects n then Some n else None
+
+-- the next object to move
+abbrev pub next_to_move : CycleHeap → Option ℕ
+next_to_move k = only_there k (first_in k.space.still_to_move)
+
+-- moves end once no object is still to move
+abbrev pub moves_ended : CycleHeap → CycleHeap
+moves_ended k = if is_empty k.space.still_to_move then cycle_in_phase k Idle else k

@@ -1,6 +1,6 @@
 -- What the calls of a heap in its cycles answer and leave, step by step: one table for all of them, by the steps and
 -- refusals of the abstract collector.
-use Rattle.std.specs.Prelude.{◌≡◌, ℕ, ◌+◌, Bool, true, false, not, List, [], length, Option, Some, None}
+use Rattle.std.specs.Prelude.{◌≡◌, ℕ, ◌+◌, Bool, true, false, not, List, [], ◌∷◌, length, Option, Some, None}
 use Rattle.std.specs.Prelude.{Result, Ok, Err}
 use Rattle.ref_base.specs.Graphs.{plain_object}
 use Rattle.ref_base.specs.HeapSteps.{NamedStep}
@@ -11,16 +11,18 @@ use Rattle.ref_base.specs.CollectorRows.{field_in, value_reply}
 use Rattle.ref_base.specs.Refusals.{heap_refusal, is_empty}
 use Rattle.ref_base.specs.Replay.{adopted}
 use Rattle.ref_base.specs.declared.fault.Fault.{Fault}
+use Rattle.ref_base.specs.declared.fault.Fault.TheVariants.{MovesLeft}
 use Rattle.ref_base.specs.declared.phase.Phase.TheVariants.{Clearing}
 use Rattle.ref_base.specs.declared.heap_step.HoldName.{HoldName}
 use Rattle.ref_base.specs.declared.heap_step.HeapStep.TheVariants as heap
 use Rattle.ref_base.specs.declared.plain_step.PlainStep.TheVariants as plain
 use Rattle.ref_base.specs.declared.reply.Reply.{Reply}
 use Rattle.ref_base.specs.declared.reply.Reply.TheVariants as replies
-use Rattle.ref_objects.specs.Grounds.{unmarked, mint_refusal}
+use Rattle.ref_objects.specs.Grounds.{unmarked, mint_refusal, choice_in}
 use Rattle.ref_space.specs.Worklists.{first_in}
 use Rattle.ref_mark.specs.CycleHeaps.{CycleHeap, with_made, loaded, value_got, with_got, with_cleared, reads_same}
-use Rattle.ref_mark.specs.CycleHeaps.{cycle_begun, scanned, cycle_in_phase}
+use Rattle.ref_mark.specs.CycleHeaps.{cycle_begun, scanned, cycle_in_phase, cycle_brought, moves_begun, next_to_move}
+use Rattle.ref_mark.specs.CycleHeaps.{moves_ended}
 use Rattle.ref_mark.specs.MarkViews.{ground_of}
 
 -- this where nothing is refused, and else what becomes of the fault
@@ -47,6 +49,16 @@ abbrev pub scan_reply : Option ℕ → Reply
 scan_reply None = replies.Nothing
 scan_reply (Some n) = replies.Scanned n
 
+-- a move of this object, or of none
+abbrev pub moved_reply : Option ℕ → Reply
+moved_reply None = replies.Nothing
+moved_reply (Some n) = replies.Moved n
+
+-- the end of moves, which waits for those that are still to move
+abbrev pub end_move_reply : List ℕ → Reply
+end_move_reply [] = replies.Done
+end_move_reply (n ∷ ns) = replies.Refused MovesLeft
+
 -- the object of a hold
 abbrev pub hold_reply : HoldName → Reply
 hold_reply hold = replies.Object hold.object
@@ -69,6 +81,7 @@ refusing_cycle k = record (first_state k.heap.config) {
   world = record (first_world k.heap.config) { heap = k.heap; cycle = k.cycle; phase = k.phase };
   next = k.next;
   left = not (is_empty k.grey);
+  moved = k.space.has_choice;
 }
 
 -- the fault of a step, or none where it is accepted: the abstract collector's own
@@ -88,6 +101,9 @@ reply_in k (heap.Adopt m d hold) = replies.Object hold.object
 reply_in k (heap.Plain (plain.Begin now how)) = replies.Cycle (k.cycle + 1)
 reply_in k (heap.Plain (plain.Scan w)) = scan_reply (first_in k.grey)
 reply_in k (heap.Plain plain.EndMark) = replies.Doomed (length (unmarked k.heap.objects k.marked))
+reply_in k (heap.Plain plain.Select) = reply_of replies.Selected (choice_in k.space)
+reply_in k (heap.Plain (plain.MoveNext w)) = moved_reply (next_to_move k)
+reply_in k (heap.Plain plain.EndMove) = end_move_reply k.space.still_to_move
 reply_in k step = replies.Done
 
 -- one more hold of what is there
@@ -112,6 +128,9 @@ done_in k (heap.Release hold) = record k { heap = without_hold k.heap hold.objec
 done_in k (heap.Plain (plain.Begin now how)) = cycle_begun k now how
 done_in k (heap.Plain (plain.Scan w)) = scanned k w
 done_in k (heap.Plain plain.EndMark) = cycle_in_phase k Clearing
+done_in k (heap.Plain plain.Select) = moves_begun k
+done_in k (heap.Plain (plain.MoveNext w)) = cycle_brought k (next_to_move k)
+done_in k (heap.Plain plain.EndMove) = moves_ended k
 done_in k step = k
 
 -- the reply to a step, refused or not

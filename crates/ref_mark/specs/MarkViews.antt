@@ -1,19 +1,23 @@
 -- What a contract sees of a marker's fields, and what holds of them.
-use Rattle.std.specs.Prelude.{◌≡◌, ℕ, ◌<◌, ◌≤◌, true, false, List, [], length, Option}
+use Rattle.std.specs.Prelude.{◌≡◌, ℕ, ◌<◌, ◌≤◌, Bool, true, false, List, [], length, Option}
 use Rattle.std.specs.Option.{option_map}
 use Rattle.ref_base.specs.Members.{has, AreDistinct}
 use Rattle.ref_base.specs.Collectors.{joined}
 use Rattle.ref_base.specs.CollectorRows.{list_at}
 use Rattle.ref_base.specs.Refusals.{is_in}
 use Rattle.ref_base.specs.declared.phase.Phase.{Phase}
-use Rattle.ref_base.specs.declared.phase.Phase.TheVariants.{Sweeping}
+use Rattle.ref_base.specs.declared.phase.Phase.TheVariants.{Sweeping, Moving}
 use Rattle.ref_base.specs.declared.policy.Policy.{Policy}
-use Rattle.ref_objects.specs.Grounds.{Ground, look_of}
+use Rattle.ref_objects.specs.Grounds.{Ground, Space, look_of}
+use Rattle.ref_objects.specs.declared.stage.Stage.{Stage}
+use Rattle.ref_objects.specs.declared.stage.Stage.TheVariants.{Tuned}
+use Rattle.ref_space.specs.ColouredWords.{cycle_colour}
+use Rattle.ref_space.specs.declared.colour.Colour.{Colour}
 use Rattle.ref_space.specs.declared.linked.Look.{Look}
 use Rattle.ref_space.specs.Worklists.{Worklist, first_in}
 use Rattle.ref_mark.specs.declared.chain.Chain.{Chain}
 use Rattle.ref_mark.specs.Chains.{lists_of, is_tagged, AreChains}
-use Rattle.ref_mark.specs.CycleHeaps.{CycleHeap}
+use Rattle.ref_mark.specs.CycleHeaps.{CycleHeap, is_in_cycle}
 
 -- what stands in each of the workers' lists
 abbrev pub found_in : Ground → List Chain → List (List ℕ)
@@ -70,6 +74,24 @@ pub record IsSoundMarker (g : Ground) (grey : Worklist) (found : List Chain) (ph
   pub chains : AreChains g.tags g.heap.config.cells found
   pub listed : AreListed g.marked grey.stands (found_in g found) phase
   pub condemning : g.condemning ≡ is_in phase Sweeping
+
+-- No object is still to move but while objects move; none is unhealed but in a cycle, which was the last to make a
+-- colour good; a choice ends with the cycle after it; and the colour of the last cycle that began is that of its number.
+pub record IsSettled (still_to_move unhealed : List ℕ) (stage : Stage) (has_choice : Bool) (last : Colour)
+    (phase : Phase) (cycle : ℕ) : Type 0 where
+  pub none_left : is_in phase Moving ≡ false → still_to_move ≡ []
+  pub healed : is_in_cycle phase ≡ false → unhealed ≡ []
+  pub tuned : is_in_cycle phase ≡ true → stage ≡ Tuned
+  pub ended : is_in_cycle phase ≡ false → stage ≡ Tuned → has_choice ≡ false
+  pub colour : last ≡ cycle_colour cycle
+
+abbrev pub AreSettled : Space → Phase → ℕ → Type 0
+AreSettled s phase cycle = IsSettled s.still_to_move s.unhealed s.stage s.has_choice s.last phase cycle
+
+-- the lists are sound, and so are moves
+pub record IsMarker (g : Ground) (grey : Worklist) (found : List Chain) (phase : Phase) (cycle : ℕ) : Type 0 where
+  pub lists : IsSoundMarker g grey found phase
+  pub moves : AreSettled g.space phase cycle
 
 -- A worker may find object n: it is black, and nobody has found it, while the cycle marks.
 pub record MayFind (k : CycleHeap) (w n : ℕ) : Type 0 where

@@ -131,6 +131,7 @@ pub record MarkStands (k : CycleHeap) (a : State) : Type 0 where
   pub finders : length k.found ≡ k.heap.config.workers
   pub there : AreThere k (graph_of a.world).roots
   pub healed : AreHealed k
+  pub moved : a.moved ≡ k.space.has_choice
   pub facts : is_in_cycle k.phase ≡ true → FactsBut k (graph_of a.world).roots []
   pub marking : is_in k.phase Marking ≡ true → InMarking k a.born a.moments a.scanned a.left
   pub clearing : is_in k.phase Clearing ≡ true → InClearing k a.found a.cleared

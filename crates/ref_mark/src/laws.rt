@@ -7,11 +7,12 @@ ghost use Rattle.ref_base.specs.HeapSteps.{NamedStep};
 ghost use Rattle.ref_base.specs.KeptPaths.{is_kept};
 ghost use Rattle.ref_base.specs.Members.{has};
 ghost use Rattle.ref_base.specs.Paths.{targets_at};
-ghost use Rattle.ref_base.specs.Refusals.{is_in};
+ghost use Rattle.ref_base.specs.Refusals.{is_empty, is_in};
 ghost use Rattle.ref_base.specs.Worlds.{graph_of};
 ghost use Rattle.ref_base.specs.declared.phase.Phase.TheVariants.{Clearing, Sweeping};
 ghost use Rattle.ref_objects.specs.Grounds.{NamesSpared, IsClosed};
 ghost use Rattle.ref_mark.specs.CycleHeaps.{CycleHeap, is_white, is_black, is_in_cycle, cycle_in_phase, sweep_begun};
+ghost use Rattle.ref_mark.specs.CycleHeaps.{doomed};
 ghost use Rattle.ref_mark.specs.MarkViews.{ground_of};
 ghost use Rattle.ref_mark.specs.MarkCalls.{is_of_marking};
 ghost use Rattle.ref_mark.specs.MarkRows.{IsMarkRowOf, KeepsStanding};
@@ -53,8 +54,14 @@ pub fn no_black_object_leads_to_a_white_one()
         → has (targets_at (is_kept k.policy) k.heap.objects m) n ≡ true → is_white k n ≡ false }
 {}
 
-/// Between cycles no object is unhealed: each word that an object holds has the good colour. In a cycle only what isn't
-/// scanned yet may hold a word of another.
+/// Between cycles no object is unhealed: each word that an object holds has the good colour of the cycle that ended,
+/// until objects are chosen to move. In a cycle only what isn't scanned yet may hold a word of another.
 pub fn between_cycles_each_object_is_healed()
     ensures { (k : CycleHeap) (a : State) → MarkStands k a → is_in_cycle k.phase ≡ false → k.space.unhealed ≡ [] }
+{}
+
+/// Nor is one in a sweep once nothing doomed is left: so the cycle may end.
+pub fn once_all_is_swept_each_object_is_healed()
+    ensures { (k : CycleHeap) (a : State) → MarkStands k a → is_in k.phase Sweeping ≡ true
+        → is_empty (doomed k) ≡ true → k.space.unhealed ≡ [] }
 {}

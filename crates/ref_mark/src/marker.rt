@@ -18,6 +18,7 @@ mod barriers;
 mod cycle;
 mod holds;
 mod layer;
+mod moves;
 
 use crate::chain::Chain;
 use ref_base::{
@@ -52,13 +53,13 @@ pub struct Marker<A: Allocator = Global> {
 
 impl<A: Allocator> Model for Marker<A> {
     ghost use Rattle.ref_mark.specs.CycleHeaps.{CycleHeap};
-    ghost use Rattle.ref_mark.specs.MarkViews.{seen_marker, IsSoundMarker};
+    ghost use Rattle.ref_mark.specs.MarkViews.{seen_marker, IsMarker};
 
     ghost Value = { CycleHeap };
 
     ghost view = { λ m. seen_marker m.objects m.grey m.found.items m.phase m.policy m.cycle };
 
-    ghost invariant = { λ m. IsSoundMarker m.objects m.grey m.found.items m.phase };
+    ghost invariant = { λ m. IsMarker m.objects m.grey m.found.items m.phase m.cycle };
 }
 
 impl<A: Allocator + Copy> Marker<A> {
@@ -210,7 +211,7 @@ impl<A: Allocator + Copy> Marker<A> {
     {
         match self.phase {
             Phase::Marking | Phase::Clearing | Phase::Sweeping => true,
-            Phase::Idle => false,
+            Phase::Idle | Phase::Moving => false,
         }
     }
 

@@ -1,6 +1,7 @@
 -- The words of std and of the model that several proofs cite, passed on from one place. Declares nothing.
 pub use Rattle.std.proofs.Common.{Bool, List, None, Option, Some, [], ap, arith, false, if◌then◌else◌, inl, inr, length}
 pub use Rattle.std.proofs.Common.{map, nat_lt, not, refl, replicate, rules, subst, suc, sym, true, zero, ℕ, ◌&&◌, ◌*◌}
+pub use Rattle.std.proofs.Common.{◌/◌, ◌%◌}
 pub use Rattle.std.proofs.Common.{◌++◌, ◌+◌, ◌-◌, ◌<◌, ◌==◌, ◌^◌, ◌∙◌, ◌∷◌, ◌≡◌, ◌≤◌}
 pub use Rattle.std.proofs.lemmas.Bool.{cases_Bool, eq-eqb, eqb-true, false≢true, le-ltb, lt-ltb}
 pub use Rattle.std.proofs.lemmas.List.{length-map, length-replicate, length-set, map-append}
@@ -31,9 +32,10 @@ pub use Rattle.ref_space.specs.declared.colour.Colour.{Colour}
 pub use Rattle.ref_space.specs.declared.cell.Change.{Change}
 pub use Rattle.ref_space.specs.declared.cell.Change.TheVariants.{ClearIn, ClearedIn, Cut, Link, Stamp}
 pub use Rattle.ref_objects.specs.GroundViews.{IsSoundGround, IsSoundObjects, Stored, made_at, seen_ground, space_of}
-pub use Rattle.ref_objects.specs.GroundViews.{unhealed_of, with_slot_at, written}
+pub use Rattle.ref_objects.specs.GroundViews.{AreSoundMoves, IsSoundMoves, with_slot_at, written}
+pub use Rattle.ref_space.specs.Tables.{unhealed_of, without_number}
 pub use Rattle.ref_objects.specs.Grounds.{Ground, IsClosed, IsSparedIfAny, NamesSpared, after_freeing, all_marked}
 pub use Rattle.ref_objects.specs.Grounds.{all_newly_marked, changed_tag, ground_healed, ground_looked_at, ground_marked}
 pub use Rattle.ref_objects.specs.Grounds.{ground_marked_if_any, ground_with_heap, is_spared, least_from, look_of}
 pub use Rattle.ref_objects.specs.Grounds.{marks_begun}
-pub use Rattle.ref_objects.specs.Grounds.{named_in, newly_marked, unmarked, with_condemned, without_number}
+pub use Rattle.ref_objects.specs.Grounds.{named_in, newly_marked, unmarked, with_condemned}

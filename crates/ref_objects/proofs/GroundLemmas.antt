@@ -24,6 +24,7 @@ use Rattle.ref_objects.proofs.MarkLemmas.{is_unmarked-tabled}
 use Rattle.ref_objects.proofs.TagLemmas.{tags_of-without, tags_of-changed}
 use Rattle.ref_objects.proofs.HealedLemmas.{unhealed_of-without}
 use Rattle.ref_space.specs.Tables as table
+use Rattle.ref_space.specs.Tables.{left_of}
 
 -- ---- what is read
 
@@ -71,10 +72,13 @@ module _ {s : Stored} (sound : IsSoundGround s) where
       → IsSoundGround (with_made_at s place k r)
   sound_made place k r below = grind (arith, length-set, numbers_by-made)
 
-  pub seen_made : (place k : ℕ) (r : Option Reference) → AllUpTo s.table.last (numbers (objects_of s.table.tabled))
+  pub seen_made : (place k : ℕ) (r : Option Reference)
+      → left_of (with_tabled s.table place (made_entry s.table.round.number s.next k r s.condemning)) ≡ left_of s.table
+      → AllUpTo s.table.last (numbers (objects_of s.table.tabled))
       → 1 ≤ s.table.round.number → seen_ground (with_made_at s place k r) ≡ made_at (seen_ground s) place k r
-  seen_made place k r given begun =
+  seen_made place k r left given begun =
       search (
+        left,
         map-append,
         numbers_by-made,
         marked_of-made s.table.round.number s.table.tabled
@@ -178,11 +182,13 @@ module _ {s : Stored} (sound : IsSoundGround s) (n : ℕ) where
     seen_dropped held = search (map-changed, holds_of-dropped, numbers_by-changed)
 
     -- a condemned object goes
-    pub seen_freed : s.condemning ≡ true → holds_in (tabled_at s.table.tabled n) ≡ 0
+    pub seen_freed : s.condemning ≡ true → left_of (table.table_freed s.table n) ≡ left_of s.table
+        → holds_in (tabled_at s.table.tabled n) ≡ 0
         → seen_ground (record s { table = table.table_freed s.table n }) ≡ after_freeing (seen_ground s) n
-    seen_freed goes none =
+    seen_freed goes left none =
         grind (
           arith,
+          left,
           is_unmarked-tabled,
           objects_of-without,
           numbers_by-without,

@@ -10,13 +10,15 @@ use Rattle.ref_space.specs.Tables.{is_healed, is_healed_in, AllDated, has_field,
 use Rattle.ref_space.specs.Naming.{IsWordHeld}
 use Rattle.ref_space.proofs.TableReads.{fields-tabled}
 use Rattle.std.specs.Option.{IfSome}
-use Rattle.ref_objects.specs.Grounds.{IsWordIn}
+use Rattle.ref_objects.specs.Grounds.{IsWordIn, is_tuned}
+use Rattle.ref_objects.proofs.Common.{Bool, Colour}
 use Rattle.ref_objects.proofs.Common.{Stored, seen_ground, cases_Bool, inl, inr, subst, slice_index_or}
 use Rattle.ref_objects.proofs.Common.{marked_of, ◌+◌, ap}
 use Rattle.std.proofs.lemmas.Bool.{ne_eqb}
 use Rattle.ref_space.proofs.TabledLemmas.{is_there-objects_of}
 use Rattle.ref_space.proofs.CountLemmas.{IsRising-tail}
 use Rattle.ref_objects.proofs.NumberLemmas.{AllFrom-numbers_by, has-numbers_by}
+use Rattle.ref_space.specs.Moves.{Ways}
 
 -- ---- lists of numbers
 
@@ -125,17 +127,34 @@ field_there : (k : Option Tabled) (i : ℕ) → true ≡ has_field k i → is_so
 field_there None i has_it = sym has_it
 field_there (Some k) i has_it = refl
 
+-- a word that has to have the good colour may also be one that has to on a condition more
+less_held : (good : Colour) (ways : Ways) (cells : List (Option ℕ)) (also has_to : Bool) (value : Option ℕ)
+    (bits : ℕ) → IsWordHeld good ways cells has_to value bits
+    → IsWordHeld good ways cells (also && has_to) value bits
+less_held good ways cells also has_to None bits word = word
+less_held good ways cells false has_to (Some n) bits word =
+    record {
+      colour = word.colour;
+      frame = word.frame;
+      cell = word.cell;
+      parts = word.parts;
+      lies = word.lies;
+      healed = λ has. absurd (false≢true has);
+    }
+less_held good ways cells true has_to (Some n) bits word = word
+
 pub word_seen : (s : Stored) → IsRising (numbers (objects_of s.table.tabled)) → (n i : ℕ) (bits : Option ℕ)
     → is_some bits ≡ has_field (tabled_at s.table.tabled n) i
-    → IfSome bits (IsWordHeld s.table.round.good s.table.pages.uses s.table.occupants
+    → IfSome bits (IsWordHeld s.table.round.good s.table.ways s.table.occupants
     (is_healed_in s.table.round.number (tabled_at s.table.tabled n)) (field_held (tabled_at s.table.tabled n) i))
     → IfSome bits (IsWordIn (seen_ground s) n i)
 word_seen s rising n i None there word = tt
 word_seen s rising n i (Some b) there word =
     let same = healed-unhealed s.table.round.number s.table.tabled n rising (field_there
     (tabled_at s.table.tabled n) i there) in
-    subst (λ vs. IsWordHeld s.table.round.good s.table.pages.uses s.table.occupants
+    less_held s.table.round.good s.table.ways s.table.occupants (is_tuned s.stage) _ _ b
+    (subst (λ vs. IsWordHeld s.table.round.good s.table.ways s.table.occupants
     (not (has (unhealed_of s.table.round.number s.table.tabled) n)) (slice_index_or vs i None) b)
     (fields-tabled s.table.tabled n)
-    (subst (λ has_to. IsWordHeld s.table.round.good s.table.pages.uses s.table.occupants has_to
-    (field_held (tabled_at s.table.tabled n) i) b) same word)
+    (subst (λ has_to. IsWordHeld s.table.round.good s.table.ways s.table.occupants has_to
+    (field_held (tabled_at s.table.tabled n) i) b) same word))

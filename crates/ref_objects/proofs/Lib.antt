@@ -12,3 +12,5 @@ pub mod SparedLemmas
 pub mod SoundLemmas
 pub mod ScanLemmas
 pub mod SlotLemmas
+pub mod MoveLemmas
+pub mod ChoiceLemmas

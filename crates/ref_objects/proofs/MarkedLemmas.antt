@@ -16,6 +16,7 @@ use Rattle.ref_space.proofs.EachLemmas.{blanked_holds}
 use Rattle.ref_objects.proofs.HealedLemmas.{unhealed_of-next, unhealed_of-anew, unhealed_of-healed, marked_of-next}
 use Rattle.ref_space.specs.Tables.{is_marked, is_healed, AllDated}
 use Rattle.ref_objects.proofs.Common.{◌==◌, ◌^◌, ◌-◌, nat_lt, cases_Bool, inl, inr}
+use Rattle.ref_objects.specs.declared.stage.Stage.TheVariants.{Tuned}
 
 -- a number below those of the objects forgets none of them
 forgotten-above : (d : List ℕ) (os : List Object) (m : ℕ) → IsRising (m ∷ numbers os)
@@ -48,14 +49,16 @@ tags_of-blanked r (k ∷ ks) = grind (arith, tags_of-blanked r ks)
 module _ {s : Stored} (sound : IsSoundGround s) where
   -- no object is marked, and this colour is good
   module _ (good : Colour) (dated : AllDated s.table.round.number s.table.tabled) where
-    pub sound_begun : IsSoundGround (record s { table = table_begun s.table good; condemning = false })
+    pub sound_begun : IsSoundGround
+        (record s { table = table_begun s.table good; condemning = false; last = good; stage = Tuned })
     sound_begun =
         elim (cases_Bool (nat_lt s.table.round.number (2 ^ 64 - 1))) [
           | inl next ↦ simp next (search numbers_by-each)
           | inr spent ↦ simp spent (search numbers_by-each)
         ]
 
-    pub seen_begun : seen_ground (record s { table = table_begun s.table good; condemning = false })
+    pub seen_begun : seen_ground
+        (record s { table = table_begun s.table good; condemning = false; last = good; stage = Tuned })
         ≡ marks_begun (seen_ground s) good
     seen_begun =
         elim (cases_Bool (nat_lt s.table.round.number (2 ^ 64 - 1))) [

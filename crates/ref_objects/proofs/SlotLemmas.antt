@@ -30,12 +30,18 @@ use Rattle.ref_objects.proofs.GroundLemmas.{with_made_at, seen_written}
 use Rattle.ref_space.proofs.CountLemmas.{IsRising-tail}
 use Rattle.ref_objects.proofs.SparedLemmas.{spared_slot, spared_field, spared_referent}
 use Rattle.ref_objects.proofs.SoundLemmas.{slot_sound, slot_spared, field_sound, written_sound, made_sound}
-use Rattle.ref_objects.proofs.SoundLemmas.{marked_sound}
+use Rattle.ref_objects.proofs.SoundLemmas.{brought_sound, marked_sound}
+use Rattle.ref_objects.proofs.Common.{made_entry, with_slot_at, with_tabled}
+use Rattle.ref_objects.proofs.MoveLemmas.{seen_brought}
+use Rattle.ref_objects.specs.Grounds.{ground_brought}
+use Rattle.ref_space.specs.Tables.{brought as table_brought, left_of, without_if_any}
 
 -- the table as a load leaves it, and as a store does
-abbrev table_loaded : Table → ℕ → ℕ → ℕ → Table
+abbrev pub table_loaded : Table → ℕ → ℕ → ℕ → Table
 table_loaded t into from i =
-    if has_field (tabled_held t from) i then slotted t into (field_held (tabled_held t from) i) else t
+    if has_field (tabled_held t from) i
+    then slotted (table_brought t (field_held (tabled_held t from) i)) into (field_held (tabled_held t from) i)
+    else t
 
 abbrev table_stored : Table → ℕ → ℕ → ℕ → Table
 table_stored t into i from = changed_held t into (on_object (with_field i (held_at t from)))
@@ -91,42 +97,102 @@ module _ {s : Stored} (sound : IsSoundObjects s) where
 
   -- ---- what is written
 
+  -- the slot holds an object, which has moved if it was still to
+  put_sound : (place : ℕ) (value : Option ℕ) → IsSparedIfAny was value
+      → left_of (table_brought s.table value) ≡ without_if_any (left_of s.table) value
+      → IsSoundObjects (record s { table = slotted (table_brought s.table value) place value })
+  put_sound place value spared left =
+      slot_sound (brought_sound sound value refl left) place value
+      (seen_brought s value (table_brought s.table value) refl left) spared
+
+  seen_put : (place : ℕ) (value : Option ℕ)
+      → left_of (table_brought s.table value) ≡ without_if_any (left_of s.table) value
+      → seen_ground (record s { table = slotted (table_brought s.table value) place value })
+      ≡ with_slot_at (ground_brought was value) place value
+  seen_put place value left =
+      ap (λ g. with_slot_at g place value) (seen_brought s value (table_brought s.table value) refl left)
+
   -- the slot holds the field of an object that another holds, if there is such a field
-  pub loaded_sound : (into from i : ℕ) → IsSoundObjects (record s { table = table_loaded s.table into from i })
-  loaded_sound into from i =
-      elim (cases_Bool (has_field (tabled_held s.table from) i)) [
-        | inl there ↦ simp there (slot_sound sound into _ refl (spared_held (held_at s.table from)))
-        | inr past ↦ simp past sound
-      ]
-    where
-      spared_held : (value : Option ℕ) → IsSparedIfAny was (field_held (tabled_if s.table.tabled value) i)
-      spared_held None = tt
-      spared_held (Some n) =
-          spared_field was sound.closed n i _ (ap (λ fs. slice_index_or fs i None) (fields-tabled s.table.tabled n))
+  module _ (into from i : ℕ)
+      (left : left_of (table_loaded s.table into from i)
+      ≡ without_if_any (left_of s.table) (field_held (tabled_held s.table from) i)) where
+    pub loaded_sound : IsSoundObjects (record s { table = table_loaded s.table into from i })
+    loaded_sound =
+        elim (cases_Bool (has_field (tabled_held s.table from) i)) [
+          | inl there ↦
+              simp there
+              (put_sound into (field_held (tabled_held s.table from) i) (spared_held (held_at s.table from))
+              (simp there at left))
+          | inr past ↦ simp past sound
+        ]
+      where
+        spared_held : (value : Option ℕ) → IsSparedIfAny was (field_held (tabled_if s.table.tabled value) i)
+        spared_held None = tt
+        spared_held (Some n) =
+            spared_field was sound.closed n i _ (ap (λ fs. slice_index_or fs i None) (fields-tabled s.table.tabled n))
 
   -- and is as it was where there is none
   module _ {g : Ground} (view : was ≡ g) (m into from i place object : ℕ) (place_at : place ≡ 16 * m + into)
       (object_at : object ≡ 16 * m + from) where
-    pub seen_loaded : has_field (tabled_held s.table object) i ≡ true
+    pub seen_loaded : left_of (table_loaded s.table place object i)
+        ≡ without_if_any (left_of s.table) (field_held (tabled_held s.table object) i)
+        → has_field (tabled_held s.table object) i ≡ true
         → seen_ground (record s { table = table_loaded s.table place object i })
-        ≡ ground_with_heap g (with_slot g.heap m into (field_in g.heap (slot_at g.heap m from) i))
-    seen_loaded there = grind (arith, field-slot view m from object object_at i)
+        ≡ ground_with_heap (ground_brought g (field_in g.heap (slot_at g.heap m from) i))
+        (with_slot g.heap m into (field_in g.heap (slot_at g.heap m from) i))
+    seen_loaded left there =
+        simp there (seen_put place (field_held (tabled_held s.table object) i) (simp there at left))
+        ∙ ap (λ (h : Ground). with_slot_at (ground_brought h (field_held (tabled_held s.table object) i)) place
+        (field_held (tabled_held s.table object) i)) view
+        ∙ ap (λ w. with_slot_at (ground_brought g w) place w) (field-slot view m from object object_at i)
+        ∙ ap (λ p. with_slot_at (ground_brought g (field_in g.heap (slot_at g.heap m from) i)) p
+        (field_in g.heap (slot_at g.heap m from) i)) place_at
 
     pub seen_unloaded : has_field (tabled_held s.table object) i ≡ false
         → seen_ground (record s { table = table_loaded s.table place object i }) ≡ g
     seen_unloaded past = simp past view
 
   -- the slot holds the referent of a reference that another holds
-  pub got_sound : (into from : ℕ)
-      → IsSoundObjects (record s {
-        table = slotted s.table into (referent_of (tabled_reference (tabled_held s.table from)));
-      })
-  got_sound into from = slot_sound sound into _ refl (spared_held (held_at s.table from))
-    where
-      spared_held : (value : Option ℕ)
-          → IsSparedIfAny was (referent_of (tabled_reference (tabled_if s.table.tabled value)))
-      spared_held None = tt
-      spared_held (Some n) = spared_referent was sound.closed n _ (ap referent_of (sym (reference-held (Some n))))
+  module _ (into from : ℕ)
+      (left : left_of (slotted (table_brought s.table (referent_of (tabled_reference (tabled_held s.table from)))) into
+      (referent_of (tabled_reference (tabled_held s.table from))))
+      ≡ without_if_any (left_of s.table) (referent_of (tabled_reference (tabled_held s.table from)))) where
+    pub got_sound : IsSoundObjects (record s {
+      table = slotted (table_brought s.table (referent_of (tabled_reference (tabled_held s.table from)))) into
+          (referent_of (tabled_reference (tabled_held s.table from)));
+    })
+    got_sound =
+        put_sound into (referent_of (tabled_reference (tabled_held s.table from))) (spared_held (held_at s.table from))
+        left
+      where
+        spared_held : (value : Option ℕ)
+            → IsSparedIfAny was (referent_of (tabled_reference (tabled_if s.table.tabled value)))
+        spared_held None = tt
+        spared_held (Some n) = spared_referent was sound.closed n _ (ap referent_of (sym (reference-held (Some n))))
+
+    pub seen_got : {g : Ground} → was ≡ g → (value : Option ℕ)
+        → referent_of (tabled_reference (tabled_held s.table from)) ≡ value
+        → seen_ground (record s {
+          table = slotted (table_brought s.table (referent_of (tabled_reference (tabled_held s.table from)))) into
+              (referent_of (tabled_reference (tabled_held s.table from)));
+        })
+        ≡ with_slot_at (ground_brought g value) into value
+    seen_got {g} view value is =
+        seen_put into (referent_of (tabled_reference (tabled_held s.table from))) left
+        ∙ ap (λ (h : Ground). with_slot_at (ground_brought h (referent_of (tabled_reference
+        (tabled_held s.table from))))
+        into (referent_of (tabled_reference (tabled_held s.table from)))) view
+        ∙ ap (λ w. with_slot_at (ground_brought g w) into w) is
+
+  -- what a get is told to answer is that referent
+  pub got_value : {g : Ground} → was ≡ g → (from : ℕ) (value : Option ℕ) → is_some value ≡ true
+      → ((n : ℕ) → value ≡ Some n → referent_of (reference_of g.heap (slice_index_or g.heap.slots from None)) ≡ Some n)
+      → referent_of (tabled_reference (tabled_held s.table from)) ≡ value
+  got_value view from None some read = absurd (false≢true some)
+  got_value view from (Some n) some read =
+      ap referent_of (reference-held (held_at s.table from))
+      ∙ ap (λ (h : Ground). referent_of (reference_of h.heap (slice_index_or h.heap.slots from None))) view
+      ∙ read n refl
 
   -- a field of the object that a slot holds is written
   changed_sound : (value : Option ℕ) (i from : ℕ)
@@ -172,10 +238,13 @@ module _ {s : Stored} (sound : IsSoundObjects s) where
 
   -- an object is made, which refers to what a slot holds if it is a reference
   pub new_sound : (place k : ℕ) (r : Option NewReference) → s.next < 2 ^ 32
+      → left_of (with_tabled s.table place
+      (made_entry s.table.round.number s.next k (option_map (made_of s.table.slots) r) s.condemning))
+      ≡ left_of s.table
       → AllUpTo s.table.last (numbers (objects_of s.table.tabled)) → 1 ≤ s.table.round.number
       → IsSoundObjects (with_made_at s place k (option_map (made_of s.table.slots) r))
-  new_sound place k r below given begun =
-      made_sound sound place k (option_map (made_of s.table.slots) r) below given begun refl (spared_new r)
+  new_sound place k r below left given begun =
+      made_sound sound place k (option_map (made_of s.table.slots) r) below left given begun refl (spared_new r)
     where
       spared_new : (r : Option NewReference)
           → IsSparedIfAny was (referent_of (option_map (made_of s.table.slots) r))

@@ -1,16 +1,20 @@
 -- What a contract sees of the fields of a heap's objects, and what holds of them.
-use Rattle.std.specs.Prelude.{◌≡◌, ℕ, ◌+◌, ◌*◌, ◌^◌, ◌<◌, ◌≤◌, Bool, true, List, [], ◌∷◌, ◌++◌, length, Option, Some}
-use Rattle.std.specs.Prelude.{not, slice_set}
-use Rattle.std.specs.Int.{from_bool}
+use Rattle.std.specs.Prelude.{◌≡◌, ℕ, ◌+◌, ◌*◌, ◌^◌, ◌<◌, ◌≤◌, Bool, true, false, [], ◌∷◌, ◌++◌, length, Option, Some}
+use Rattle.std.specs.Prelude.{slice_set}
 use Rattle.ref_base.specs.Graphs.{Object, Reference}
 use Rattle.ref_base.specs.Heaps.{Heap, nulls, with_changed, with_reference, with_stamp, cleared}
 use Rattle.ref_base.specs.Limits.{is_within_limits}
 use Rattle.ref_base.specs.declared.config.Config.{Config}
-use Rattle.ref_space.specs.Tables.{is_healed}
-use Rattle.ref_space.specs.Tables.{Table, Tabled, numbers_by, objects_of, holds_of, marked_of, tags_of}
+use Rattle.ref_space.specs.Pages.{has_chosen}
+use Rattle.ref_space.specs.Moves.{Ways}
+use Rattle.ref_space.specs.Tables.{Table, left_of, objects_of, holds_of, marked_of, tags_of, unhealed_of}
+use Rattle.ref_objects.specs.declared.stage.Stage.TheVariants.{Fresh, Tuned, Moved}
+use Rattle.ref_space.specs.declared.colour.Colour.TheVariants.{R}
 use Rattle.ref_objects.specs.Grounds.{Ground, NamesSpared, Space, occupied, with_new_tag, marks_with_new}
-use Rattle.ref_objects.specs.Grounds.{ground_with_heap}
+use Rattle.ref_objects.specs.Grounds.{ground_with_heap, is_tuned}
 use Rattle.ref_objects.specs.Grounds.{with_cleared_tag, with_link}
+use Rattle.ref_objects.specs.declared.stage.Stage.{Stage}
+use Rattle.ref_space.specs.declared.colour.Colour.{Colour}
 use Rattle.ref_space.specs.declared.cell.Change.{Change}
 use Rattle.ref_space.specs.declared.cell.Change.TheVariants.{Cut, Stamp, ClearedIn, ClearIn, Link}
 
@@ -23,9 +27,12 @@ pub record Stored : Type 0 where
   pub clock : ℕ
   pub next : ℕ
   pub condemning : Bool
+  pub last : Colour
+  pub stage : Stage
+  pub has_choice : Bool
 
-abbrev pub stored_fields : Config → ℕ → Table → ℕ → ℕ → ℕ → Bool → Stored
-stored_fields config heap_no table holds clock next condemning = record {
+abbrev pub stored_fields : Config → ℕ → Table → ℕ → ℕ → ℕ → Bool → Colour → Stage → Bool → Stored
+stored_fields config heap_no table holds clock next condemning last stage has_choice = record {
   config = config;
   heap_no = heap_no;
   table = table;
@@ -33,6 +40,9 @@ stored_fields config heap_no table holds clock next condemning = record {
   clock = clock;
   next = next;
   condemning = condemning;
+  last = last;
+  stage = stage;
+  has_choice = has_choice;
 }
 
 -- the heap that they are
@@ -46,18 +56,17 @@ heap_of s = record {
   clock = s.clock;
 }
 
--- the numbers of the objects that aren't healed, in order
-abbrev pub unhealed_of : ℕ → List Tabled → List ℕ
-unhealed_of round = numbers_by (λ k. from_bool (not (is_healed round k)))
-
 -- where they lie
-abbrev pub space_of : Table → Space
-space_of t = record {
-  pages = t.pages;
-  cells = t.occupants;
-  good = t.round.good;
-  unhealed = unhealed_of
-      t.round.number t.tabled;
+abbrev pub space_of : Stored → Space
+space_of s = record {
+  ways = s.table.ways;
+  cells = s.table.occupants;
+  good = s.table.round.good;
+  last = s.last;
+  stage = s.stage;
+  unhealed = unhealed_of s.table.round.number s.table.tabled;
+  still_to_move = left_of s.table;
+  has_choice = s.has_choice;
 }
 
 abbrev pub seen_ground : Stored → Ground
@@ -67,7 +76,7 @@ seen_ground s = record {
   marked = marked_of s.table.round.number s.table.tabled;
   tags = tags_of s.table.tabled;
   condemning = s.condemning;
-  space = space_of s.table;
+  space = space_of s;
 }
 
 -- The configuration is within its limits; there is a cell for each object that it allows, and a slot for each; holds
@@ -80,9 +89,24 @@ pub record IsSoundGround (s : Stored) : Type 0 where
   pub given : s.table.last < s.next
   pub bounded : s.next ≤ 2 ^ 32
 
--- the same, and what slots, holds and objects name is there, and isn't condemned
+-- What last changed the good colour tells whether what slots hold has it; a cycle makes one good that isn't that of
+-- moves; pages are chosen just while a choice isn't ended, and those who choose them give words from before the colour
+-- of the last cycle. A cycle condemns.
+pub record IsSoundMoves (ways : Ways) (good last : Colour) (stage : Stage) (has_choice condemning : Bool) : Type 0 where
+  pub choice : has_choice ≡ has_chosen ways.pages.uses
+  pub settled : ways.tuned ≡ is_tuned stage
+  pub fresh : stage ≡ Fresh → has_choice ≡ false
+  pub coloured : stage ≡ Tuned → (good ≡ last) × (good ≡ R → ⊥)
+  pub moved : stage ≡ Moved → (has_choice ≡ true) × (ways.last ≡ last)
+  pub condemns : condemning ≡ true → stage ≡ Tuned
+
+abbrev pub AreSoundMoves : Stored → Type 0
+AreSoundMoves s = IsSoundMoves s.table.ways s.table.round.good s.last s.stage s.has_choice s.condemning
+
+-- the same, moves are sound, and what slots, holds and objects name is there, and isn't condemned
 pub record IsSoundObjects (s : Stored) : Type 0 where
   pub ground : IsSoundGround s
+  pub moves : AreSoundMoves s
   pub closed : NamesSpared (seen_ground s)
 
 -- an object of so many null fields is made, and the slot at this place holds it

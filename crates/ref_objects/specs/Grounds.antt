@@ -2,7 +2,8 @@
 -- `java.lang.ref` of Java SE 17 for what making a reference does; numbers, slots, holds and cells: this project's
 -- profile). The functions of a heap are those of the model of the whole collector.
 use Rattle.std.specs.Prelude.{◌≡◌, ℕ, ◌+◌, ◌*◌, ◌/◌, ◌^◌, ◌≤◌, Bool, true, false, ◌==◌, ◌&&◌, not, if◌then◌else◌}
-use Rattle.std.specs.Prelude.{nat_le, List, [], ◌∷◌, ◌++◌, length, map, replicate, Option, Some, None, Result, Ok, Err}
+use Rattle.std.specs.Prelude.{nat_le, nat_lt, List, [], ◌∷◌, ◌++◌, length, map, replicate, Option, Some, None, Result}
+use Rattle.std.specs.Prelude.{Ok, Err}
 use Rattle.ref_base.specs.Members.{has, without_first}
 use Rattle.ref_base.specs.Graphs.{Object, Reference, is_there, numbers, object_at}
 use Rattle.ref_base.specs.Forgetting.{heap_but}
@@ -16,28 +17,49 @@ use Rattle.ref_base.specs.Paths.{if_any, present}
 use Rattle.ref_base.specs.Refusals.{unless, has_slot, holds_refusal, held_refusal, hold_refusal as returned_refusal}
 use Rattle.ref_base.specs.declared.config.Config.{Config}
 use Rattle.ref_base.specs.declared.fault.Fault.{Fault}
-use Rattle.ref_base.specs.declared.fault.Fault.TheVariants.{BadConfig, NoSuchObject, NoMemory, NoSuchActor}
+use Rattle.ref_base.specs.declared.fault.Fault.TheVariants.{BadConfig, NoSuchObject, NoMemory, NoSuchActor, NoRoom}
+use Rattle.ref_base.specs.declared.fault.Fault.TheVariants.{AddressesSpent}
 use Rattle.ref_base.specs.declared.heap_step.HoldName.{HoldName}
+use Rattle.ref_space.specs.ColouredWords.{cycle_colour}
 use Rattle.ref_space.specs.Naming.{IsWordHeld}
 use Rattle.std.specs.Prelude.{slice_index_or}
-use Rattle.ref_space.specs.Pages.{Pages, new_pages, with_placed}
+use Rattle.std.specs.Prelude.{slice_set}
+use Rattle.ref_space.specs.Pages.{next_cell, sparse_count, choosing, left_in}
+use Rattle.ref_space.specs.Moves.{Ways, first_ways, forward_of, tuned, ways_chosen, ways_left, ways_renumbered}
 use Rattle.ref_space.specs.Tables.{Tag, fields_in, scanned_values, with_occupant, without_occupant, with_vacated}
+use Rattle.ref_space.specs.Tables.{numbers_at, place_of_number, ways_placed, without_number}
 use Rattle.ref_space.specs.Worklists.{Worklist}
 use Rattle.ref_objects.specs.declared.start.Start.{Start}
 use Rattle.ref_objects.specs.declared.kind.Kind.{Kind}
 use Rattle.ref_objects.specs.declared.kind.Kind.TheVariants as kind
+use Rattle.ref_objects.specs.declared.stage.Stage.{Stage}
+use Rattle.ref_objects.specs.declared.stage.Stage.TheVariants.{Fresh, Tuned, Moved}
 use Rattle.ref_space.specs.declared.colour.Colour.{Colour}
 use Rattle.ref_space.specs.declared.colour.Colour.TheVariants.{R}
 use Rattle.ref_space.specs.declared.linked.Linked.{Linked}
 use Rattle.ref_space.specs.declared.linked.Look.{Look}
 
--- Where the objects lie, and how words name them: the pages; of each cell the number of its object, 64 cells to the
--- frame of a page, from frame 0 on; the good colour; and, in order, the objects that may hold a word of another colour
+-- Where the objects lie, and how words name them: how words lead to places, by pages and by where what lay there moved;
+-- of each cell the number of its object, 64 cells to the frame of a page, from frame 0 on; the good colour, that of the
+-- last cycle that began (at first, of the count of cycles so far), and what last made a colour good; in order, the
+-- objects that the cycle hasn't healed since its begin: where that was the last to make a colour good, just these may
+-- hold a word of another. Then, in the order in which they are to move, the objects that were chosen to and haven't; and
+-- whether some were chosen since a cycle last ended.
 pub record Space : Type 0 where
-  pub pages : Pages
+  pub ways : Ways
   pub cells : List (Option ℕ)
   pub good : Colour
+  pub last : Colour
+  pub stage : Stage
   pub unhealed : List ℕ
+  pub still_to_move : List ℕ
+  pub has_choice : Bool
+
+-- whether what slots hold has the good colour
+abbrev pub is_tuned : Stage → Bool
+is_tuned Fresh = true
+is_tuned Tuned = true
+is_tuned Moved = false
 
 -- a heap, the number of its next object, the numbers of the objects that are marked, and the tag of each object, both
 -- in order; whether the objects that aren't marked are condemned; and where the objects lie
@@ -51,45 +73,128 @@ pub record Ground : Type 0 where
 
 -- ---- where objects lie
 
--- no object lies there yet
-abbrev pub first_space : ℕ → ℕ → Space
-first_space cells page = record {
-  pages = new_pages page ((cells + 63) / 64);
-  cells = replicate (64 * ((cells + 63) / 64)) None;
-  good = R;
-  unhealed = [];
-}
+-- pages of 64 cells, twice as many as the cells fill
+abbrev pub page_count : ℕ → ℕ
+page_count cells = 2 * ((cells + 63) / 64)
 
--- the numbers without n
-abbrev pub without_number : List ℕ → ℕ → List ℕ
-without_number [] n = []
-without_number (m ∷ ms) n = if m == n then without_number ms n else m ∷ without_number ms n
+-- no object lies there yet, where there are so many cells, and pages and cycles are numbered from these on: twice as
+-- many pages as the cells fill, so that there is room for what moves
+abbrev pub first_space : ℕ → Start → Space
+first_space cells start = record {
+  ways = first_ways start.page (page_count cells);
+  cells = replicate (64 * page_count cells) None;
+  good = R;
+  last = cycle_colour start.cycle;
+  stage = Fresh;
+  unhealed = [];
+  still_to_move = [];
+  has_choice = false;
+}
 
 -- a new object lies in the first free cell, and is healed
 abbrev pub occupied : Space → ℕ → Space
-occupied s n = record s { pages = with_placed s.pages; cells = with_occupant s.cells n }
+occupied s n =
+    record s { ways = ways_placed s.ways; cells = with_occupant s.cells (next_cell s.ways.pages.uses) n }
 
 -- the cell of one that goes is free
 abbrev pub vacated : Space → ℕ → Space
 vacated s n = record s {
-  pages = with_vacated s.pages s.cells n;
+  ways = with_vacated s.ways s.cells n;
   cells = without_occupant s.cells n;
   unhealed = without_number s.unhealed n;
 }
 
--- another colour is good, and the words of all these objects may have the colour that was
+-- a cycle makes another colour good, and the words of all these objects may have the colour that was
 abbrev pub coloured_anew : Space → Colour → List ℕ → Space
-coloured_anew s good all = record s { good = good; unhealed = all }
+coloured_anew s good all =
+    record s { ways = tuned s.ways; good = good; last = good; stage = Tuned; unhealed = all }
 
 -- each word of an object has the good colour
 abbrev pub healed : Space → ℕ → Space
 healed s n = record s { unhealed = without_number s.unhealed n }
 
--- ---- a new heap
+-- ---- moves
 
--- pages of 64 cells, twice as many as the cells fill
-abbrev pub page_count : ℕ → ℕ
-page_count cells = 2 * ((cells + 63) / 64)
+-- how words lead to places, and of each cell the number of its object
+pub record Lay : Type 0 where
+  pub ways : Ways
+  pub cells : List (Option ℕ)
+
+abbrev pub laid : Space → Lay → Space
+laid s lay = record s { ways = lay.ways; cells = lay.cells }
+
+-- whether a cycle began: before that nothing has died, so that at most one page has neither no object nor 64
+abbrev pub has_begun : Stage → Bool
+has_begun Fresh = false
+has_begun Tuned = true
+has_begun Moved = true
+
+-- whether a choice of objects wins room: at least two pages have from 1 to 32 objects
+unfoldable pub wins_room : Space → Bool
+wins_room s = has_begun s.stage && not (nat_lt (sparse_count s.ways.pages.uses) 2)
+
+-- whether as many addresses of pages are left as it empties pages
+unfoldable pub has_addresses : Space → Bool
+has_addresses s = not (nat_lt (2 ^ 32) (s.ways.pages.next + sparse_count s.ways.pages.uses))
+
+-- the objects that it chooses, which are those of these pages, in order of address and of cell
+unfoldable pub chosen_objects : Space → List ℕ
+chosen_objects s = numbers_at s.cells (left_in (choosing s.ways.pages.uses))
+
+-- the lay once these pages are chosen: nothing is placed in them, and each of these objects has a free cell to move to
+unfoldable pub lay_chosen : Space → Lay
+lay_chosen s = record { ways = ways_chosen s.ways s.good; cells = s.cells }
+
+-- the lay once object n has moved: it lies in a page that wasn't chosen
+abbrev pub place_in : Space → ℕ → ℕ
+place_in s n = place_of_number s.cells n
+
+unfoldable pub lay_moved : Space → ℕ → Lay
+lay_moved s n = record {
+  ways = ways_left s.ways (place_in s n);
+  cells = slice_set
+      (slice_set s.cells (forward_of s.ways.forwards (place_in s n)) (slice_index_or s.cells (place_in s n) None))
+      (place_in s n) None;
+}
+
+-- the lay once the chosen pages are open again, empty and at addresses that no page ever had
+unfoldable pub lay_reopened : Space → Lay
+lay_reopened s = record { ways = ways_renumbered s.ways; cells = s.cells }
+
+-- a choice answers how many objects are to move, or why it chooses none
+abbrev pub choice_in : Space → Result ℕ Fault
+choice_in s =
+    if not (wins_room s) then Err NoRoom
+    else if not (has_addresses s) then Err AddressesSpent
+    else Ok (length (chosen_objects s))
+
+-- and leaves this: the colour of moves is good
+abbrev pub with_choice_if : Space → Result ℕ Fault → Space
+with_choice_if s (Ok count) = record (laid s (lay_chosen s)) {
+  good = R;
+  stage = Moved;
+  still_to_move = chosen_objects s;
+  has_choice = true;
+}
+with_choice_if s (Err fault) = s
+
+abbrev pub with_choice : Space → Space
+with_choice s = with_choice_if s (choice_in s)
+
+-- an object has moved
+abbrev pub moved_one : Space → ℕ → Space
+moved_one s n = record (laid s (lay_moved s n)) { still_to_move = without_number s.still_to_move n }
+
+-- an object that is still to move does so before it is handed out
+abbrev pub brought : Space → Option ℕ → Space
+brought s None = s
+brought s (Some n) = if has s.still_to_move n then moved_one s n else s
+
+-- a choice ends with its cycle: where objects lay before isn't told any more
+abbrev pub with_choice_ended : Space → Space
+with_choice_ended s = record (laid s (lay_reopened s)) { has_choice = false }
+
+-- ---- a new heap
 
 -- numbers begin at 1, and the addresses of the first pages are below 2^32
 abbrev pub may_start : Config → Start → Bool
@@ -108,7 +213,7 @@ first_ground config number start = record {
   marked = [];
   tags = [];
   condemning = false;
-  space = first_space config.cells start.page;
+  space = first_space config.cells start;
 }
 
 -- this is made, unless it is refused with just this fault, or memory isn't there
@@ -193,11 +298,16 @@ abbrev pub kind_in : Option Object → Option Kind
 kind_in None = None
 kind_in (Some o) = Some (kind_by o.reference)
 
--- these are the bits of what field i of object n holds: of an object, a word of the cell in which that lies, which has
--- the good colour unless object n is unhealed
+-- whether it is said that each word which object n holds has the good colour: a cycle was the last to make a colour
+-- good, and has healed the object, or the object was made since
+abbrev pub has_good_words : Space → ℕ → Bool
+has_good_words s n = is_tuned s.stage && not (has s.unhealed n)
+
+-- these are the bits of what field i of object n holds: of an object, a word of the cell in which that lies, or of that
+-- from which it moved since a cycle last ended; it has the good colour where that is said
 abbrev pub IsWordIn : Ground → ℕ → ℕ → ℕ → Type 0
 IsWordIn g n i =
-    IsWordHeld g.space.good g.space.pages.uses g.space.cells (not (has g.space.unhealed n))
+    IsWordHeld g.space.good g.space.ways g.space.cells (has_good_words g.space n)
     (slice_index_or (fields_in (object_at g.heap.objects n)) i None)
 
 -- the clock at which a reference was made or last got, or 0
@@ -358,6 +468,10 @@ marks_begun g good = record g {
   condemning = false;
   space = coloured_anew g.space good (numbers g.heap.objects);
 }
+
+-- what is handed out has moved first, where it was still to move
+abbrev pub ground_brought : Ground → Option ℕ → Ground
+ground_brought g value = record g { space = brought g.space value }
 
 -- each word of an object has the good colour
 abbrev pub ground_healed : Ground → ℕ → Ground

@@ -5,10 +5,12 @@
 mod hold;
 mod kind;
 mod objects;
+mod stage;
 mod start;
 
 pub use hold::Hold;
 pub use kind::Kind;
 pub use objects::Objects;
 pub use ref_space::{Colour, Entry, Fields, Linked, Look, Reference, Worklist};
+pub use stage::Stage;
 pub use start::Start;

@@ -12,7 +12,8 @@ ghost use Rattle.ref_base.specs.Refusals.{store_refusal, drop_refusal, copy_refu
 ghost use Rattle.ref_base.specs.Refusals.{load_refusal};
 ghost use Rattle.ref_base.specs.CollectorRows.{field_in};
 ghost use Rattle.ref_objects.specs.Grounds.{first_ground, starting_refusal, IsMade, IsRefused, if_done};
-ghost use Rattle.ref_objects.specs.Grounds.{ground_with_heap, with_new_object, is_spared, IsSparedIfAny};
+ghost use Rattle.ref_objects.specs.Grounds.{ground_with_heap, ground_brought, with_new_object, is_spared};
+ghost use Rattle.ref_objects.specs.Grounds.{IsSparedIfAny};
 ghost use Rattle.ref_objects.specs.GroundViews.{made_at};
 ghost use Rattle.ref_space.specs.Tables.{made_of};
 ghost use Rattle.std.specs.Option.{option_map, IfSome};
@@ -20,21 +21,24 @@ ghost use Rattle.std.specs.Option.{option_map, IfSome};
 mod holds;
 mod layer;
 mod marks;
+mod moves;
 mod readers;
 mod references;
 
+use crate::stage::Stage;
 use crate::start::Start;
 use ref_base::{Config, Fault, MOST_FIELDS, MutNo, ObjNo, QueueNo, SLOTS, SlotNo, Strength};
-use ref_space::{NewReference, Table};
+use ref_space::{Colour, NewReference, Table};
 use std::alloc::{Allocator, Global};
 use std::marker::Model;
 
 /// The objects of a heap: their fields and references, the slots of the mutators, and the holds that are out.
 ///
-/// All its memory is taken as it is made, and none by any other call: 11,280 bytes for each page of 64 cells, of which
-/// there are as many as the objects fill that there may be, and 128 for each mutator's slots. What a slot or a field
-/// holds is found by its word, in constant time. An object is found by its number in logarithmic time, and in constant
-/// time where none with a greater number was freed before the gaps were last closed: so is each that was made since.
+/// All its memory is taken as it is made, and none by any other call: 11,040 bytes for each page of 64 cells, of which
+/// there are twice as many as the objects fill that there may be, and 128 for each mutator's slots. What a slot or a
+/// field holds is found by its word, in constant time. An object is found by its number in logarithmic time, and in
+/// constant time where none with a greater number was freed before the gaps were last closed: so is each that was made
+/// since.
 #[derive(Drop)]
 pub struct Objects<A: Allocator = Global> {
     config: Config,
@@ -48,6 +52,11 @@ pub struct Objects<A: Allocator = Global> {
     next: u64,
     // Whether what isn't marked is condemned.
     condemning: bool,
+    // The colour of the last cycle that began, and what last made a colour good.
+    last: Colour,
+    stage: Stage,
+    // Whether objects were chosen to move since a cycle last ended.
+    has_choice: bool,
 }
 
 impl<A: Allocator> Model for Objects<A> {
@@ -57,10 +66,10 @@ impl<A: Allocator> Model for Objects<A> {
     ghost Value = { Ground };
 
     ghost view = { λ o. seen_ground
-        (stored_fields o.config o.heap_no o.table o.holds o.clock o.next o.condemning) };
+        (stored_fields o.config o.heap_no o.table o.holds o.clock o.next o.condemning o.last o.stage o.has_choice) };
 
     ghost invariant = { λ o. IsSoundObjects
-        (stored_fields o.config o.heap_no o.table o.holds o.clock o.next o.condemning) };
+        (stored_fields o.config o.heap_no o.table o.holds o.clock o.next o.condemning o.last o.stage o.has_choice) };
 }
 
 impl<A: Allocator + Copy> Objects<A> {
@@ -90,6 +99,9 @@ impl<A: Allocator + Copy> Objects<A> {
             clock: 0,
             next: u64::from(start.obj),
             condemning: false,
+            last: Colour::of_cycle(start.cycle),
+            stage: Stage::Fresh,
+            has_choice: false,
         })
     }
 
@@ -162,8 +174,9 @@ impl<A: Allocator + Copy> Objects<A> {
         Ok(())
     }
 
-    /// Loads a field of the object in slot `from` into slot `into`, and answers what it holds: an object or null. Tried
-    /// in this order: `NoSuchActor`, `EmptySlot` of `from`, `BadField`. In constant time.
+    /// Loads a field of the object in slot `from` into slot `into`, and answers what it holds: an object or null. One
+    /// that is still to move moves first. Tried in this order: `NoSuchActor`, `EmptySlot` of `from`, `BadField`. In
+    /// constant time.
     #[inline(always)]
     pub fn load(
         &mut self,
@@ -176,7 +189,9 @@ impl<A: Allocator + Copy> Objects<A> {
         ensures answer { IfOk result
             (λ value. value ≡ field_in self.old.heap (slot_at self.old.heap mutator from) field) }
         ensures after { self.new ≡ if_done result
-            (ground_with_heap self.old (with_slot self.old.heap mutator into
+            (ground_with_heap
+            (ground_brought self.old (field_in self.old.heap (slot_at self.old.heap mutator from) field))
+            (with_slot self.old.heap mutator into
             (field_in self.old.heap (slot_at self.old.heap mutator from) field))) self.old }
     {
         let place = self.place(mutator, into)?;

@@ -6,7 +6,6 @@ use Rattle.ref_share.proofs.Common.{takes_in, jobs_run, HasGone, CleanView, Clea
 use Rattle.ref_share.proofs.Common.{HeapEntry, PollsUntil, QueueView, QueueEntry, Releases, Made, Took}
 use Rattle.ref_share.proofs.Common.{IsQuiet, PollsBy}
 use Rattle.ref_share.specs.CleanLoops.{polls_in, releases_in, job_in, released, polls_in_vain, PollsFor}
-use Rattle.ref_share.specs.declared.answers.Polled.{Polled}
 use Rattle.ref_share.specs.declared.clean_loop.Polling.{Polling}
 use Rattle.ref_share.specs.declared.clean_loop.Polling.TheVariants.{Waits, Once}
 use Rattle.ref_share.proofs.Polls.{made_none, made_more, made_longer, made_after}

@@ -8,7 +8,7 @@ use Rattle.std.proofs.Common.{◌&&◌, drop}
 use Rattle.std.proofs.lemmas.Bool.{and_right, or_parts, or_right}
 use Rattle.ref_base.specs.CollectorRows.{list_at, AreFound, references_among}
 use Rattle.ref_base.specs.Graphs.{Object, Reference, numbers}
-use Rattle.ref_base.specs.declared.phase.Phase.TheVariants.{Marking, Clearing, Idle, Sweeping}
+use Rattle.ref_base.specs.declared.phase.Phase.TheVariants.{Marking, Clearing, Idle, Moving, Sweeping}
 use Rattle.ref_base.specs.DoomedSets.{any_is, refers_into}
 use Rattle.ref_base.specs.Strengths.{IsRising}
 use Rattle.ref_base.specs.Refusals.{is_in}
@@ -228,6 +228,10 @@ module _ (gone : List ℕ) (w : World) (a b : State) (is : Agreeing gone w a) (d
   look_keeps k (told.Skipped n) none row = grind (arith, looked_keeps k n (told.Skipped n))
   look_keeps k reply none row = grind arith
 
+  -- nothing changed
+  same_keeps : b ≡ a → Keeps
+  same_keeps same = (subst Waits (sym same) waits, λ n past. subst (λ (s : State). IsPast n s) (sym same) past)
+
   -- what waits stays as it should, and what is past stays so
   pub heap_keeps : (step : NamedStep) (reply : Reply) → heap_refusal a step ≡ None → HeapAccepts a step reply b
       → Keeps
@@ -241,6 +245,18 @@ module _ (gone : List ℕ) (w : World) (a b : State) (is : Agreeing gone w a) (d
       turn_keeps (heap.Plain plain.EndClear) reply told.Done Sweeping tt row row.0 refl refl
   heap_keeps (heap.Plain plain.EndSweep) reply none row =
       turn_keeps (heap.Plain plain.EndSweep) reply told.Done Idle tt row row.0 refl refl
+  heap_keeps (heap.Plain plain.Select) reply none row =
+      elim row [
+        | inl chosen ↦
+            turn_keeps (heap.Plain plain.Select) reply (told.Selected chosen.0) Moving tt (inl chosen)
+            chosen.1.0 refl refl
+        | inr refused ↦ same_keeps refused.1
+      ]
+  heap_keeps (heap.Plain plain.EndMove) reply none row =
+      elim row [
+        | inl ended ↦ turn_keeps (heap.Plain plain.EndMove) reply told.Done Idle tt (inl ended) ended.0 refl refl
+        | inr refused ↦ same_keeps refused.1
+      ]
   heap_keeps step reply none row = calm_keeps step reply tt row
 
   -- and what a worker clears waited, and is past then

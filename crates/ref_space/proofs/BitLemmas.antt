@@ -1,8 +1,8 @@
 -- A bitmap's list: the lowest bit that is set, how many aren't, one that is set or cleared.
 use Rattle.std.proofs.Common.{◌≡◌, ℕ, zero, suc, ◌+◌, ◌-◌, ◌*◌, ◌/◌, ◌%◌, ◌^◌, ◌<◌, Bool, true, false, not, ◌==◌}
 use Rattle.std.proofs.Common.{if◌then◌else◌, refl, sym, ap, subst, ◌∙◌, arith, length, get_or, set, Option, Some}
-use Rattle.std.proofs.Common.{inl, inr}
-use Rattle.std.proofs.lemmas.Bool.{cases_Bool, eqb-true, eqb-false, eq-eqb, not-true}
+use Rattle.std.proofs.Common.{inl, inr, List, [], ◌∷◌}
+use Rattle.std.proofs.lemmas.Bool.{cases_Bool, eqb-true, eqb-false, eq-eqb, not-true, true≢false}
 use Rattle.std.proofs.lemmas.List.{ext_get_or, length-set, get_or-set_same, get_or-set_other}
 use Rattle.std.proofs.lemmas.Nat.Bits.{bit_at-suc, bit_at_set_same, bit_at_set_other}
 use Rattle.std.proofs.lemmas.Nat.Bits.{bit_at_clear_same, bit_at_clear_other}
@@ -11,7 +11,7 @@ use Rattle.std.specs.Int.RustNames.{bit_or, count_ones}
 use Rattle.std.specs.Option.{option_map}
 use lib.Bits.{bit_and}
 use lib.Count.{count_trailing_zeros, under, ones, ones_step}
-use Rattle.ref_space.specs.Bits.{bits, bits_of, first_set, any_set, count_clear}
+use Rattle.ref_space.specs.Bits.{bits, bits_of, first_set, first_clear, any_set, count_clear}
 use Rattle.ref_space.specs.Pages.{all_free}
 
 length-bits : (k w : ℕ) → length (bits k w) ≡ k
@@ -122,3 +122,36 @@ bits_of-cleared w i within =
 pub some_bit : (w : ℕ) → w < 2 ^ 64 → any_set (bits_of w) ≡ true → 0 < w
 some_bit w small any =
     let differs = eqb-false w 0 (not-true (w == 0) (sym (any_set-bits_of w small) ∙ any)) in omega (arith, differs)
+
+-- the lowest that is clear
+first_clear-at : (bs : List Bool) (r : ℕ) → r < length bs → get_or bs r false ≡ false
+    → ((j : ℕ) → j < r → get_or bs j false ≡ true) → first_clear bs ≡ Some r
+first_clear-at [] r within clear below = absurd (omega arith)
+first_clear-at (true ∷ bs) zero within clear below = absurd (true≢false clear)
+first_clear-at (false ∷ bs) zero within clear below = refl
+first_clear-at (b ∷ bs) (suc r) within clear below =
+    let own : b ≡ true = below 0 (omega arith) in
+    simp own (ap (option_map suc) (first_clear-at bs r (omega arith) clear (λ j less. below (suc j) (omega arith))))
+
+pub first_clear-bits_of : (w r : ℕ) → (r < 64) × (bit_at w r ≡ 0) × ((i : ℕ) → i < r → bit_at w i ≡ 1)
+    → first_clear (bits_of w) ≡ Some r
+unfolding bits_of
+first_clear-bits_of w r told =
+    first_clear-at (bits_of w) r (let size = length-bits 64 w in omega (arith, size, told.0))
+    (get_or-bits_of w r told.0 ∙ ap (λ n. n == 1) told.1)
+    (λ j below. get_or-bits_of w j (let within = told.0 in omega (arith, below, within))
+    ∙ ap (λ n. n == 1) (told.2 j below))
+
+none_of_all : count_clear all_free ≡ 0
+unfolding all_free
+none_of_all = refl
+
+pub some_clear : (w : ℕ) → w < 2 ^ 64 → 0 < count_clear (bits_of w) → w + 1 < 2 ^ 64
+some_clear w small some =
+    elim (cases_Bool (w == 2 ^ 64 - 1)) [
+      | inl all ↦
+          let none : count_clear (bits_of w) ≡ 0 =
+          ap (λ n. count_clear (bits_of n)) (eqb-true w (2 ^ 64 - 1) all) ∙ ap count_clear bits_of-all ∙ none_of_all in
+          absurd (omega (arith, some, none))
+      | inr differs ↦ let apart = eqb-false w (2 ^ 64 - 1) differs in omega (arith, small, apart)
+    ]

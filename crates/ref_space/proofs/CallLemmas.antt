@@ -10,24 +10,19 @@ use Rattle.ref_space.specs.Pages.{times_framed, Pages, place_of, with_given, wit
 use Rattle.ref_space.specs.Pages.{no_use, in_frame}
 use Rattle.ref_space.specs.Pages.{chosen_frames, choosing, chosen_if_sparse, sparse_count, is_sparse, has_open_cell}
 use Rattle.ref_space.specs.Pages.{opened, empty_pages, renumbered_uses, AreWhole, all_free}
-use Rattle.ref_space.specs.PageViews.{ArePages, AreMapped}
+use Rattle.ref_space.specs.PageViews.{ArePages, AreMapped, NoneTaken}
 use Rattle.ref_space.proofs.PageLemmas.{whole_with, with_cell-set, none_in_front, fresh_whole, length-fresh}
 use Rattle.ref_space.proofs.PageLemmas.{placed_after}
 use Rattle.ref_space.proofs.NextPlaces.{frame-with, length-with}
 use Rattle.ref_space.proofs.FrameLemmas.{times-with, fresh_framed, times-renumbered}
 use Rattle.ref_space.proofs.RoomLemmas.{whole_opened}
-use Rattle.ref_space.proofs.MoveLemmas.{chosen-append, chosen-fresh, chosen-opened, opened_chosen, length-emptied}
+use Rattle.ref_space.proofs.MoveLemmas.{chosen-with, chosen-append, chosen-fresh, chosen-opened, opened_chosen}
+use Rattle.ref_space.proofs.MoveLemmas.{length-emptied}
 use Rattle.std.proofs.Common.{Option}
 use Rattle.ref_space.specs.Pages.{after_placing}
 use Rattle.std.proofs.Common.{None, Some}
 
 -- ---- a cell is taken or given back
-
-chosen-with : (ps : List Use) (page cell : ℕ) (is_free : Bool)
-    → chosen_frames (with_cell ps page cell is_free) ≡ chosen_frames ps
-chosen-with [] page cell is_free = refl
-chosen-with (p ∷ ps) zero cell is_free = refl
-chosen-with (p ∷ ps) (suc page) cell is_free = grind (arith, chosen-with ps page cell is_free)
 
 pub between-with : (ps : List Use) (page cell : ℕ) (is_free : Bool) (least end : ℕ) → AreBetween least ps end
     → AreBetween least (with_cell ps page cell is_free) end
@@ -42,11 +37,12 @@ between-placed ps None least end between = between
 between-placed ps (Some at) least end between = between-with ps at.0 at.1 false least end between
 
 -- in no page in front of the one that a search begins at
-pub are_pages-with : {ps : List Use} {places chosen : List ℕ} {next before room spare : ℕ}
-    → ArePages ps places chosen next before room spare → (first page cell : ℕ) (is_free : Bool) (p q : Use)
+pub are_pages-with : {ps : List Use} {places chosen : List ℕ} {next before left room spare : ℕ}
+    → ArePages ps places chosen next before left room spare → (first page cell : ℕ) (is_free : Bool) (p q : Use)
     → first ≤ length ps → NoneHasRoom (take first ps) → first ≤ page → p ≡ get_or ps page p
-    → q ≡ with_free cell is_free p → ArePages (set ps page q) places chosen next first room spare
-are_pages-with {ps} {places} pages first page cell is_free p q within full order is with_q =
+    → q ≡ with_free cell is_free p → NoneTaken (with_cell ps page cell is_free) chosen left
+    → ArePages (set ps page q) places chosen next first left room spare
+are_pages-with {ps} {places} pages first page cell is_free p q within full order is with_q emptied =
     let new : set ps page q ≡ with_cell ps page cell is_free = grind (arith, with_cell-set) in
     let size = length-set ps page q in
     record {
@@ -61,6 +57,8 @@ are_pages-with {ps} {places} pages first page cell is_free p q within full order
           rw new (ap (λ f. get_or places f 0) (frame-with ps page cell is_free other)
           ∙ pages.mapped other (omega (arith, size, below)));
       listed = pages.listed ∙ sym (ap chosen_frames new ∙ chosen-with ps page cell is_free);
+      left_within = pages.left_within;
+      emptied = rw new emptied;
       rising = rw new (between-with ps page cell is_free 0 _ pages.rising);
       addresses = rw new (rw (chosen-with ps page cell is_free) pages.addresses);
       pages_fit = rw size pages.pages_fit;
@@ -106,7 +104,7 @@ between-fresh least first frame (suc count) order =
 pub are_pages-fresh : (first count : ℕ) {ps : List Use} {places chosen : List ℕ} {room spare : ℕ}
     → first + count ≤ 2 ^ 32 → ps ≡ fresh_pages first 0 count → length places ≡ length ps
     → AreMapped (length ps) ps places → chosen ≡ [] → room ≡ count → count ≤ spare
-    → ArePages ps places chosen (first + count) 0 room spare
+    → ArePages ps places chosen (first + count) 0 0 room spare
 are_pages-fresh first count {ps} {places} {chosen} small are sized mapped none fits chosen_fit =
     let size : length ps ≡ count = ap length are ∙ length-fresh first 0 count in
     let nowhere : chosen_frames ps ≡ [] = ap chosen_frames are ∙ chosen-fresh first 0 count in
@@ -118,6 +116,8 @@ are_pages-fresh first count {ps} {places} {chosen} small are sized mapped none f
       sized = sized;
       mapped = mapped;
       listed = none ∙ sym nowhere;
+      left_within = omega arith;
+      emptied = λ at below. absurd (omega (arith, below));
       rising = subst (λ qs. AreBetween 0 qs (first + count)) (sym are) (between-fresh 0 first 0 count (omega arith));
       addresses = let none_left = ap length nowhere in omega (arith, none_left, small);
       pages_fit = omega (arith, size, fits);
@@ -167,11 +167,15 @@ between-emptied first (f ∷ fs) =
     let same : suc first + length fs ≡ first + length (f ∷ fs) = omega arith in
     (omega arith, subst (AreBetween (suc first) (empty_pages (suc first) fs)) same (between-emptied (suc first) fs))
 
+pub between-renumbered_from : (least next : ℕ) (ps : List Use) → AreBetween least ps next
+    → AreBetween least (renumbered_uses next ps) (next + length (chosen_frames ps))
+between-renumbered_from least next ps between =
+    between-append least next (next + length (chosen_frames ps)) (opened ps) (empty_pages next (chosen_frames ps))
+    (between-opened least next ps between) (between-emptied next (chosen_frames ps))
+
 pub between-renumbered : (next : ℕ) (ps : List Use) → AreBetween 0 ps next
     → AreBetween 0 (renumbered_uses next ps) (next + length (chosen_frames ps))
-between-renumbered next ps between =
-    between-append 0 next (next + length (chosen_frames ps)) (opened ps) (empty_pages next (chosen_frames ps))
-    (between-opened 0 next ps between) (between-emptied next (chosen_frames ps))
+between-renumbered = between-renumbered_from 0
 
 -- there are no more pages than addresses
 pub few_pages : (ps : List Use) (next : ℕ) → AreBetween 0 ps next → length ps ≤ next
@@ -192,11 +196,19 @@ times-choosing : (ps : List Use) (frame : ℕ) → times_framed (choosing ps) fr
 times-choosing [] frame = refl
 times-choosing (p ∷ ps) frame = grind (arith, times-choosing ps frame)
 
+pub framed-choosing : (ps : List Use) → AreFramed ps → AreFramed (choosing ps)
+framed-choosing ps framed frame =
+    times-choosing ps frame ∙ framed frame
+    ∙ ap (λ n. if nat_lt frame n then 1 else 0) (sym (length-map ps chosen_if_sparse))
+
 pub whole-choosing : (ps : List Use) → AreWhole ps → AreWhole (choosing ps)
 whole-choosing [] whole = tt
 whole-choosing (p ∷ ps) whole = grind (arith, whole-choosing ps whole.1)
 
-between-choosing : (least end : ℕ) (ps : List Use) → AreBetween least ps end → AreBetween least (choosing ps) end
+pub length-choosing : (ps : List Use) → length (choosing ps) ≡ length ps
+length-choosing ps = length-map ps chosen_if_sparse
+
+pub between-choosing : (least end : ℕ) (ps : List Use) → AreBetween least ps end → AreBetween least (choosing ps) end
 between-choosing least end [] between = between
 between-choosing least end (p ∷ ps) between = grind (arith, between-choosing (suc p.address) end ps between.1)
 
@@ -213,10 +225,10 @@ full-choosing zero ps none = tt
 full-choosing (suc k) [] none = none
 full-choosing (suc k) (p ∷ ps) none = (room-chosen p none.0, full-choosing k ps none.1)
 
-pub are_pages-chosen : {ps qs : List Use} {places chosen chosen_now : List ℕ} {next first room spare capacity : ℕ}
-    → ArePages ps places chosen next first room spare → chosen_frames ps ≡ [] → next + sparse_count ps ≤ 2 ^ 32
+pub are_pages-chosen : {ps qs : List Use} {places chosen chosen_now : List ℕ} {next first left room spare capacity : ℕ}
+    → ArePages ps places chosen next first left room spare → chosen_frames ps ≡ [] → next + sparse_count ps ≤ 2 ^ 32
     → qs ≡ choosing ps → chosen_now ≡ chosen_frames (choosing ps) → capacity ≡ spare
-    → ArePages qs places chosen_now next first room capacity
+    → ArePages qs places chosen_now next first 0 room capacity
 are_pages-chosen {ps} {qs} {places} pages none enough are listed same =
     let size : length qs ≡ length ps = ap length are ∙ length-map ps chosen_if_sparse in
     record {
@@ -230,6 +242,8 @@ are_pages-chosen {ps} {qs} {places} pages none enough are listed same =
           rw are (ap (λ f. get_or places f 0) (frame-choosing ps page)
           ∙ pages.mapped page (omega (arith, size, below)));
       listed = listed ∙ ap chosen_frames (sym are);
+      left_within = omega arith;
+      emptied = λ at below. absurd (omega (arith, below));
       rising = rw are (between-choosing 0 _ ps pages.rising);
       addresses = let counted = ap (λ us. length (chosen_frames us)) are ∙ count_chosen ps none in
           omega (arith, counted, enough);
@@ -247,6 +261,11 @@ whole-emptied : (first : ℕ) (fs : List ℕ) → AreWhole (empty_pages first fs
 unfolding all_free
 whole-emptied first [] = tt
 whole-emptied first (f ∷ fs) = (refl, whole-emptied (suc first) fs)
+
+pub whole-renumbered : (next : ℕ) (ps : List Use) → AreWhole ps → AreWhole (renumbered_uses next ps)
+whole-renumbered next ps whole =
+    whole-append (opened ps) (empty_pages next (chosen_frames ps)) (whole_opened ps whole)
+    (whole-emptied next (chosen_frames ps))
 
 chosen-emptied : (first : ℕ) (fs : List ℕ) → chosen_frames (empty_pages first fs) ≡ []
 chosen-emptied first [] = refl
@@ -269,23 +288,24 @@ framed-renumbered next ps framed frame =
     ∙ ap (λ n. if nat_lt frame n then 1 else 0) (sym (length-renumbered next ps))
 
 pub are_pages-renumbered : {ps qs : List Use} {places places_now chosen chosen_now : List ℕ}
-    {next end first room spare capacity capacity_now : ℕ}
-    → ArePages ps places chosen next first room spare → qs ≡ renumbered_uses next ps
+    {next end first left room spare capacity capacity_now : ℕ}
+    → ArePages ps places chosen next first left room spare → qs ≡ renumbered_uses next ps
     → end ≡ next + length (chosen_frames ps) → length places_now ≡ length qs → AreMapped (length qs) qs places_now
     → chosen_now ≡ [] → capacity ≡ room → capacity_now ≡ spare
-    → ArePages qs places_now chosen_now end 0 capacity capacity_now
+    → ArePages qs places_now chosen_now end 0 0 capacity capacity_now
 are_pages-renumbered {ps} {qs} {next = next} pages are ends sized mapped none same same_now =
     let size : length qs ≡ length ps = ap length are ∙ length-renumbered next ps in
     let open_all : chosen_frames qs ≡ [] = ap chosen_frames are ∙ chosen-renumbered next ps in
     record {
-      whole = subst AreWhole (sym are) (whole-append (opened ps) (empty_pages next (chosen_frames ps))
-          (whole_opened ps pages.whole) (whole-emptied next (chosen_frames ps)));
+      whole = subst AreWhole (sym are) (whole-renumbered next ps pages.whole);
       within = omega arith;
       full = tt;
       framed = subst AreFramed (sym are) (framed-renumbered next ps pages.framed);
       sized = sized;
       mapped = mapped;
       listed = none ∙ sym open_all;
+      left_within = omega arith;
+      emptied = λ at below. absurd (omega (arith, below));
       rising = rw (are, ends) (between-renumbered next ps pages.rising);
       addresses = let left = ap length open_all in omega (arith, left, ends, pages.addresses);
       pages_fit = omega (arith, size, same, pages.pages_fit);

@@ -6,7 +6,6 @@ use Rattle.ref_space.proofs.Common.{tabled_linked, table_look, table_looked_at, 
 use Rattle.ref_space.proofs.Common.{tabled_at, tabled_by, place_in, place_if_live, seen_table, changed, Entry}
 use Rattle.ref_space.proofs.Common.{changed_tabled, marked_of, is_unmarked_in, table_freed, from_bool, ◌+◌, ◌^◌, ◌≤◌}
 use Rattle.ref_space.proofs.Common.{◌-◌, ◌/◌, ◌%◌}
-use Rattle.ref_space.proofs.FreeLemmas.{own_place}
 use Rattle.ref_space.specs.Tables.{is_unmarked_at, look_by, more_held_if}
 use Rattle.ref_space.specs.declared.linked.Linked.{Linked}
 use Rattle.ref_space.specs.declared.linked.Look.{Look}
@@ -17,7 +16,7 @@ use Rattle.ref_space.proofs.ChangeLemmas.{page_there, length-freed, length-chang
 use Rattle.ref_space.proofs.ChangeLemmas.{tabled_by-freed, naming_changed, changed_tabled-none}
 use Rattle.ref_space.proofs.ChangeLemmas.{missing_at as none_there}
 use Rattle.ref_space.proofs.NamingLemmas.{Keeps, good_anywhere, each_anyhow}
-use Rattle.ref_space.proofs.WordLemmas.{IsGood, good_leads, word_is_good}
+use Rattle.ref_space.proofs.WordLemmas.{IsGood, word_is_good}
 use Rattle.ref_space.specs.ColouredWords.{IsCell}
 use Rattle.ref_space.proofs.TableLemmas.{has_word, word_place}
 use Rattle.ref_space.specs.Naming.{IsHealed, IsWordHeld}
@@ -31,9 +30,9 @@ use Rattle.ref_space.specs.Tables.{without_object}
 use Rattle.ref_space.proofs.Common.{IsUnnamed}
 use Rattle.ref_space.proofs.ChangeLemmas.{seen_freed, naming_freed}
 use Rattle.ref_space.proofs.ChangeLemmas.{found_where_there, number_there, there}
-use Rattle.ref_space.proofs.Common.{at_place, Reference}
+use Rattle.ref_space.proofs.Common.{Reference}
 use Rattle.ref_space.proofs.Common.{tabled_fields}
-use Rattle.ref_space.proofs.Common.{field_held, tabled_held, slotted, if◌then◌else◌, cases_Bool, inl, inr}
+use Rattle.ref_space.proofs.Common.{field_held, if◌then◌else◌, cases_Bool, inl, inr}
 use Rattle.std.proofs.Math.ListN.{get_or-map}
 use Rattle.ref_space.proofs.Common.{cell_of_word, changed_if, changed_of, target_of, occupant_in, place_by}
 use Rattle.ref_space.proofs.Common.{place_of_word}
@@ -60,10 +59,41 @@ use Rattle.ref_space.specs.Pages.{with_given}
 use Rattle.ref_space.proofs.FreeLemmas.{length-free}
 use Rattle.ref_space.proofs.Common.{false≢true}
 use Rattle.ref_space.proofs.CallLemmas.{between_at}
-use Rattle.ref_space.proofs.Common.{suc, zero}
-use Rattle.ref_space.proofs.FreeLemmas.{length-free, own_place}
+use Rattle.ref_space.proofs.FreeLemmas.{length-free}
 use Rattle.ref_space.specs.Naming.{HasTarget}
 use Rattle.ref_space.proofs.Common.{occupant_at}
+use Rattle.ref_space.specs.Moves.{Ways}
+use Rattle.ref_space.proofs.FrameLemmas.{framed_there}
+use Rattle.ref_space.proofs.ChangeLemmas.{given_pages, given_packed, given_size}
+use Rattle.ref_space.specs.Pages.{Pages, opened, place_of}
+use Rattle.std.proofs.Common.{if◌then◌else◌}
+use Rattle.ref_space.proofs.NamingLemmas.{good_word}
+use Rattle.ref_space.specs.Pages.{is_chosen_place, page_at, use_of}
+use Rattle.ref_space.specs.Places.{moved_place}
+use Rattle.ref_space.specs.ColouredWords.{has_colour}
+use Rattle.ref_space.specs.Naming.{leads_from}
+use Rattle.ref_space.proofs.FreeLemmas.{settled-none}
+use Rattle.ref_space.proofs.PlaceUses.{chosen_within}
+use Rattle.ref_space.proofs.WayLemmas.{old_place}
+use Rattle.ref_space.proofs.HealLemmas.{some_within, from_led}
+use Rattle.ref_space.proofs.PlaceLemmas.{taken-way}
+use Rattle.ref_space.specs.Naming.{IsSettled, healed_word, word_there}
+use Rattle.ref_space.specs.declared.colour.Colour.{Colour}
+use Rattle.ref_space.proofs.ChangeLemmas.{seen_changed_at}
+use Rattle.ref_space.specs.Naming.{with_words, IsHeldIn}
+use Rattle.ref_space.proofs.HealLemmas.{healed_by}
+use Rattle.ref_space.proofs.EachLemmas.{items_mapped}
+use Rattle.std.proofs.Common.{Vec}
+use Rattle.std.specs.Prelude.{Vec}
+use Rattle.std.specs.Vec.{with_items}
+use Rattle.ref_space.proofs.NamingLemmas.{unmoved_word}
+use Rattle.ref_space.specs.Naming.{way_of}
+use Rattle.ref_space.proofs.WayLemmas.{there_way}
+use Rattle.ref_space.specs.Naming.{taken_way}
+use Rattle.ref_space.proofs.WayLemmas.{taken_some}
+use Rattle.ref_space.proofs.WayLemmas.{taken_none}
+use Rattle.ref_space.specs.Pages.{has_chosen}
+use Rattle.ref_space.proofs.MoveLemmas.{some_chosen}
 
 -- ---- what is written of an object
 
@@ -76,8 +106,8 @@ change_leaves change k = grind arith
 -- ---- the count of the marked
 
 -- one more can be counted
-pub marks_fit : {round : Round} {cells : List (Option Tabled)} {es : List Entry} {pages : Pages}
-    {last room count index_room marked : ℕ} → IsSoundTable round cells es pages last room count index_room marked
+pub marks_fit : {round : Round} {cells : List (Option Tabled)} {es : List Entry} {ways : Ways}
+    {last room count index_room marked : ℕ} → IsSoundTable round cells es ways last room count index_room marked
     → (b : Bool) {more : ℕ} → more ≡ from_bool b → marked + more < 2 ^ 64
 marks_fit {round} {cells} {es} sound b one =
     omega (
@@ -176,16 +206,6 @@ pub fields-named : (name : Option ℕ → Option ℕ) (c : Option Tabled)
 fields-named name None = refl
 fields-named name (Some k) = refl
 
--- a field that is there was loaded into a slot
-pub field_loaded : {s : Table} (t : Table) (into from i : ℕ) {value : Option ℕ}
-    → Some value ≡ field_in_cell (tabled_held t from) i → s ≡ slotted t into value
-    → s ≡ (if has_field (tabled_held t from) i then slotted t into (field_held (tabled_held t from) i) else t)
-field_loaded t into from i {value} is was =
-    elim (cases_Bool (has_field (tabled_held t from) i)) [
-      | inl there ↦ grind arith
-      | inr past ↦ grind arith
-    ]
-
 -- ---- what a change of an object is by number, and that it leaves each word leading to an object
 
 pub change-named : (name : Option ℕ → Option ℕ) → name None ≡ None → (change : Change) (k : Tabled)
@@ -276,31 +296,41 @@ held-named r name if_marked k = grind arith
 pub held_values : (r : ℕ) (p : Bool → Option ℕ → Bool) (if_marked : Bool) → Keeps r p (more_held_if r if_marked)
 held_values r p if_marked k each = grind arith
 
--- where an object lies there is a place
-some_within : (os : List (Option ℕ)) (p : ℕ) → is_some (slice_index_or os p None) ≡ true → p < length os
-some_within [] p some = absurd (false≢true some)
-some_within (o ∷ os) zero some = omega arith
-some_within (o ∷ os) (suc p) some = let rest = some_within os p some in omega (arith, rest)
+map_alike : (f g : Option ℕ → Option ℕ) → ((v : Option ℕ) → f v ≡ g v) → (vs : List (Option ℕ)) → map f vs ≡ map g vs
+map_alike f g alike [] = refl
+map_alike f g alike (v ∷ vs) = ap (λ w. w ∷ map f vs) (alike v) ∙ ap (λ ws. g v ∷ ws) (map_alike f g alike vs)
+
+-- the words of a cell's object, each healed, make it healed
+pub healed_cell : (heal : Option ℕ → Option ℕ) (n : ℕ) (c : Option Tabled)
+    → option_map (with_words (map heal (tabled_fields c)) (heal (referent_of (tabled_reference c))) n) c
+    ≡ option_map (healed_by heal n) c
+healed_cell heal n None = refl
+healed_cell heal n (Some k) = ap Some (by k.object.reference refl)
+  where
+    by : (r : Option Reference) → k.object.reference ≡ r
+        → with_words (map heal k.object.fields) (heal (referent_of k.object.reference)) n k ≡ healed_by heal n k
+    by None is = grind arith
+    by (Some r) is = grind arith
 
 -- ---- the cell of an object
 
-module _ {round : Round} {cells : List (Option Tabled)} {es : List Entry} {pages : Pages} {slots : List
+module _ {round : Round} {cells : List (Option Tabled)} {es : List Entry} {ways : Ways} {slots : List
     (Option ℕ)}
     {last room count index_room marked : ℕ}
-    (sound : IsSoundTable round cells es pages last room count index_room marked × IsSoundNaming round cells es
+    (sound : IsSoundTable round cells es ways last room count index_room marked × IsSoundNaming round ways cells es
     slots) where
   abbrev name : Option ℕ → Option ℕ
-  name = target_by (occupants_of cells)
+  name = target_by ways (occupants_of cells)
 
   abbrev leads : Bool → Option ℕ → Bool
-  leads = leads_by round.good (occupants_of cells)
+  leads = leads_by round.good ways (occupants_of cells)
 
   -- a contract sees the same round
-  pub round_seen : {t : Table} → seen_table round pages cells es slots last room ≡ t → t.round.number ≡ round.number
+  pub round_seen : {t : Table} → seen_table round ways cells es slots last room ≡ t → t.round.number ≡ round.number
   round_seen view = ap (λ (s : Table). s.round.number) (sym view)
 
   -- what lies at a place has that place
-  module _ {t : Table} (view : seen_table round pages cells es slots last room ≡ t) {n p : ℕ} where
+  module _ {t : Table} (view : seen_table round ways cells es slots last room ≡ t) {n p : ℕ} where
     pub lying_place : LiesAt t n p → IsPlaceOf cells es n p
     lying_place lies =
         lies_there sound.1.listed n p (cell_at cells p) refl
@@ -313,7 +343,7 @@ module _ {round : Round} {cells : List (Option Tabled)} {es : List Entry} {pages
         ∙ number_there sound.0.placed place
 
   -- where a search finds a place, the object lies there
-  pub found_lies : {t : Table} → seen_table round pages cells es slots last room ≡ t → (n : ℕ) (place : Option ℕ)
+  pub found_lies : {t : Table} → seen_table round ways cells es slots last room ≡ t → (n : ℕ) (place : Option ℕ)
       → {borrowed : List (Option Tabled)} {lent : List Entry} → borrowed ≡ cells → lent ≡ es
       → place ≡ place_if_live borrowed (place_in lent n) n → IfSome place (LiesAt t n)
   found_lies view n None same_cells same_index is = tt
@@ -324,43 +354,27 @@ module _ {round : Round} {cells : List (Option Tabled)} {es : List Entry} {pages
     pub one_fewer : 1 ≤ count
     one_fewer = omega (arith, sound.0.counted, one_there sound.0.placed place)
 
-    pub has_page : p / 64 < length pages.uses
+    pub has_page : p / 64 < length ways.pages.uses
     has_page = page_there sound.0.placed place
 
-    -- its word leads to it
-    module _ {t : Table} (view : seen_table round pages cells es slots last room ≡ t) where
-      module _ {w : Option ℕ} (is : w ≡ word_of_place round.good p) where
-        at : IsCell (1 + p / 64) (p % 64)
-        at = has_word sound.0.placed.small p place.within
+    -- an object lies there
+    pub lies_seen : {t : Table} → seen_table round ways cells es slots last room ≡ t
+        → slice_index_or t.occupants p None ≡ Some n
+    lies_seen view =
+        ap (λ (s : Table). slice_index_or s.occupants p None) (sym view) ∙ get_or-map occupant_in cells p None
+        ∙ number_there sound.0.placed place
 
-        leads_here : place_by w ≡ Some p
-        leads_here = rw is (word_place round.good p at)
-
-        word_cell : cell_of_word cells w ≡ get_or cells p None
-        word_cell = ap (at_place cells) leads_here
-
-        word_named : target_of t w ≡ Some n
-        word_named =
-            ap (λ (s : Table). target_of s w) (sym view) ∙ named-cell cells w ∙ ap occupant_in word_cell
-            ∙ number_there sound.0.placed place
-
-        pub word_there : target_of t w ≡ (if is_some (tabled_at t.tabled n) then Some n else None)
-        word_there =
-            let is : is_some (tabled_at t.tabled n) ≡ true =
-            ap (λ (s : Table). is_some (tabled_at s.tabled n)) (sym view)
-            ∙ ap is_some (tabled_at-named name (tabled_by cells es) n)
-            ∙ some-named name (tabled_at (tabled_by cells es) n) ∙ sym (there sound.0.placed place) in
-            word_named ∙ simp is refl
-
-        pub word_led : IsHealed t w
-        word_led =
-            let same : t.round.good ≡ round.good = ap (λ (s : Table). s.round.good) (sym view) in
-            rw (word_named, same)
-            (good_leads round.good w (subst (IsGood round.good) (sym is) (word_is_good round.good (1 + p / 64)
-            (p % 64) at)))
+    pub named_if_there : {t : Table} → seen_table round ways cells es slots last room ≡ t
+        → Some n ≡ (if is_some (tabled_at t.tabled n) then Some n else None)
+    named_if_there {t} view =
+        let is : is_some (tabled_at t.tabled n) ≡ true =
+        ap (λ (s : Table). is_some (tabled_at s.tabled n)) (sym view)
+        ∙ ap is_some (tabled_at-named name (tabled_by cells es) n)
+        ∙ some-named name (tabled_at (tabled_by cells es) n) ∙ sym (there sound.0.placed place) in
+        simp is refl
 
     -- the object is looked at
-    module _ {t : Table} (view : seen_table round pages cells es slots last room ≡ t) {cell also : Option Tabled}
+    module _ {t : Table} (view : seen_table round ways cells es slots last room ≡ t) {cell also : Option Tabled}
         (was : cell ≡ get_or cells p cell) (same : also ≡ get_or cells p also) {l : Linked}
         (told : l ≡ tabled_linked n (option_map (by_number (target_of t)) cell)) {r : Option Reference}
         (kept : r ≡ tabled_reference also) {b : Bool}
@@ -369,7 +383,7 @@ module _ {round : Round} {cells : List (Option Tabled)} {es : List Entry} {pages
       object_here : {c : Option Tabled} → c ≡ get_or cells p c
           → option_map (by_number (target_of t)) c ≡ tabled_at t.tabled n
       object_here {c} reads =
-          ap (λ (s : Table). option_map (by_number (target_by s.occupants)) c) (sym view)
+          ap (λ (s : Table). option_map (by_number (target_by s.ways s.occupants)) c) (sym view)
           ∙ told_of sound.0.placed place (option_map (by_number name)) reads
           ∙ sym (tabled_at-named name (tabled_by cells es) n) ∙ ap (λ (s : Table). tabled_at s.tabled n) view
 
@@ -387,7 +401,7 @@ module _ {round : Round} {cells : List (Option Tabled)} {es : List Entry} {pages
 
       pub cleared_there : (cycle : ℕ) → b ≡ true → {old new : Option Tabled} → old ≡ get_or cells p old
           → new ≡ option_map (change_of (ClearIn cycle)) old
-          → seen_table round pages (set cells p new) es slots last room ≡ table_looked_at t n cycle
+          → seen_table round ways (set cells p new) es slots last room ≡ table_looked_at t n cycle
       cleared_there cycle clears {old} {new} found change =
           seen_changed sound.0.placed place (change_of (ClearIn cycle)) (change_keeps (ClearIn cycle)) found change
           round slots room (change_of (ClearIn cycle)) (change-named name refl (ClearIn cycle))
@@ -398,7 +412,7 @@ module _ {round : Round} {cells : List (Option Tabled)} {es : List Entry} {pages
       uncleared_there cycle spares = simp (sym (ap (λ (i : Look). i.is_cleared) look_told) ∙ spares) refl
 
     -- the object goes, and its place is free, where it isn't marked
-    module _ {t : Table} (view : seen_table round pages cells es slots last room ≡ t) {cell : Option Tabled}
+    module _ {t : Table} (view : seen_table round ways cells es slots last room ≡ t) {cell : Option Tabled}
         (was : cell ≡ get_or cells p cell) {goes : Bool} (is : goes ≡ is_unmarked_in round.number cell) where
       pub goes_answer : goes ≡ is_unmarked_in t.round.number (tabled_at t.tabled n)
       goes_answer =
@@ -411,30 +425,43 @@ module _ {round : Round} {cells : List (Option Tabled)} {es : List Entry} {pages
       kept_there stays = let kept = sym goes_answer ∙ stays in simp kept refl
 
       module _ (leaves : goes ≡ true) {new : Option Tabled} (gone : new ≡ None) {fewer : Pages}
-          (less : fewer ≡ with_given pages (p / 64) (p % 64))
+          (less : fewer ≡ with_given ways.pages (p / 64) (p % 64)) (tuned_now : t.ways.tuned ≡ true)
           (unnamed : is_unmarked_in t.round.number (tabled_at t.tabled n) ≡ true → IsUnnamed t n) where
-        nobody : IsUnnamed (seen_table round pages cells es slots last room) n
+        is_tuned : ways.tuned ≡ true
+        is_tuned = ap (λ (s : Table). s.ways.tuned) view ∙ tuned_now
+
+        nobody : IsUnnamed (seen_table round ways cells es slots last room) n
         nobody = subst (λ (s : Table). IsUnnamed s n) (sym view) (unnamed (sym goes_answer ∙ leaves))
 
-        pub freed_there : seen_table round fewer (set cells p new) es slots last room ≡ table_freed t n
+        pub freed_there : seen_table round (record ways { pages = fewer })
+            (set cells p new) es slots last room ≡ table_freed t n
         freed_there =
-            seen_freed sound.0.placed place gone less sound.1 nobody.slots nobody.objects room
+            seen_freed sound.0.placed place gone less is_tuned sound.1 nobody.slots nobody.objects room
             ∙ ap (λ (s : Table). without_object s n) view
             ∙ (let goes = sym goes_answer ∙ leaves in simp goes refl)
 
         -- and the marked are as many as before
-        pub sound_freed : IsSoundTable round (set cells p new) es fewer last room (count - 1) index_room marked
-            × IsSoundNaming round (set cells p new) es slots
+        pub sound_freed : IsSoundTable round (set cells p new) es (record ways { pages = fewer }) last room
+            (count - 1) index_room marked
+            × IsSoundNaming round (record ways { pages = fewer }) (set cells p new) es slots
         sound_freed =
-            let placed = placed_freed sound.0.placed place gone less in
-            let gone_one = length-freed sound.0.placed place gone less in
-            let marks = marks_same round.number (tabled_by-freed sound.0.placed place gone less)
+            let placed = placed_freed sound.0.placed place gone less is_tuned in
+            let gone_one = length-freed sound.0.placed place gone less is_tuned in
+            let marks = marks_same round.number (tabled_by-freed sound.0.placed place gone less is_tuned)
             (marks_without round.number (tabled_by cells es) n
             (sym leaves ∙ is ∙ told_of sound.0.placed place (is_unmarked_in round.number) was) sound.0.marks_counted) in
-            (grind (arith, length-set), naming_freed sound.0.placed place gone less sound.1 nobody.slots nobody.objects)
+            let open_fit : room ≤ 64 * length (opened fewer.uses) =
+            (let size = given_pages sound.0.placed place gone less is_tuned in omega (arith, size, sound.0.open_fit)) in
+            let twice : length fewer.uses ≡ 2 * ((room + 63) / 64) =
+            given_size sound.0.placed place gone less is_tuned ∙ sound.0.twice in
+            let packed = given_packed sound.0.placed place gone less is_tuned ((room + 63) / 64) sound.0.packed in (
+              grind (arith, length-set, open_fit, twice, packed),
+              naming_freed sound.0.placed place gone less is_tuned
+                  sound.1 nobody.slots nobody.objects,
+            )
 
     -- what is answered of the cell there is answered of the object
-    pub named_there : {t : Table} → seen_table round pages cells es slots last room ≡ t
+    pub named_there : {t : Table} → seen_table round ways cells es slots last room ≡ t
         → {X : Type 0} (f : Option Tabled → X)
         {cell : Option Tabled} {x : X} → cell ≡ get_or cells p cell → x ≡ f (option_map (by_number name) cell)
         → x ≡ f (tabled_at t.tabled n)
@@ -442,7 +469,7 @@ module _ {round : Round} {cells : List (Option Tabled)} {es : List Entry} {pages
         is ∙ told_of sound.0.placed place (λ c. f (option_map (by_number name) c)) was
         ∙ ap f (sym (tabled_at-named name (tabled_by cells es) n)) ∙ ap (λ (s : Table). f (tabled_at s.tabled n)) view
 
-    pub answered_there : {t : Table} → seen_table round pages cells es slots last room ≡ t → {X : Type 0}
+    pub answered_there : {t : Table} → seen_table round ways cells es slots last room ≡ t → {X : Type 0}
         (f : Option Tabled → X)
         → ((name : Option ℕ → Option ℕ) (c : Option Tabled) → f (option_map (by_number name) c) ≡ f c)
         → {cell : Option Tabled} {x : X} → cell ≡ get_or cells p cell → x ≡ f cell → x ≡ f (tabled_at t.tabled n)
@@ -450,19 +477,26 @@ module _ {round : Round} {cells : List (Option Tabled)} {es : List Entry} {pages
 
     module _ (f h : Tabled → Tabled) (keeps : (k : Tabled) → (f k).object.no ≡ k.object.no) {old new : Option Tabled}
         (was : old ≡ get_or cells p old) (is : new ≡ option_map f old) where
-      pub left_there : {t : Table} → seen_table round pages cells es slots last room ≡ t
+      pub left_there : {t : Table} → seen_table round ways cells es slots last room ≡ t
           → ((k : Tabled) → by_number name (f k) ≡ h (by_number name k))
-          → seen_table round pages (set cells p new) es slots last room ≡ changed t n h
+          → seen_table round ways (set cells p new) es slots last room ≡ changed t n h
       left_there view same =
           seen_changed sound.0.placed place f keeps was is round slots room h same
+          ∙ ap (λ (s : Table). changed s n h) view
+
+      pub left_there_at : {t : Table} → seen_table round ways cells es slots last room ≡ t
+          → ((k : Tabled) → tabled_at (tabled_by cells es) n ≡ Some k → by_number name (f k) ≡ h (by_number name k))
+          → seen_table round ways (set cells p new) es slots last room ≡ changed t n h
+      left_there_at view same =
+          seen_changed_at sound.0.placed place f keeps was is round slots room h same
           ∙ ap (λ (s : Table). changed s n h) view
 
       module _ (holds : Keeps round.number leads f) where
         -- the marked are counted anew
         pub sound_counted : {marks : ℕ} → marks ≡ length (marked_of round.number (changed_tabled
             (tabled_by cells es) n f))
-            → IsSoundTable round (set cells p new) es pages last room count index_room marks
-            × IsSoundNaming round (set cells p new) es slots
+            → IsSoundTable round (set cells p new) es ways last room count index_room marks
+            × IsSoundNaming round ways (set cells p new) es slots
         sound_counted counted =
             let placed = placed_changed sound.0.placed place f keeps was is in
             let same = tabled_by-changed sound.0.placed place f keeps was is in (
@@ -472,14 +506,14 @@ module _ {round : Round} {cells : List (Option Tabled)} {es : List Entry} {pages
 
         -- or stay as many, where the change leaves the mark
         pub sound_there : ((k : Tabled) → (f k).marked_in ≡ k.marked_in)
-            → IsSoundTable round (set cells p new) es pages last room count index_room marked
-            × IsSoundNaming round (set cells p new) es slots
+            → IsSoundTable round (set cells p new) es ways last room count index_room marked
+            × IsSoundNaming round ways (set cells p new) es slots
         sound_there leaves =
             sound_counted (marks_changed round.number (tabled_by cells es) n f keeps leaves sound.0.marks_counted)
 
   -- a number without a place: what is answered of no cell is answered of it, and the table is left as it was
   module _ {n : ℕ} (missing : IsMissing cells es n) where
-    module _ {t : Table} (view : seen_table round pages cells es slots last room ≡ t) where
+    module _ {t : Table} (view : seen_table round ways cells es slots last room ≡ t) where
       pub missing_at : tabled_at t.tabled n ≡ None
       missing_at =
           ap (λ (s : Table). tabled_at s.tabled n) (sym view) ∙ tabled_at-named name (tabled_by cells es) n
@@ -503,39 +537,45 @@ module _ {round : Round} {cells : List (Option Tabled)} {es : List Entry} {pages
 
   -- ---- a word
 
-  module _ (v : Option ℕ) {t : Table} (view : seen_table round pages cells es slots last room ≡ t) where
+  module _ (v : Option ℕ) {t : Table} (view : seen_table round ways cells es slots last room ≡ t) where
     pub named_seen : target_of t v ≡ name v
     named_seen = ap (λ (s : Table). target_of s v) (sym view)
 
     pub leads_seen : IsHealed t v → (b : Bool) → leads b v ≡ true
     leads_seen is b =
-        good_anywhere round.good (occupants_of cells) b v
-        (ap (λ (s : Table). leads_by s.round.good s.occupants true v) view ∙ is)
+        good_anywhere round.good ways (occupants_of cells) b v
+        (ap (λ (s : Table). leads_by s.round.good s.ways s.occupants true v) view ∙ is)
 
     -- its name is the number of the object in its cell
-    pub named_led : target_of t v ≡ occupant_in (cell_of_word cells v)
-    named_led = ap (λ (s : Table). target_of s v) (sym view) ∙ named-cell cells v
+    pub named_led : target_of t v ≡ occupant_in (cell_of_word cells ways.forwards v)
+    named_led = ap (λ (s : Table). target_of s v) (sym view) ∙ named-cell ways cells v
 
     -- and the object is what its cell holds
-    pub tabled_led : tabled_of t v ≡ option_map (by_number name) (cell_of_word cells v)
+    pub tabled_led : tabled_of t v ≡ option_map (by_number name) (cell_of_word cells ways.forwards v)
     tabled_led =
         let ks = tabled_by cells es in
         ap (λ (s : Table). tabled_of s v) (sym view) ∙ tabled_if-named name ks (name v)
-        ∙ ap (λ n. option_map (by_number name) (tabled_if ks n)) (named-cell cells v)
-        ∙ ap (option_map (by_number name)) (led_tabled cells es sound.1.listed sound.0.placed.rises (place_by v))
+        ∙ ap (λ n. option_map (by_number name) (tabled_if ks n)) (named-cell ways cells v)
+        ∙ ap (option_map (by_number name)) (led_tabled cells es sound.1.listed sound.0.placed.rises
+        (moved_place cells ways.forwards (place_by v)))
 
     -- so what is answered of the one is answered of the other
     pub answered_led : {X : Type 0} (f : Option Tabled → X)
         → ((name : Option ℕ → Option ℕ) (c : Option Tabled) → f (option_map (by_number name) c) ≡ f c) → {x : X}
-        → x ≡ f (cell_of_word cells v) → x ≡ f (tabled_of t v)
-    answered_led f blind is = is ∙ sym (blind name (cell_of_word cells v)) ∙ ap f (sym tabled_led)
+        → x ≡ f (cell_of_word cells ways.forwards v) → x ≡ f (tabled_of t v)
+    answered_led f blind is = is ∙ sym (blind name (cell_of_word cells ways.forwards v)) ∙ ap f (sym tabled_led)
 
-    module _ {borrowed : List (Option Tabled)} (same : borrowed ≡ cells) where
+    module _ {borrowed : List (Option Tabled)} {lent : List ℕ} (same : borrowed ≡ cells)
+        (same_forwards : lent ≡ ways.forwards) where
+      place_here : place_of_word borrowed lent v ≡ place_of_word cells ways.forwards v
+      place_here =
+          ap (λ cs. place_of_word cs lent v) same ∙ ap (λ fs. place_of_word cells fs v) same_forwards
+
       -- it leads to an object
-      module _ {p : ℕ} (found : Some p ≡ place_of_word borrowed v) where
-        pub led : LeadsTo cells es (place_by v) p
+      module _ {p : ℕ} (found : Some p ≡ place_of_word borrowed lent v) where
+        pub led : LeadsTo cells es (moved_place cells ways.forwards (place_by v)) p
         led =
-            leads_to cells es sound.1.listed (place_by v) (found ∙ ap (λ cs. place_of_word cs v) same)
+            leads_to cells es sound.1.listed (moved_place cells ways.forwards (place_by v)) (found ∙ place_here)
 
         abbrev pub led_no : ℕ
         led_no = led.k.object.no
@@ -553,9 +593,9 @@ module _ {round : Round} {cells : List (Option Tabled)} {es : List Entry} {pages
         changed_here h = sym (ap (λ n. changed_if t n h) named_here)
 
       -- or to none
-      module _ (found : None ≡ place_of_word borrowed v) where
-        none_led : cell_of_word cells v ≡ None
-        none_led = leads_nowhere cells (place_by v) (found ∙ ap (λ cs. place_of_word cs v) same)
+      module _ (found : None ≡ place_of_word borrowed lent v) where
+        none_led : cell_of_word cells ways.forwards v ≡ None
+        none_led = leads_nowhere cells (moved_place cells ways.forwards (place_by v)) (found ∙ place_here)
 
         pub named_nowhere : target_of t v ≡ None
         named_nowhere = named_led ∙ ap occupant_in none_led
@@ -567,16 +607,17 @@ module _ {round : Round} {cells : List (Option Tabled)} {es : List Entry} {pages
         left_led_nowhere h = sym (ap (λ n. changed_if t n h) (named_led ∙ ap occupant_in none_led))
 
       -- what is read of the cell is read of the object
-      module _ {c : Option Tabled} (reads : c ≡ cell_of_word borrowed v) where
-        read_here : c ≡ cell_of_word cells v
-        read_here = reads ∙ ap (λ cs. cell_of_word cs v) same
+      module _ {c : Option Tabled} (reads : c ≡ cell_of_word borrowed lent v) where
+        read_here : c ≡ cell_of_word cells ways.forwards v
+        read_here =
+            reads ∙ ap (λ cs. cell_of_word cs lent v) same ∙ ap (λ fs. cell_of_word cells fs v) same_forwards
 
         pub number_read : occupant_in c ≡ target_of t v
         number_read = ap occupant_in read_here ∙ sym named_led
 
         pub object_read : option_map (by_number (target_of t)) c ≡ tabled_of t v
         object_read =
-            ap (λ (s : Table). option_map (by_number (target_by s.occupants)) c) (sym view)
+            ap (λ (s : Table). option_map (by_number (target_by s.ways s.occupants)) c) (sym view)
             ∙ ap (option_map (by_number name)) read_here ∙ sym tabled_led
 
         pub blind_read : {X : Type 0} (f : Option Tabled → X)
@@ -585,45 +626,215 @@ module _ {round : Round} {cells : List (Option Tabled)} {es : List Entry} {pages
         blind_read f blind = answered_led f blind (ap f read_here)
 
         -- and each word that it holds leads to an object
-        pub each_read : (k : Tabled) → c ≡ Some k → Each (leads_by t.round.good t.occupants false) (values_in k)
+        pub each_read : (k : Tabled) → c ≡ Some k → Each (leads_by t.round.good t.ways t.occupants false) (values_in k)
         each_read k is =
             let at : tabled_at (tabled_by cells es) k.object.no ≡ Some k =
             ap (λ d. tabled_if (tabled_by cells es) (occupant_in d)) (sym is)
             ∙ ap (λ d. tabled_if (tabled_by cells es) (occupant_in d)) read_here
-            ∙ led_tabled cells es sound.1.listed sound.0.placed.rises (place_by v) ∙ sym read_here ∙ is in
-            subst (λ (s : Table). Each (leads_by s.round.good s.occupants false) (values_in k)) view
-            (each_anyhow round.good (occupants_of cells) (is_healed round.number k) (values_in k)
+            ∙ led_tabled cells es sound.1.listed sound.0.placed.rises
+            (moved_place cells ways.forwards (place_by v)) ∙ sym read_here ∙ is in
+            subst (λ (s : Table). Each (leads_by s.round.good s.ways s.occupants false) (values_in k)) view
+            (each_anyhow round.good ways (occupants_of cells) (is_healed round.number k) (values_in k)
             (each_held round.number leads (tabled_by cells es) k.object.no k at sound.1.led).2)
+
+  -- ---- the word of a place at which an object lies
+
+  module _ {t : Table} (view : seen_table round ways cells es slots last room ≡ t) (p : ℕ)
+      (lies : is_some (slice_index_or t.occupants p None) ≡ true) where
+    lies_here : is_some (slice_index_or (occupants_of cells) p None) ≡ true
+    lies_here = ap (λ (s : Table). is_some (slice_index_or s.occupants p None)) view ∙ lies
+
+    pub within_here : p < length cells
+    within_here =
+        let own = some_within (occupants_of cells) p lies_here in omega (arith, own, length-map cells occupant_in)
+
+    pub frame_here : p / 64 < length ways.pages.uses
+    frame_here = let own = within_here in omega (arith, own, length-free cells sound.0.placed.free)
+
+    has_own : (colour : Colour) → IsCell (1 + p / 64) (p % 64) × IsGood colour (word_of_place colour p)
+    has_own colour =
+        let at = has_word sound.0.placed.small p within_here in
+        (at, word_is_good colour (1 + p / 64) (p % 64) at)
+
+    leads_here : (colour : Colour) → place_by (word_of_place colour p) ≡ Some p
+    leads_here colour = word_place colour p (has_own colour).0
+
+    pub word_named : (colour : Colour) → target_of t (word_of_place colour p) ≡ slice_index_or t.occupants p None
+    word_named colour =
+        ap (λ (s : Table). target_of s (word_of_place colour p)) (sym view)
+        ∙ ap (λ o. occupant_at (occupants_of cells) (way_of ways (occupants_of cells) o)) (leads_here colour)
+        ∙ ap (λ q. slice_index_or (occupants_of cells) q None) (there_way ways (occupants_of cells) p lies_here)
+        ∙ ap (λ (s : Table). slice_index_or s.occupants p None) view
+
+    -- what stays has the good colour, and what is still to move that from before
+    pub word_led : (chosen : Bool) → is_chosen_place ways.pages.uses p ≡ chosen → (colour : Colour)
+        → colour ≡ (if chosen then ways.last else round.good) → IsHealed t (word_of_place colour p)
+    word_led false stays colour own =
+        subst (λ (s : Table). IsHealed s (word_of_place colour p)) view
+        (good_word round.good ways (occupants_of cells) p (word_of_place colour p) (leads_here colour)
+        (simp (lies_here, stays) refl) (subst (λ d. IsGood d (word_of_place colour p)) own (has_own colour).1))
+    word_led true leaves colour own =
+        subst (λ (s : Table). IsHealed s (word_of_place colour p)) view
+        (unmoved_word round.good ways (occupants_of cells) p (word_of_place colour p) (leads_here colour) leaves
+        lies_here (untuned ways.tuned refl)
+        (subst (λ d. IsGood d (word_of_place colour p)) own (has_own colour).1))
+      where
+        untuned : (b : Bool) → ways.tuned ≡ b → ways.tuned ≡ false
+        untuned false is = is
+        untuned true is =
+            absurd (false≢true
+            (sym (settled-none cells ways.pages.uses (sound.0.placed.settled is) p leaves) ∙ lies_here))
 
   -- ---- what is read of the cell of a number
 
-  addressed : AreAddressed pages.uses (occupants_of cells)
-  addressed frame cell some below =
-      let there : 64 * frame + cell < length (occupants_of cells) = some_within (occupants_of cells) (64 * frame + cell) some in
-      let page : frame < length pages.uses =
-      omega (arith, there, below, length-map cells occupant_in, length-free sound.0.placed.free) in
-      let own = own_place sound.0.placed.free frame page in
-      let between = between_at pages.uses frame 1 pages.next sound.0.placed.rising page in
-      rw own (between.0, omega (arith, between.1, sound.0.placed.addressed), below)
+  -- nothing is still to move
+  pub settled : ways.tuned ≡ true → IsSettled ways (occupants_of cells)
+  settled is_tuned = settled-none cells ways.pages.uses (sound.0.placed.settled is_tuned)
+
+  pub settled_seen : {t : Table} → seen_table round ways cells es slots last room ≡ t → IsSettled t.ways t.occupants
+      → IsSettled ways (occupants_of cells)
+  settled_seen view settled_now = subst (λ (s : Table). IsSettled s.ways s.occupants) (sym view) settled_now
+
+  pub tuned_seen : {t : Table} → seen_table round ways cells es slots last room ≡ t → t.ways.tuned ≡ true
+      → ways.tuned ≡ true
+  tuned_seen view is = ap (λ (s : Table). s.ways.tuned) view ∙ is
+
+  pub colour_seen : {t : Table} → seen_table round ways cells es slots last room ≡ t → (v : Option ℕ)
+      → has_colour round.good v ≡ true → has_colour t.round.good v ≡ true
+  colour_seen view v colour = ap (λ (s : Table). has_colour s.round.good v) (sym view) ∙ colour
+
+  pub apart_seen : {t : Table} → seen_table round ways cells es slots last room ≡ t → (good : Colour)
+      → (has_chosen t.ways.pages.uses ≡ true → t.ways.last ≡ good → ⊥)
+      → (place : ℕ) → is_chosen_place ways.pages.uses place ≡ true → ways.last ≡ good → ⊥
+  apart_seen view good apart place chosen same =
+      apart
+      (ap (λ (s : Table). has_chosen s.ways.pages.uses) (sym view)
+      ∙ some_chosen ways.pages.uses (page_at ways.pages.uses place) chosen)
+      (ap (λ (s : Table). s.ways.last) (sym view) ∙ same)
+
+  pub few_places : length (occupants_of cells) ≤ 2 ^ 17
+  few_places = omega (arith, sound.0.placed.small, length-map cells occupant_in)
+
+  -- the word of where what a word leads to lies
+  pub heals : {borrowed : List (Option Tabled)} {lent : List ℕ} → borrowed ≡ cells → lent ≡ ways.forwards
+      → (colour : Colour) (v : Option ℕ)
+      → word_there colour (place_of_word borrowed lent v) ≡ healed_word colour ways (occupants_of cells) v
+  heals {borrowed} {lent} same_cells same_forwards colour v =
+      ap (λ cs. word_there colour (place_of_word cs lent v)) same_cells
+      ∙ ap (λ fs. word_there colour (place_of_word cells fs v)) same_forwards
+      ∙ ap (word_there colour) (sym (taken-way ways cells (place_by v)))
+
+  -- where what a word leads to lies
+  module _ {t : Table} (view : seen_table round ways cells es slots last room ≡ t)
+      {borrowed : List (Option Tabled)} {lent : List ℕ} (same_cells : borrowed ≡ cells)
+      (same_forwards : lent ≡ ways.forwards) (v : Option ℕ) {at : Option ℕ}
+      (is : at ≡ place_of_word borrowed lent v) where
+    taken_is : taken_way ways (occupants_of cells) (place_by v) ≡ at
+    taken_is =
+        taken-way ways cells (place_by v) ∙ ap (λ cs. place_of_word cs ways.forwards v) (sym same_cells)
+        ∙ ap (λ fs. place_of_word borrowed fs v) (sym same_forwards) ∙ sym is
+
+    pub resolves : {p : ℕ} → at ≡ Some p
+        → (is_some (slice_index_or t.occupants p None) ≡ true)
+        × (slice_index_or t.occupants p None ≡ target_of t v)
+    resolves {p} some =
+        let own = taken_some ways (occupants_of cells) (place_by v) (taken_is ∙ some) in (
+          ap (λ (s : Table). is_some (slice_index_or s.occupants p None)) (sym view) ∙ own.0,
+          ap (λ (s : Table). slice_index_or s.occupants p None) (sym view) ∙ sym own.1
+              ∙ ap (λ (s : Table). target_of s v) view,
+        )
+
+    pub resolves_none : at ≡ None → target_of t v ≡ None
+    resolves_none none =
+        ap (λ (s : Table). target_of s v) (sym view)
+        ∙ taken_none ways (occupants_of cells) (place_by v) (taken_is ∙ none)
+
+  -- slots that are healed
+  pub healed_slots : {borrowed : List (Option Tabled)} {lent : List ℕ} → borrowed ≡ cells → lent ≡ ways.forwards
+      → (colour : Colour) {Z : Type 0} (v : Vec (Option ℕ) Z) {was now : List (Option ℕ)} → length v.items ≡ v.len
+      → now ≡ map (λ w. word_there colour (place_of_word borrowed lent w)) was → was ≡ v.items
+      → (with_items v now).items ≡ map (healed_word colour ways (occupants_of cells)) v.items
+  healed_slots {borrowed} {lent} same_cells same_forwards colour v size is same =
+      items_mapped (λ w. word_there colour (place_of_word borrowed lent w)) v size is same
+      ∙ map_alike (λ w. word_there colour (place_of_word borrowed lent w))
+      (healed_word colour ways (occupants_of cells)) (heals same_cells same_forwards colour) v.items
+
+  -- an object that is written with these words in the place of those that were read is healed
+  pub healed_here : {n p : ℕ} → IsPlaceOf cells es n p → {read again old new : Option Tabled}
+      → read ≡ get_or cells p read → again ≡ get_or cells p again → old ≡ get_or cells p old
+      → {some others : List (Option Tabled)} {lent given : List ℕ} → some ≡ cells → lent ≡ ways.forwards
+      → others ≡ cells → given ≡ ways.forwards → (colour : Colour) {words fields : List (Option ℕ)}
+      {held referent : Option ℕ} → words ≡ tabled_fields read
+      → fields ≡ map (λ v. word_there colour (place_of_word some lent v)) words
+      → held ≡ referent_of (tabled_reference again)
+      → referent ≡ word_there colour (place_of_word others given held) → (number : ℕ)
+      → new ≡ option_map (with_words fields referent number) old
+      → new ≡ option_map (healed_by (healed_word colour ways (occupants_of cells)) number) old
+  healed_here place {read} {again} {old} {new} was_read was_again was {some} {others} {lent} {given} same_some
+      same_lent same_others same_given colour {words} {fields} {held} {referent} words_are fields_are held_is
+      referent_is
+      number is =
+      let heal : Option ℕ → Option ℕ = healed_word colour ways (occupants_of cells) in
+      let all : fields ≡ map heal (tabled_fields old) =
+      fields_are
+      ∙ map_alike (λ v. word_there colour (place_of_word some lent v)) heal (heals same_some same_lent colour) words
+      ∙ ap (map heal)
+      (words_are ∙ told_of sound.0.placed place tabled_fields was_read
+      ∙ sym (told_of sound.0.placed place tabled_fields was)) in
+      let own : referent ≡ heal (referent_of (tabled_reference old)) =
+      referent_is ∙ heals same_others same_given colour held
+      ∙ ap heal
+      (held_is ∙ told_of sound.0.placed place (λ c. referent_of (tabled_reference c)) was_again
+      ∙ sym (told_of sound.0.placed place (λ c. referent_of (tabled_reference c)) was)) in
+      is ∙ ap (λ fs. option_map (with_words fs referent number) old) all
+      ∙ ap (λ r. option_map (with_words (map heal (tabled_fields old)) r number) old) own
+      ∙ healed_cell heal number old
+
+  -- what holds of the object of a number
+  pub held_of : (n : ℕ) (k : Tabled) → tabled_at (tabled_by cells es) n ≡ Some k → IsHeldIn round.number leads k
+  held_of n k at = each_held round.number leads (tabled_by cells es) n k at sound.1.led
+
+  pub addressed : AreAddressed ways (occupants_of cells)
+  addressed = record { address = address; inside = inside }
+    where
+      address : (frame cell : ℕ) → frame < length ways.pages.uses → cell < 64
+          → IsCell (use_of ways.pages.uses frame).address cell
+      address frame cell page below =
+          let own = framed_there ways.pages.uses sound.0.placed.free.framed frame page in
+          let between = between_at ways.pages.uses (place_of ways.pages.uses frame) 1 ways.pages.next
+          sound.0.placed.rising own in
+          (between.0, omega (arith, between.1, sound.0.placed.addressed), below)
+
+      inside : (is_last : Bool) (q : ℕ) → leads_from ways (occupants_of cells) is_last (Some q) ≡ true
+          → q / 64 < length ways.pages.uses
+      inside is_last q leads =
+          elim (cases_Bool (is_some (slice_index_or (occupants_of cells) q None))) [
+            | inl there ↦
+                let own = some_within (occupants_of cells) q there in
+                omega (arith, own, length-map cells occupant_in, length-free cells sound.0.placed.free)
+            | inr gone ↦
+                chosen_within ways.pages.uses sound.0.placed.free.framed q
+                (old_place ways (occupants_of cells) is_last q leads gone)
+          ]
 
   -- what a word leads to lies in a page
-  pub frame_there : {t : Table} → seen_table round pages cells es slots last room ≡ t → (v : Option ℕ) {place : ℕ}
-      → HasTarget t v → place_by v ≡ Some place → place / 64 < length pages.uses
+  pub frame_there : {t : Table} → seen_table round ways cells es slots last room ≡ t → (v : Option ℕ) {place : ℕ}
+      → HasTarget t v → place_by v ≡ Some place → place / 64 < length ways.pages.uses
   frame_there view v {place} leads at =
-      let there = some_within (occupants_of cells) place
-      (ap (λ q. is_some (occupant_at (occupants_of cells) q)) (sym at)
-      ∙ led_there v at (ap (λ (s : Table). leads_by s.round.good s.occupants false v) view ∙ leads)) in
-      omega (arith, there, length-map cells occupant_in, length-free sound.0.placed.free)
+      there v at (ap (λ (s : Table). leads_by s.round.good s.ways s.occupants false v) view ∙ leads)
     where
-      led_there : (w : Option ℕ) → place_by w ≡ Some place → leads_by round.good (occupants_of cells) false w ≡ true
-          → is_some (target_by (occupants_of cells) w) ≡ true
-      led_there None none led = absurd (cc)
-      led_there (Some w) at led = grind arith
+      there : (w : Option ℕ) → place_by w ≡ Some place → leads_by round.good ways (occupants_of cells) false w ≡ true
+          → place / 64 < length ways.pages.uses
+      there None none led = absurd (cc)
+      there (Some w) at led =
+          addressed.inside (has_colour ways.last (Some w)) place
+          (ap (leads_from ways (occupants_of cells) (has_colour ways.last (Some w))) (sym at)
+          ∙ from_led round.good ways (occupants_of cells) false w led)
 
   held_in : (c : Option Tabled) (i : ℕ) {bits : Option ℕ}
-      → bits ≡ option_map (bits_told pages.uses) (field_in_cell c i)
+      → bits ≡ option_map (bits_told ways.pages.uses) (field_in_cell c i)
       → ((k : Tabled) → c ≡ Some k → Each (leads (is_healed round.number k)) (values_in k))
-      → IfSome bits (IsWordHeld round.good pages.uses (occupants_of cells) (is_healed_in round.number (option_map
+      → IfSome bits (IsWordHeld round.good ways (occupants_of cells) (is_healed_in round.number (option_map
       (by_number name) c))
       (field_held (option_map (by_number name) c) i))
   held_in None i own each = rw own tt
@@ -632,15 +843,15 @@ module _ {round : Round} {cells : List (Option Tabled)} {es : List Entry} {pages
       (elim (cases_Bool (nat_lt i (length k.object.fields))) [
         | inl within ↦
             simp within
-            (word_held round.good pages.uses (occupants_of cells) (is_healed round.number k)
+            (word_held round.good ways (occupants_of cells) (is_healed round.number k)
             (slice_index_or k.object.fields i None)
-            (bits_told pages.uses (slice_index_or k.object.fields i None)) addressed refl
+            (bits_told ways.pages.uses (slice_index_or k.object.fields i None)) addressed refl
             (each_at (leads (is_healed round.number k)) k.object.fields i refl (each k refl).1))
         | inr past ↦ simp past tt
       ])
 
   some_bits : (c : Option Tabled) (i : ℕ) {bits : Option ℕ}
-      → bits ≡ option_map (bits_told pages.uses) (field_in_cell c i) → is_some bits ≡ has_field c i
+      → bits ≡ option_map (bits_told ways.pages.uses) (field_in_cell c i) → is_some bits ≡ has_field c i
   some_bits None i own = rw own refl
   some_bits (Some k) i own =
       rw own
@@ -649,13 +860,13 @@ module _ {round : Round} {cells : List (Option Tabled)} {es : List Entry} {pages
         | inr past ↦ simp past refl
       ])
 
-  module _ (n : ℕ) {t : Table} (view : seen_table round pages cells es slots last room
+  module _ (n : ℕ) {t : Table} (view : seen_table round ways cells es slots last room
       ≡ t) {borrowed : List (Option Tabled)}
       {lent : List Entry} (same_cells : borrowed ≡ cells) (same_index : lent ≡ es) {c : Option Tabled}
       (reads : c ≡ tabled_at (tabled_by borrowed lent) n) where
     pub object_told : option_map (by_number (target_of t)) c ≡ tabled_at t.tabled n
     object_told =
-        ap (λ (s : Table). option_map (by_number (target_by s.occupants)) c) (sym view)
+        ap (λ (s : Table). option_map (by_number (target_by s.ways s.occupants)) c) (sym view)
         ∙ ap (option_map (by_number name))
         (reads ∙ ap (λ cs. tabled_at (tabled_by cs lent) n) same_cells
         ∙ ap (λ gs. tabled_at (tabled_by cells gs) n) same_index)
@@ -670,22 +881,23 @@ module _ {round : Round} {cells : List (Option Tabled)} {es : List Entry} {pages
     pub told_leads : (i : ℕ) {value : Option ℕ} → Some value ≡ field_in_cell c i → HasTarget t value
     told_leads i {value} found =
         subst (λ (d : Option (Option ℕ)). IfSome d (λ v. HasTarget t v)) (sym found)
-        (field_of_each (leads_by t.round.good t.occupants false) refl c i
-        (λ k is. subst (λ (s : Table). Each (leads_by s.round.good s.occupants false) (values_in k)) view
-        (each_anyhow round.good (occupants_of cells) (is_healed round.number k) (values_in k)
+        (field_of_each (leads_by t.round.good t.ways t.occupants false) refl c i
+        (λ k is. subst (λ (s : Table). Each (leads_by s.round.good s.ways s.occupants false) (values_in k)) view
+        (each_anyhow round.good ways (occupants_of cells) (is_healed round.number k) (values_in k)
         (each_held round.number leads (tabled_by cells es) n k (sym here ∙ is) sound.1.led).2)))
 
     -- and is what the object holds by number
-    pub word_told : (i : ℕ) {bits : Option ℕ} → bits ≡ option_map (bits_told t.pages.uses) (field_in_cell c i)
-        → IfSome bits (IsWordHeld t.round.good t.pages.uses t.occupants (is_healed_in t.round.number (tabled_at t.tabled n))
+    pub word_told : (i : ℕ) {bits : Option ℕ} → bits ≡ option_map (bits_told t.ways.pages.uses) (field_in_cell c i)
+        → IfSome bits (IsWordHeld t.round.good t.ways t.occupants (is_healed_in t.round.number (tabled_at t.tabled n))
         (field_held (tabled_at t.tabled n) i))
     word_told i {bits} own =
-        subst (λ (s : Table). IfSome bits (IsWordHeld s.round.good s.pages.uses s.occupants (is_healed_in s.round.number
+        subst (λ (s : Table). IfSome bits (IsWordHeld s.round.good s.ways s.occupants (is_healed_in s.round.number
         (tabled_at s.tabled n))
         (field_held (tabled_at s.tabled n) i))) view
         (rw (tabled_at-named name (tabled_by cells es) n)
-        (held_in (tabled_at (tabled_by cells es) n) i (own ∙ ap (λ (s : Table). option_map (bits_told s.pages.uses) (field_in_cell c i)) (sym view)
-        ∙ ap (λ d. option_map (bits_told pages.uses) (field_in_cell d i)) here)
+        (held_in (tabled_at (tabled_by cells es) n) i (own ∙ ap (λ (s : Table). option_map (bits_told s.ways.pages.uses)
+        (field_in_cell c i)) (sym view)
+        ∙ ap (λ d. option_map (bits_told ways.pages.uses) (field_in_cell d i)) here)
         (λ k at. (each_held round.number leads (tabled_by cells es) n k at sound.1.led).2)))
 
     pub blind_told : {X : Type 0} (f : Option Tabled → X)
@@ -694,12 +906,12 @@ module _ {round : Round} {cells : List (Option Tabled)} {es : List Entry} {pages
     blind_told f blind = sym (blind (target_of t) c) ∙ ap f object_told
 
     -- bits are told of each field that there is
-    pub told_there : (i : ℕ) {bits : Option ℕ} → bits ≡ option_map (bits_told pages.uses) (field_in_cell c i)
+    pub told_there : (i : ℕ) {bits : Option ℕ} → bits ≡ option_map (bits_told ways.pages.uses) (field_in_cell c i)
         → is_some bits ≡ has_field (tabled_at t.tabled n) i
     told_there i own = some_bits c i own ∙ blind_told (λ k. has_field k i) (has_field-named i)
 
   -- a search finds a place exactly where there is an object
-  pub found_there : (n : ℕ) (place : Option ℕ) {t : Table} → seen_table round pages cells es slots last room ≡ t
+  pub found_there : (n : ℕ) (place : Option ℕ) {t : Table} → seen_table round ways cells es slots last room ≡ t
       → {borrowed : List (Option Tabled)} {lent : List Entry} → borrowed ≡ cells → lent ≡ es
       → place ≡ place_if_live borrowed (place_in lent n) n → is_some place ≡ is_some (tabled_at t.tabled n)
   found_there n place view same_cells same_index is =

@@ -25,7 +25,7 @@ pub use Rattle.ref_space.specs.Naming.{occupant_in}
 pub use Rattle.ref_space.specs.Naming.{occupant_at, occupants_of, reference_by_number, tabled_of}
 pub use Rattle.ref_space.specs.Pages.{Pages, Use, after_placing, next_cell, next_place, place_of, placing, taken_of}
 pub use Rattle.ref_space.specs.Pages.{with_cell}
-pub use Rattle.ref_space.specs.Places.{AllAbove, AreFree, AreIndexed, IsPlaced, IsSoundNaming, IsSoundTable, NoneAbove}
+pub use Rattle.ref_space.specs.Places.{AllAbove, AreIndexed, IsPlaced, IsSoundNaming, IsSoundTable, NoneAbove}
 pub use Rattle.ref_space.specs.Places.{Rises, at_place, before, blanked_cell, cell_at, cell_of_word, count_below}
 pub use Rattle.ref_space.specs.Places.{first_entry, is_live, is_of, named_slots, named_tabled, place_if_live}
 pub use Rattle.ref_space.specs.Places.{place_if_taken, place_in, place_of_word, seen_table, tabled_by, begun_cell}

@@ -20,10 +20,14 @@ use Rattle.ref_space.specs.declared.colour.Colour.{Colour}
 use Rattle.ref_space.proofs.Common.{◌+◌, ◌-◌, ◌^◌, ◌<◌, ◌==◌, false, true, ◌≤◌, nat_lt, le-ltb, lt-ltb}
 use Rattle.std.proofs.lemmas.Bool.{ne_eqb}
 use Rattle.ref_space.proofs.Common.{subst}
-use Rattle.ref_space.specs.ColouredWords.{recoloured}
 use Rattle.ref_space.proofs.HealLemmas.{slots_healed, slots-healed}
 use Rattle.ref_space.specs.declared.round.Round.{Round}
-use Rattle.ref_space.proofs.Common.{Pages}
+use Rattle.ref_space.specs.Moves.{Ways}
+use Rattle.ref_space.specs.Naming.{IsSettled, healed_word}
+use Rattle.ref_space.specs.Moves.{tuned}
+use Rattle.ref_space.proofs.NamingLemmas.{each_anyhow}
+use Rattle.ref_space.proofs.FreeLemmas.{none-settled}
+use Rattle.ref_space.specs.Pages.{is_chosen_place}
 
 -- items that are lent to be changed each
 pub items_mapped : {X Z : Type 0} (g : X → X) (v : Vec X Z) {lent now : List X} → length v.items ≡ v.len
@@ -93,41 +97,42 @@ module _ (f : Tabled → Tabled) (keeps : (k : Tabled) → (f k).object.no ≡ k
     pub occupants-all : occupants_of ds ≡ occupants_of cells
     occupants-all = ap occupants_of is ∙ entry_number-each cells
 
-    module _ (round : Round) (slots : List (Option ℕ)) where
-      pub seen_all : (pages : Pages) (last room : ℕ)
-          → ((k : Tabled) → by_number (target_by (occupants_of cells)) (f k)
-          ≡ f (by_number (target_by (occupants_of cells)) k))
-          → seen_table round pages ds es slots last room
-          ≡ (let t : Table = seen_table round pages cells es slots last room in record t { tabled = map f t.tabled })
-      seen_all pages last room same =
-          ap (seen_by round pages last room (tabled_by ds es) slots) occupants-all
-          ∙ ap (λ ks. seen_by round pages last room ks slots (occupants_of cells)) tabled_by-all
-          ∙ ap (λ ks. record (seen_table round pages cells es slots last room) { tabled = ks })
-          (map_commutes (by_number (target_by (occupants_of cells))) same (tabled_by cells es))
+    module _ (round : Round) (ways : Ways) (slots : List (Option ℕ)) where
+      pub seen_all : (last room : ℕ)
+          → ((k : Tabled) → by_number (target_by ways (occupants_of cells)) (f k)
+          ≡ f (by_number (target_by ways (occupants_of cells)) k))
+          → seen_table round ways ds es slots last room
+          ≡ (let t : Table = seen_table round ways cells es slots last room in record t { tabled = map f t.tabled })
+      seen_all last room same =
+          ap (seen_by round ways last room (tabled_by ds es) slots) occupants-all
+          ∙ ap (λ ks. seen_by round ways last room ks slots (occupants_of cells)) tabled_by-all
+          ∙ ap (λ ks. record (seen_table round ways cells es slots last room) { tabled = ks })
+          (map_commutes (by_number (target_by ways (occupants_of cells))) same (tabled_by cells es))
 
       pub listed_all : AreIndexed cells es → AreIndexed ds es
       listed_all listed p k at = listed_each cells es listed p (cell_at cells p) refl k (sym (cell_at-all p) ∙ at)
 
-      pub naming_all : IsSoundNaming round cells es slots
-          → Keeps round.number (leads_by round.good (occupants_of cells)) f
-          → IsSoundNaming round ds es slots
+      pub naming_all : IsSoundNaming round ways cells es slots
+          → Keeps round.number (leads_by round.good ways (occupants_of cells)) f
+          → IsSoundNaming round ways ds es slots
       naming_all naming holds = record {
         listed = listed_all naming.listed;
         begun = naming.begun;
+        apart = naming.apart;
         rooted = rw occupants-all naming.rooted;
         led = rw (occupants-all, tabled_by-all)
-            (held_map round.number (leads_by round.good (occupants_of cells)) round.number
-            (leads_by round.good (occupants_of cells)) f holds
+            (held_map round.number (leads_by round.good ways (occupants_of cells)) round.number
+            (leads_by round.good ways (occupants_of cells)) f holds
             (tabled_by cells es) naming.led);
       }
 
-    pub placed_all : {pages : Pages} {last : ℕ} → IsPlaced cells es pages last → IsPlaced ds es pages last
-    placed_all {pages} {last} placed = grind (arith, tabled_by-all, length-map, is_none-each)
+    pub placed_all : {ways : Ways} {last : ℕ} → IsPlaced cells es ways last → IsPlaced ds es ways last
+    placed_all {ways} {last} placed = grind (arith, tabled_by-all, length-map, is_none-each)
 
-    pub sound_all : {round next : Round} {pages : Pages} {last room count index_room marked marks : ℕ}
-        → IsSoundTable round cells es pages last room count index_room marked
+    pub sound_all : {round next : Round} {ways : Ways} {last room count index_room marked marks : ℕ}
+        → IsSoundTable round cells es ways last room count index_room marked
         → marks ≡ length (marked_of next.number (map f (tabled_by cells es)))
-        → IsSoundTable next ds es pages last room count index_room marks
+        → IsSoundTable next ds es ways last room count index_room marks
     sound_all sound counted = search (placed_all, length-all, tabled_by-all, length-map)
 
   -- what is counted of each object is counted of it changed
@@ -193,94 +198,140 @@ blanked_leads r p null k held =
 
 -- ---- a round begins
 
-held_next : (n : ℕ) (old new : Colour) (os : List (Option ℕ)) (ks : List Tabled)
-    → EachHeld n (leads_by old os) ks → EachHeld (n + 1) (leads_by new os) ks
-held_next n old new os [] held = tt
-held_next n old new os (k ∷ ks) held =
+held_next : (n : ℕ) (old new : Colour) (ways : Ways) (os : List (Option ℕ)) (ks : List Tabled)
+    → EachHeld n (leads_by old ways os) ks → EachHeld (n + 1) (leads_by new (tuned ways) os) ks
+held_next n old new ways os [] held = tt
+held_next n old new ways os (k ∷ ks) held =
     let other : (k.healed_in == n + 1) ≡ false = ne_eqb k.healed_in (n + 1) (λ same. omega (arith, held.0.1, same)) in (
       (
         omega (arith, held.0.0),
         omega (arith, held.0.1),
-        subst (λ b. Each (leads_by new os b) (values_in k)) (sym other)
-            (each_in_none old new os (is_healed n k) (values_in k) held.0.2),
+        subst (λ b. Each (leads_by new (tuned ways) os b) (values_in k)) (sym other)
+            (each_in_none old new ways os (is_healed n k) (values_in k) held.0.2),
       ),
-      held_next n old new os ks held.1,
+      held_next n old new ways os ks held.1,
     )
 
-held_anew : (n : ℕ) (old new : Colour) (os : List (Option ℕ)) (k : Tabled)
-    → IsHeldIn n (leads_by old os) k → IsHeldIn 1 (leads_by new os) (with_nothing_done k)
-held_anew n old new os k held =
-    (omega arith, omega arith, each_in_none old new os (is_healed n k) (values_in k) held.2)
+held_anew : (n : ℕ) (old new : Colour) (ways : Ways) (os : List (Option ℕ)) (k : Tabled)
+    → IsHeldIn n (leads_by old ways os) k → IsHeldIn 1 (leads_by new (tuned ways) os) (with_nothing_done k)
+held_anew n old new ways os k held =
+    (omega arith, omega arith, each_in_none old new ways os (is_healed n k) (values_in k) held.2)
 
-module _ (old : Round) (new : Colour) (cells : List (Option Tabled)) (es : List Entry)
-    (slots : List (Option ℕ)) {healed : List (Option ℕ)} (recolours : healed ≡ map (recoloured new) slots) where
+-- nothing is still to move, so that it may
+pub sound_tuned : {round : Round} {cells : List (Option Tabled)} {es : List Entry} {ways : Ways}
+    {last room count index_room marked : ℕ} → IsSettled ways (occupants_of cells)
+    → IsSoundTable round cells es ways last room count index_room marked
+    → IsSoundTable round cells es (tuned ways) last room count index_room marked
+sound_tuned {cells = cells} {ways = ways} settled sound = record {
+  placed = record {
+    rises = sound.placed.rises;
+    given = sound.placed.given;
+    free = sound.placed.free;
+    settled = λ is_tuned. none-settled cells ways.pages.uses settled;
+    taken = sound.placed.taken;
+    rising = sound.placed.rising;
+    addressed = sound.placed.addressed;
+    small = sound.placed.small;
+    few = sound.placed.few;
+  };
+  cells_fit = sound.cells_fit;
+  open_fit = sound.open_fit;
+  twice = sound.twice;
+  packed = sound.packed;
+  counted = sound.counted;
+  within = sound.within;
+  index_fits = sound.index_fits;
+  marks_counted = sound.marks_counted;
+}
+
+module _ (old : Round) (new : Colour) (ways : Ways) (cells : List (Option Tabled)) (es : List Entry)
+    (slots : List (Option ℕ)) {healed : List (Option ℕ)}
+    (heals : healed ≡ map (healed_word new ways (occupants_of cells)) slots)
+    (settled : IsSettled ways (occupants_of cells)) (small : length (occupants_of cells) ≤ 2 ^ 17)
+    (new_apart : (place : ℕ) → is_chosen_place ways.pages.uses place ≡ true → ways.last ≡ new → ⊥) where
   -- the next
   module _ (less : old.number < 2 ^ 64 - 1) {next : Round} (is : next ≡ record { number = old.number + 1; good = new })
     where
-      pub sound_next : {pages : Pages} {last room count index_room marked : ℕ}
-          → IsSoundTable old cells es pages last room count index_room marked → IsSoundNaming old cells es slots
-          → IsSoundTable next cells es pages last room count index_room 0
+      pub sound_next : {last room count index_room marked : ℕ}
+          → IsSoundTable old cells es ways last room count index_room marked → IsSoundNaming old ways cells es slots
+          → IsSoundTable next cells es (tuned ways) last room count index_room 0
       sound_next sound naming = record {
-        placed = sound.placed;
+        placed = (sound_tuned settled sound).placed;
         cells_fit = sound.cells_fit;
         counted = sound.counted;
+        open_fit = sound.open_fit;
+        twice = sound.twice;
+        packed = sound.packed;
         within = sound.within;
         index_fits = sound.index_fits;
         marks_counted = rw is
-            (sym (ap length (marked_of-next old.number (leads_by old.good (occupants_of cells))
+            (sym (ap length (marked_of-next old.number (leads_by old.good ways (occupants_of cells))
             (tabled_by cells es)
             naming.led)));
       }
 
-      pub naming_next : IsSoundNaming old cells es slots → IsSoundNaming next cells es healed
+      pub naming_next : IsSoundNaming old ways cells es slots → IsSoundNaming next (tuned ways) cells es healed
       naming_next naming = record {
         listed = naming.listed;
-        rooted = rw (is, recolours) (slots_healed new (occupants_of cells) old.good slots naming.rooted);
+        rooted = rw (is, heals) (slots_healed new (tuned ways) (occupants_of cells) settled small old.good slots
+            (each_anyhow old.good ways (occupants_of cells) true slots naming.rooted));
         begun = rw is (omega arith);
-        led = rw is (held_next old.number old.good new (occupants_of cells) (tabled_by cells es) naming.led);
+        apart = rw is new_apart;
+        led = rw is (held_next old.number old.good new ways (occupants_of cells) (tabled_by cells es) naming.led);
       }
 
-      pub seen_next : (pages : Pages) (last room : ℕ)
-          → seen_table next pages cells es healed last room ≡ table_begun
-          (seen_table old pages cells es slots last room) new
-      seen_next pages last room =
+      pub seen_next : Each (leads_by old.good ways (occupants_of cells) true) slots → (last room : ℕ)
+          → seen_table next (tuned ways) cells es healed last room ≡ table_begun
+          (seen_table old ways cells es slots last room) new
+      seen_next rooted last room =
           let own : nat_lt old.number (2 ^ 64 - 1) ≡ true =
           lt-ltb old.number (2 ^ 64 - 1) less in
-          ap (λ r. seen_table r pages cells es healed last room) is
-          ∙ ap (λ vs. record (seen_table (record { number = old.number + 1; good = new }) pages cells es slots last
+          ap (λ r. seen_table r (tuned ways) cells es healed last room) is
+          ∙ ap (λ vs. record (seen_table (record { number = old.number + 1; good = new })
+          (tuned ways) cells es slots last
           room) {
             slots = vs;
           })
-          (ap (map (target_by (occupants_of cells))) recolours
-          ∙ slots-healed new (occupants_of cells) slots)
+          (ap (map (target_by ways (occupants_of cells))) heals
+          ∙ slots-healed new ways (occupants_of cells) settled small old.good slots
+          (each_anyhow old.good ways (occupants_of cells) true slots rooted))
           ∙ simp own refl
 
   -- the first again, once all numbers are spent
   module _ {ds : List (Option Tabled)} (each : ds ≡ map (option_map with_nothing_done) cells) {next : Round}
       (is : next ≡ record { number = 1; good = new }) where
-    pub naming_anew : IsSoundNaming old cells es slots → IsSoundNaming next ds es healed
+    pub naming_anew : IsSoundNaming old ways cells es slots → IsSoundNaming next (tuned ways) ds es healed
     naming_anew naming = record {
-      listed = listed_all with_nothing_done (λ k. refl) cells each es old slots naming.listed;
-      rooted = rw (is, recolours, occupants-all with_nothing_done (λ k. refl) cells each es)
-          (slots_healed new (occupants_of cells) old.good slots naming.rooted);
+      listed = listed_all with_nothing_done (λ k. refl) cells each es old ways slots naming.listed;
+      rooted = rw (is, heals, occupants-all with_nothing_done (λ k. refl) cells each es)
+          (slots_healed new (tuned ways) (occupants_of cells) settled small old.good slots
+          (each_anyhow old.good ways (occupants_of cells) true slots naming.rooted));
       begun = rw is (omega arith);
+      apart = rw is new_apart;
       led = rw (
         is,
         occupants-all with_nothing_done (λ k. refl) cells each es,
         tabled_by-all with_nothing_done (λ k. refl) cells each es,
       )
-          (held_map old.number (leads_by old.good (occupants_of cells)) 1
-          (leads_by new (occupants_of cells)) with_nothing_done
-          (held_anew old.number old.good new (occupants_of cells)) (tabled_by cells es) naming.led);
+          (held_map old.number (leads_by old.good ways (occupants_of cells)) 1
+          (leads_by new (tuned ways) (occupants_of cells)) with_nothing_done
+          (held_anew old.number old.good new ways (occupants_of cells)) (tabled_by cells es) naming.led);
     }
 
-    pub seen_anew : 2 ^ 64 - 1 ≤ old.number → (pages : Pages) (last room : ℕ)
-        → seen_table next pages ds es healed last room ≡ table_begun (seen_table old pages cells es slots last room) new
-    seen_anew spent pages last room =
+    pub seen_anew : 2 ^ 64 - 1 ≤ old.number → Each (leads_by old.good ways (occupants_of cells) true) slots
+        → (last room : ℕ)
+        → seen_table next (tuned ways) ds es healed last room ≡ table_begun
+        (seen_table old ways cells es slots last room) new
+    seen_anew spent rooted last room =
         let own : nat_lt old.number (2 ^ 64 - 1) ≡ false = le-ltb old.number (2 ^ 64 - 1) spent in
-        ap (λ r. seen_table r pages ds es healed last room) is
-        ∙ ap (λ vs. record (seen_table (record { number = 1; good = new }) pages ds es slots last room) { slots = vs })
-        (ap (map (target_by (occupants_of ds))) recolours ∙ slots-healed new (occupants_of ds) slots)
-        ∙ ap (λ (t : Table). record t { round = record { number = 1; good = new } })
-        (seen_all with_nothing_done (λ k. refl) cells each es old slots pages last room (λ k. refl))
+        ap (λ r. seen_table r (tuned ways) ds es healed last room) is
+        ∙ ap (λ vs. record (seen_table (record { number = 1; good = new })
+        (tuned ways) ds es slots last room) { slots = vs })
+        (ap (λ os. map (target_by ways os) healed) (occupants-all with_nothing_done (λ k. refl) cells each es)
+        ∙ ap (map (target_by ways (occupants_of cells))) heals
+        ∙ slots-healed new ways (occupants_of cells) settled small old.good slots
+        (each_anyhow old.good ways (occupants_of cells) true slots rooted)
+        ∙ ap (λ os. map (target_by ways os) slots) (sym (occupants-all with_nothing_done (λ k. refl) cells each es)))
+        ∙ ap (λ (t : Table). record t { ways = tuned t.ways; round = record { number = 1; good = new } })
+        (seen_all with_nothing_done (λ k. refl) cells each es old ways slots last room (λ k. refl))
         ∙ simp own refl

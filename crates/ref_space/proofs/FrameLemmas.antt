@@ -25,7 +25,7 @@ place-once [] page within once = absurd (omega arith)
 place-once (p ∷ ps) zero within once = grind (arith, eq-eqb)
 place-once (p ∷ ps) (suc page) within once = grind (arith, times-at ps page, place-once ps page)
 
-frame-place : (ps : List Use) (frame : ℕ) → place_of ps frame < length ps
+pub frame-place : (ps : List Use) (frame : ℕ) → place_of ps frame < length ps
     → (use_at ps (place_of ps frame)).frame ≡ frame
 frame-place [] frame within = absurd (omega arith)
 frame-place (p ∷ ps) frame within = grind (arith, frame-place ps frame)

@@ -3,17 +3,16 @@ use Rattle.ref_space.proofs.Common.{◌≡◌, ℕ, Bool, true, false, refl, sym
 use Rattle.ref_space.proofs.Common.{Some, None, option_map, is_some, Reference, referent_of, false≢true, occupant_at}
 use Rattle.ref_space.proofs.Common.{Tabled, Each, by_number, reference_by_number, leads_by, target_by}
 use Rattle.ref_space.proofs.Common.{values_in, subst}
-use Rattle.ref_space.specs.ColouredWords.{recoloured, place_by, IsWordOf, is_coloured, colour_number}
+use Rattle.ref_space.specs.ColouredWords.{place_by, IsWordOf, is_coloured, colour_number}
 use Rattle.ref_space.specs.Naming.{IsWordOfObject, IsWordHeld}
 use Rattle.ref_space.specs.Tables.{with_healed, is_healed}
-use Rattle.ref_space.specs.declared.round.Round.{Round}
 use Rattle.ref_space.proofs.Common.{◌==◌, eq-eqb}
 use Rattle.ref_space.specs.declared.colour.Colour.{Colour}
-use Rattle.ref_space.proofs.WordLemmas.{place_by-recoloured, recoloured_good, parts_of_word}
+use Rattle.ref_space.proofs.WordLemmas.{parts_of_word}
 use Rattle.ref_space.proofs.WordLemmas.{is_word-parts_of, is_coloured-coloured, coloured-same}
 use Rattle.ref_space.proofs.Common.{◌+◌, ◌-◌, ◌*◌, ◌%◌, ◌^◌, eqb-true, slice_index_or}
 use Rattle.std.specs.Prelude.{nat_le}
-use Rattle.ref_space.proofs.NamingLemmas.{Keeps, good_word, leads_anyhow}
+use Rattle.ref_space.proofs.NamingLemmas.{Keeps, good_word}
 use Rattle.ref_space.proofs.Common.{Use}
 use Rattle.ref_space.specs.Naming.{bits_told}
 use Rattle.std.proofs.lemmas.Bool.{le-leb}
@@ -25,110 +24,180 @@ use Rattle.ref_space.specs.Pages.{Use, use_of}
 use Rattle.ref_space.specs.ColouredWords.{coloured_word, IsCell, bits_at, parts_of}
 use Rattle.ref_space.specs.Naming.{bits_told, frame_at}
 use Rattle.ref_space.proofs.WordLemmas.{parts_of-coloured}
+use Rattle.ref_space.specs.Moves.{Ways}
+use Rattle.std.proofs.Common.{length, zero, suc, ◌&&◌, ◌||◌, not, ◌≤◌}
+use Rattle.ref_space.proofs.WordLemmas.{word_is_good}
+use Rattle.ref_space.proofs.TableLemmas.{has_word, word_place}
+use Rattle.std.proofs.lemmas.Bool.{and_parts}
+use Rattle.ref_space.specs.ColouredWords.{has_colour, is_word, word_of_place}
+use Rattle.ref_space.specs.Pages.{is_chosen_place}
+use Rattle.ref_space.proofs.WayLemmas.{there_way, gone_way, old_reached, reaches}
+use Rattle.ref_space.specs.Naming.{IsSettled, healed_word, word_there, taken_way, stays_at, leads_from, way_from}
+use Rattle.ref_space.specs.Naming.{way_of, IsHeldIn}
+use Rattle.ref_space.proofs.Common.{cases_Bool}
+use Rattle.std.proofs.lemmas.Bool.{cases_Bool}
+use Rattle.std.proofs.Common.{inl, inr}
 
--- an object each of whose words got the good colour
-abbrev pub healed_by : Round → Tabled → Tabled
-healed_by round k = with_healed round.number (by_number (recoloured round.good) k)
+-- an object each of whose words was healed
+abbrev pub healed_by : (Option ℕ → Option ℕ) → ℕ → Tabled → Tabled
+healed_by heal n k = with_healed n (by_number heal k)
 
-module _ (good : Colour) (os : List (Option ℕ)) where
-  pub target-recoloured : (colour : Colour) (v : Option ℕ) → target_by os (recoloured colour v)
-      ≡ target_by os v
-  target-recoloured colour v = ap (occupant_at os) (place_by-recoloured colour v)
+some_number : (n : Option ℕ) → is_some n ≡ true → (m : ℕ) × (n ≡ Some m)
+some_number None some = absurd (false≢true some)
+some_number (Some m) some = (m, refl)
 
-  named_some : (n : Option ℕ) → is_some n ≡ true → (m : ℕ) × (n ≡ Some m)
-  named_some None some = absurd (false≢true some)
-  named_some (Some m) some = (m, refl)
+-- where an object lies there is a place
+pub some_within : (os : List (Option ℕ)) (p : ℕ) → is_some (slice_index_or os p None) ≡ true → p < length os
+some_within [] p some = absurd (false≢true some)
+some_within (o ∷ os) zero some = omega arith
+some_within (o ∷ os) (suc p) some = let rest = some_within os p some in omega (arith, rest)
 
-  -- it may be held by what is healed, in whichever colour that has to be
-  pub leads-recoloured : (old : Colour) (b : Bool) (v : Option ℕ) → leads_by old os b v ≡ true
-      → leads_by good os true (recoloured good v) ≡ true
-  leads-recoloured old b None leads = refl
-  leads-recoloured old b (Some w) leads =
-      let any : leads_by old os false (Some w) ≡ true = leads_anyhow old os b (Some w) leads in
-      let named = named_some (target_by os (Some w)) (grind arith) in
-      good_word good os named.0 (recoloured good (Some w)) (target-recoloured good (Some w) ∙ named.1)
-      (recoloured_good good w (grind arith))
+pub from_led : (good : Colour) (ways : Ways) (os : List (Option ℕ)) (b : Bool) (w : ℕ)
+    → leads_by good ways os b (Some w) ≡ true
+    → leads_from ways os (has_colour ways.last (Some w)) (place_by (Some w)) ≡ true
+from_led good ways os b w leads =
+    (and_parts (leads_from ways os (has_colour ways.last (Some w)) (place_by (Some w)))
+    (is_word (Some w) && (not (b && ways.tuned) || has_colour good (Some w))) leads).0
 
-  each-recoloured : (old : Colour) (b : Bool) (vs : List (Option ℕ)) → Each (leads_by old os b) vs
-      → Each (leads_by good os true) (map (recoloured good) vs)
-  each-recoloured old b [] each = tt
-  each-recoloured old b (v ∷ vs) each = (leads-recoloured old b v each.0, each-recoloured old b vs each.1)
+reaches_value : (ways : Ways) (os : List (Option ℕ)) (is_last : Bool) (at : Option ℕ)
+    → leads_from ways os is_last at ≡ true → is_some (occupant_at os (way_of ways os at)) ≡ true
+reaches_value ways os is_last None leads = absurd (false≢true leads)
+reaches_value ways os is_last (Some q) leads = reaches ways os is_last q leads
 
-  map-recoloured : (vs : List (Option ℕ)) → map (target_by os) (map (recoloured good) vs)
-      ≡ map (target_by os) vs
-  map-recoloured [] = refl
-  map-recoloured (v ∷ vs) =
-      ap (λ n. n ∷ map (target_by os) (map (recoloured good) vs)) (target-recoloured good v)
-      ∙ ap (λ ns. target_by os v ∷ ns) (map-recoloured vs)
+module _ (good : Colour) (ways : Ways) (os : List (Option ℕ)) (settled : IsSettled ways os)
+    (small : length os ≤ 2 ^ 17) where
+  abbrev heal : Option ℕ → Option ℕ
+  heal = healed_word good ways os
+
+  -- where it lies needn't move
+  way_stays : (is_last : Bool) (q : ℕ) → leads_from ways os is_last (Some q) ≡ true
+      → stays_at ways os (way_from ways os q) ≡ true
+  way_stays is_last q leads =
+      elim (cases_Bool (is_some (slice_index_or os q None))) [
+        | inl there ↦
+            ap (stays_at ways os) (there_way ways os q there)
+            ∙ elim (cases_Bool (is_chosen_place ways.pages.uses q)) [
+              | inl chosen ↦ absurd (false≢true (sym (settled q chosen) ∙ there))
+              | inr stays ↦ simp (there, stays) refl
+            ]
+        | inr gone ↦ ap (stays_at ways os) (gone_way ways os q gone) ∙ old_reached ways os is_last q leads gone
+      ]
+
+  stays_within : (p : ℕ) → stays_at ways os p ≡ true → is_some (slice_index_or os p None) ≡ true
+  stays_within p stays =
+      (and_parts (is_some (slice_index_or os p None)) (not (is_chosen_place ways.pages.uses p)) stays).0
+
+  -- so a word of that place may be held in its place
+  healed_there : (is_last : Bool) (at : Option ℕ) → leads_from ways os is_last at ≡ true
+      → (target_by ways os (word_there good (taken_way ways os at)) ≡ occupant_at os (way_of ways os at))
+      × (leads_by good ways os true (word_there good (taken_way ways os at)) ≡ true)
+  healed_there is_last None leads = absurd (false≢true leads)
+  healed_there is_last (Some q) leads =
+      let p : ℕ = way_from ways os q in
+      let stays = way_stays is_last q leads in
+      let some = stays_within p stays in
+      let cell : IsCell (1 + p / 64) (p % 64) = has_word small p (some_within os p some) in
+      let word : word_there good (taken_way ways os (Some q)) ≡ word_of_place good p = simp some refl in
+      let at : place_by (word_of_place good p) ≡ Some p = word_place good p cell in (
+        ap (target_by ways os) word ∙ ap (λ o. occupant_at os (way_of ways os o)) at
+            ∙ ap (λ r. slice_index_or os r None) (there_way ways os p some),
+        ap (leads_by good ways os true) word
+            ∙ good_word good ways os p (word_of_place good p) at stays (word_is_good good (1 + p / 64) (p % 64) cell),
+      )
+
+  pub healed_held : (old : Colour) (b : Bool) (v : Option ℕ) → leads_by old ways os b v ≡ true
+      → (target_by ways os (heal v) ≡ target_by ways os v) × (leads_by good ways os true (heal v) ≡ true)
+  healed_held old b None leads = (refl, refl)
+  healed_held old b (Some w) leads =
+      healed_there (has_colour ways.last (Some w)) (place_by (Some w)) (from_led old ways os b w leads)
+
+  each-healed : (old : Colour) (b : Bool) (vs : List (Option ℕ)) → Each (leads_by old ways os b) vs
+      → Each (leads_by good ways os true) (map heal vs)
+  each-healed old b [] each = tt
+  each-healed old b (v ∷ vs) each = ((healed_held old b v each.0).1, each-healed old b vs each.1)
+
+  map-healed : (old : Colour) (b : Bool) (vs : List (Option ℕ)) → Each (leads_by old ways os b) vs
+      → map (target_by ways os) (map heal vs) ≡ map (target_by ways os) vs
+  map-healed old b [] each = refl
+  map-healed old b (v ∷ vs) each =
+      ap (λ n. n ∷ map (target_by ways os) (map heal vs)) (healed_held old b v each.0).0
+      ∙ ap (λ ns. target_by ways os v ∷ ns) (map-healed old b vs each.1)
 
   -- slots that are healed
-  pub slots_healed : (old : Colour) (slots : List (Option ℕ)) → Each (leads_by old os true) slots
-      → Each (leads_by good os true) (map (recoloured good) slots)
-  slots_healed old slots each = each-recoloured old true slots each
+  pub slots_healed : (old : Colour) (slots : List (Option ℕ)) → Each (leads_by old ways os false) slots
+      → Each (leads_by good ways os true) (map heal slots)
+  slots_healed old slots each = each-healed old false slots each
 
-  pub slots-healed : (slots : List (Option ℕ)) → map (target_by os) (map (recoloured good) slots)
-      ≡ map (target_by os) slots
-  slots-healed slots = map-recoloured slots
+  pub slots-healed : (old : Colour) (slots : List (Option ℕ)) → Each (leads_by old ways os false) slots
+      → map (target_by ways os) (map heal slots) ≡ map (target_by ways os) slots
+  slots-healed old slots each = map-healed old false slots each
 
   -- an object that is healed
-  referent-recoloured : (r : Option Reference)
-      → referent_of (option_map (reference_by_number (recoloured good)) r) ≡ recoloured good (referent_of r)
-  referent-recoloured None = refl
-  referent-recoloured (Some r) = refl
+  referent-healed : (r : Option Reference)
+      → referent_of (option_map (reference_by_number heal) r) ≡ heal (referent_of r)
+  referent-healed None = refl
+  referent-healed (Some r) = refl
 
-  pub heal_leads : (n : ℕ) → Keeps n (leads_by good os) (healed_by (record { number = n; good = good }))
+  pub heal_leads : (n : ℕ) → Keeps n (leads_by good ways os) (healed_by heal n)
   heal_leads n k held =
       let own : (n == n) ≡ true = eq-eqb n n refl in (
         held.0,
         omega arith,
-        subst (λ b. Each (leads_by good os b) (values_in (healed_by (record { number = n; good = good }) k)))
+        subst (λ b. Each (leads_by good ways os b) (values_in (healed_by heal n k)))
             (sym own) (
-              rw (referent-recoloured k.object.reference)
-                  (leads-recoloured good (is_healed n k) (referent_of k.object.reference) held.2.0),
-              each-recoloured good (is_healed n k) k.object.fields held.2.1,
+              rw (referent-healed k.object.reference)
+                  (healed_held good (is_healed n k) (referent_of k.object.reference) held.2.0).1,
+              each-healed good (is_healed n k) k.object.fields held.2.1,
             ),
       )
 
-  reference-recoloured : (r : Option Reference)
-      → option_map (reference_by_number (target_by os)) (option_map (reference_by_number (recoloured good)) r)
-      ≡ option_map (reference_by_number (target_by os)) r
-  reference-recoloured None = refl
-  reference-recoloured (Some r) =
-      ap (λ (n : Option ℕ). Some (record r { referent = n })) (target-recoloured good r.referent)
+  reference-healed : (old : Colour) (b : Bool) (r : Option Reference) → leads_by old ways os b (referent_of r) ≡ true
+      → option_map (reference_by_number (target_by ways os)) (option_map (reference_by_number heal) r)
+      ≡ option_map (reference_by_number (target_by ways os)) r
+  reference-healed old b None leads = refl
+  reference-healed old b (Some r) leads =
+      ap (λ (n : Option ℕ). Some (record r { referent = n })) (healed_held old b r.referent leads).0
 
-  pub heal-named : (n : ℕ) (k : Tabled)
-      → by_number (target_by os) (healed_by (record { number = n; good = good }) k)
-      ≡ with_healed n (by_number (target_by os) k)
-  heal-named n k =
+  pub heal-named : (n : ℕ) (k : Tabled) → IsHeldIn n (leads_by good ways os) k
+      → by_number (target_by ways os) (healed_by heal n k) ≡ with_healed n (by_number (target_by ways os) k)
+  heal-named n k held =
       λ i. record k {
         object = record k.object {
-          fields = map-recoloured k.object.fields i;
-          reference = reference-recoloured k.object.reference i;
+          fields = map-healed good (is_healed n k) k.object.fields held.2.1 i;
+          reference = reference-healed good (is_healed n k) k.object.reference held.2.0 i;
         };
         healed_in = n;
       }
 
 -- ---- the bits of what is held
 
--- each frame in which an object lies has a page, whose address is that of a word
-abbrev pub AreAddressed : List Use → List (Option ℕ) → Type 0
-AreAddressed pages os =
-    (frame cell : ℕ) → is_some (slice_index_or os (64 * frame + cell) None) ≡ true → cell < 64
-    → IsCell (use_of pages frame).address cell
+-- each frame has a page, whose address is that of a word; and what leads to an object is a place of one of these
+pub record AreAddressed (ways : Ways) (os : List (Option ℕ)) : Type 0 where
+  pub address : (frame cell : ℕ) → frame < length ways.pages.uses → cell < 64
+      → IsCell (use_of ways.pages.uses frame).address cell
+  pub inside : (is_last : Bool) (q : ℕ) → leads_from ways os is_last (Some q) ≡ true
+      → q / 64 < length ways.pages.uses
 
-word_of_object : (good : Colour) (pages : List Use) (os : List (Option ℕ)) (b : Bool) (n word : ℕ)
-    (own : Colour × ℕ × ℕ) → AreAddressed pages os → IsWordOf word own → target_by os (Some word) ≡ Some n
-    → (b ≡ true → is_coloured word good ≡ true) → IsWordOfObject good pages os b n (bits_told pages (Some word))
-word_of_object good pages os b n word (colour, page, cell) addressed of named coloured =
+word_of_object : (good : Colour) (ways : Ways) (os : List (Option ℕ)) (b : Bool) (n word : ℕ)
+    (own : Colour × ℕ × ℕ) → AreAddressed ways os → IsWordOf word own
+    → leads_from ways os (has_colour ways.last (Some word)) (place_by (Some word)) ≡ true
+    → target_by ways os (Some word) ≡ Some n
+    → ((b && ways.tuned) ≡ true → is_coloured word good ≡ true)
+    → IsWordOfObject good ways os b n (bits_told ways.pages.uses (Some word))
+word_of_object good ways os b n word (colour, page, cell) addressed of leads named coloured =
+    let pages : List Use = ways.pages.uses in
     let rest : word % 2 ^ 62 ≡ page * 64 + cell = omega (arith, of.1, of.0.1, of.0.2) in
     let place : word % 2 ^ 62 - 64 ≡ 64 * (page - 1) + cell = omega (arith, rest, of.0.0) in
     let behind : nat_le 64 (word % 2 ^ 62) ≡ true = le-leb 64 (word % 2 ^ 62) (omega (arith, rest, of.0.0)) in
     let at : place_by (Some word) ≡ Some (64 * (page - 1) + cell) = simp behind (ap Some place) in
-    let lies : slice_index_or os (64 * (page - 1) + cell) None ≡ Some n =
-    sym (ap (occupant_at os) at) ∙ named in
-    let fits = addressed (page - 1) cell (ap is_some lies) of.0.2 in
-    let frame : frame_at (place_by (Some word)) ≡ page - 1 =
-    ap frame_at at ∙ (let own : (64 * (page - 1) + cell) / 64 ≡ page - 1 = omega (arith, of.0.2) in own) in
+    let lies : slice_index_or os (way_from ways os (64 * (page - 1) + cell)) None ≡ Some n =
+    sym (ap (λ o. occupant_at os (way_of ways os o)) at) ∙ named in
+    let whose : (64 * (page - 1) + cell) / 64 ≡ page - 1 = omega (arith, of.0.2) in
+    let inside : page - 1 < length pages =
+    (let own = addressed.inside (has_colour ways.last (Some word)) (64 * (page - 1) + cell)
+    (ap (leads_from ways os (has_colour ways.last (Some word))) (sym at) ∙ leads) in omega (arith, own, whose)) in
+    let fits = addressed.address (page - 1) cell inside of.0.2 in
+    let frame : frame_at (place_by (Some word)) ≡ page - 1 = ap frame_at at ∙ whose in
     let top : word / 2 ^ 62 ≡ colour_number colour = omega (arith, of.1, of.0.1, of.0.2) in
     let low : word % 64 ≡ cell = omega (arith, of.1, of.0.2) in
     let bits : bits_told pages (Some word) ≡ coloured_word colour (use_of pages (page - 1)).address cell =
@@ -152,14 +221,15 @@ word_of_object good pages os b n word (colour, page, cell) addressed of named co
         (coloured-same colour good page page cell cell of.0 of.0
         (ap (λ c. c * 2 ^ 62 + page * 64 + cell) numbers)).0
 
-pub word_held : (good : Colour) (pages : List Use) (os : List (Option ℕ)) (b : Bool) (v : Option ℕ) (bits : ℕ)
-    → AreAddressed pages os → bits ≡ bits_told pages v → leads_by good os b v ≡ true
-    → IsWordHeld good pages os b (target_by os v) bits
-word_held good pages os b None bits addressed own leads = own
-word_held good pages os b (Some w) bits addressed own leads =
-    let any : leads_by good os false (Some w) ≡ true = leads_anyhow good os b (Some w) leads in
-    let named = named_some good os (target_by os (Some w)) (grind arith) in
+pub word_held : (good : Colour) (ways : Ways) (os : List (Option ℕ)) (b : Bool) (v : Option ℕ) (bits : ℕ)
+    → AreAddressed ways os → bits ≡ bits_told ways.pages.uses v → leads_by good ways os b v ≡ true
+    → IsWordHeld good ways os b (target_by ways os v) bits
+word_held good ways os b None bits addressed own leads = own
+word_held good ways os b (Some w) bits addressed own leads =
+    let from = from_led good ways os b w leads in
+    let named = some_number (target_by ways os (Some w))
+    (reaches_value ways os (has_colour ways.last (Some w)) (place_by (Some w)) from) in
     let parts = parts_of_word w (grind arith) in
     rw (named.1, own)
-    (word_of_object good pages os b named.0 w parts.0 addressed (is_word-parts_of w parts.0 parts.1) named.1
+    (word_of_object good ways os b named.0 w parts.0 addressed (is_word-parts_of w parts.0 parts.1) from named.1
     (λ has_to. grind arith))

@@ -6,7 +6,7 @@ use Rattle.ref_base.specs.declared.fault.Fault.TheVariants.{NoRoom, AddressesSpe
 use Rattle.ref_space.specs.Pages.{Use, Pages, place_of, all_free, next_place, next_cell}
 use Rattle.ref_space.specs.Pages.{is_sparse, sparse_count, sparse_cells, choosing, chosen_frames}
 use Rattle.ref_space.specs.Pages.{choose_refusal, choice, after_choice, renumbered, renumbered_uses}
-use Rattle.ref_space.specs.Pages.{AreBetween, AreEmptied, AreFramed, AreUnmoved, IsFirstFree, IsRenumbered}
+use Rattle.ref_space.specs.Pages.{AreBetween, AreEmptied, AreFramed, IsFirstFree, IsRenumbered}
 use Rattle.ref_space.specs.PageViews.{AreMapped}
 
 -- a page whose first cells are taken, so many
@@ -108,12 +108,6 @@ a_list_of_places (suc (suc (suc page))) below = absurd (omega (arith, below))
 
 no_other_list : ¬ (AreMapped 3 (renumbered_uses 8 emptied_three) (0 ∷ 1 ∷ 2 ∷ []))
 no_other_list mapped = let first : 1 ≡ 0 = mapped 0 (omega arith) in absurd (omega (arith, first))
-
-what_moved_is_not_as_before : ¬ (AreUnmoved 0 (renumbered_uses 8 emptied_three))
-what_moved_is_not_as_before unmoved = let first : 1 ≡ 0 = unmoved.0 in absurd (omega (arith, first))
-
-what_is_chosen_is_not_either : ¬ (AreUnmoved 0 chosen_three)
-what_is_chosen_is_not_either unmoved = true≢false unmoved.1
 
 a_page_with_taken_cells_is_not_emptied : ¬ (AreEmptied chosen_three)
 a_page_with_taken_cells_is_not_emptied emptied =

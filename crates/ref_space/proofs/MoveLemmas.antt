@@ -1,5 +1,7 @@
 -- Which pages are chosen, and what a renumbering makes of them.
 use Rattle.std.proofs.Common.{◌≡◌, ℕ, zero, suc, ◌+◌, ◌*◌, ◌<◌, ◌≤◌, Bool, true, false, refl, sym, ap, ◌∙◌, arith}
+use Rattle.ref_space.specs.Pages.{with_cell, use_at}
+use Rattle.std.proofs.lemmas.Bool.{false≢true}
 use Rattle.std.proofs.Common.{List, [], ◌∷◌, ◌++◌, length, get_or, take, drop, set, nat_lt, if◌then◌else◌}
 use Rattle.std.proofs.lemmas.List.{append-nil, append_assoc, take_more, map_more, length-take-le, drop_more, length-map}
 use Rattle.std.proofs.lemmas.List.{get_or-append_right}
@@ -34,6 +36,18 @@ no_frames (f ∷ fs) none = grind arith
 
 pub none_chosen : (ps : List Use) → has_chosen ps ≡ false → chosen_frames ps ≡ []
 none_chosen ps none = no_frames (chosen_frames ps) none
+
+-- a cell that is taken or given back changes none
+pub chosen-with : (ps : List Use) (page cell : ℕ) (is_free : Bool)
+    → chosen_frames (with_cell ps page cell is_free) ≡ chosen_frames ps
+chosen-with [] page cell is_free = refl
+chosen-with (p ∷ ps) zero cell is_free = refl
+chosen-with (p ∷ ps) (suc page) cell is_free = grind (arith, chosen-with ps page cell is_free)
+
+pub some_chosen : (ps : List Use) (page : ℕ) → (use_at ps page).chosen ≡ true → has_chosen ps ≡ true
+some_chosen [] page chosen = absurd (false≢true chosen)
+some_chosen (p ∷ ps) zero chosen = grind arith
+some_chosen (p ∷ ps) (suc page) chosen = grind (arith, some_chosen ps page chosen)
 
 -- where none is chosen all are open
 pub opened_all : (ps : List Use) → chosen_frames ps ≡ [] → opened ps ≡ ps

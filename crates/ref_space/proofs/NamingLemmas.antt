@@ -1,19 +1,22 @@
 -- Objects by number: what is read of them, and what becomes of the names of words as a cell is written.
+use Rattle.ref_space.specs.Pages.{is_chosen_place}
 use Rattle.ref_space.proofs.Common.{◌≡◌, ℕ, zero, suc, Bool, true, false, not, ◌==◌, ◌&&◌, refl, sym, ◌∙◌, ap, arith}
 use Rattle.ref_space.proofs.Common.{List, []}
 use Rattle.ref_space.proofs.Common.{◌∷◌, ◌++◌, map, set, Option, Some, None, slice_index_or, is_some, option_map}
-use Rattle.ref_space.proofs.Common.{false≢true, get_or-set_other, has, present, Tabled, tabled_at, first_where}
+use Rattle.ref_space.proofs.Common.{has, present, Tabled, tabled_at, first_where}
 use Rattle.ref_space.proofs.Common.{numbers_by, changed_tabled, without_tabled, values_in, NoneNames, Each, EachHeld}
-use Rattle.ref_space.proofs.Common.{by_number, occupant_at, reference_by_number, tabled_if, Reference, referent_of}
+use Rattle.ref_space.proofs.Common.{by_number, reference_by_number, tabled_if, Reference, referent_of}
 use Rattle.ref_space.specs.Tables.{is_number, is_healed, AllDated}
 use Rattle.ref_space.specs.Naming.{IsHeldIn}
 use Rattle.ref_space.proofs.Common.{cases_Bool, inl, inr}
-use Rattle.ref_space.proofs.Common.{leads_by, target_by}
-use Rattle.ref_space.proofs.WordLemmas.{IsGood, good_leads}
+use Rattle.ref_space.proofs.Common.{leads_by}
+use Rattle.ref_space.proofs.WordLemmas.{IsGood}
 use Rattle.ref_space.specs.declared.colour.Colour.{Colour}
+use Rattle.ref_space.specs.Moves.{Ways}
+use Rattle.ref_space.specs.ColouredWords.{place_by, has_colour}
+use Rattle.ref_space.specs.Naming.{stays_at, leads_from}
 use Rattle.std.specs.Bool.{OnTrue}
 use Rattle.std.specs.Option.{is_none}
-use Rattle.ref_space.specs.ColouredWords.{has_colour}
 
 -- ---- what is read
 
@@ -40,11 +43,23 @@ module _ (name : Option ℕ → Option ℕ) where
 
   -- ---- what is written
 
+  pub changed-named_at : (f h : Tabled → Tabled) → ((k : Tabled) → (f k).object.no ≡ k.object.no) → (ks : List Tabled)
+      (n : ℕ) → ((k : Tabled) → tabled_at ks n ≡ Some k → by_number name (f k) ≡ h (by_number name k))
+      → map (by_number name) (changed_tabled ks n f) ≡ changed_tabled (map (by_number name) ks) n h
+  changed-named_at f h keeps [] n same = refl
+  changed-named_at f h keeps (k ∷ ks) n same =
+      elim (cases_Bool (k.object.no == n)) [
+        | inl own ↦ simp own (ap (λ l. l ∷ map (by_number name) ks) (same k (simp own refl)))
+        | inr other ↦
+            simp other
+            (ap (λ ls. by_number name k ∷ ls)
+            (changed-named_at f h keeps ks n (λ l at. same l (simp other at))))
+      ]
+
   pub changed-named : (f h : Tabled → Tabled) → ((k : Tabled) → (f k).object.no ≡ k.object.no)
       → ((k : Tabled) → by_number name (f k) ≡ h (by_number name k)) → (ks : List Tabled) (n : ℕ)
       → map (by_number name) (changed_tabled ks n f) ≡ changed_tabled (map (by_number name) ks) n h
-  changed-named f h keeps same [] n = refl
-  changed-named f h keeps same (k ∷ ks) n = grind (arith, same, changed-named f h keeps same ks n)
+  changed-named f h keeps same ks n = changed-named_at f h keeps ks n (λ k at. same k)
 
   pub without-named : (ks : List Tabled) (n : ℕ)
       → map (by_number name) (without_tabled ks n) ≡ without_tabled (map (by_number name) ks) n
@@ -144,63 +159,69 @@ module _ (r : ℕ) (p : Bool → Option ℕ → Bool) (f h : Option ℕ → Opti
       ap (λ l. l ∷ map (by_number f) ks) (object_same k held.0.2)
       ∙ ap (λ ls. by_number h k ∷ ls) (named_same ks held.1)
 
--- a word that leads to an object leads there still where another cell gets one
-pub taken_at : (os : List (Option ℕ)) (p : ℕ) (new : Option ℕ) (place : Option ℕ) → slice_index_or os p None ≡ None
-    → is_some (occupant_at os place) ≡ true → occupant_at (set os p new) place ≡ occupant_at os place
-taken_at os p new None none led = absurd (false≢true led)
-taken_at os p new (Some q) none led = grind (arith, get_or-set_other)
-
--- and one that doesn't lead to the object that goes
-pub given_at : (os : List (Option ℕ)) (p n : ℕ) (new : Option ℕ) (place : Option ℕ)
-    → slice_index_or os p None ≡ Some n → is_number (occupant_at os place) n ≡ false
-    → occupant_at (set os p new) place ≡ occupant_at os place
-given_at os p n new None own other = refl
-given_at os p n new (Some q) own other = grind (arith, get_or-set_other)
-
 -- ---- what has to have the good colour
 
-module _ (good : Colour) (os : List (Option ℕ)) where
+module _ (good : Colour) (ways : Ways) (os : List (Option ℕ)) where
   -- a word of the good colour may stand anywhere, and each word where none has to have it
-  pub good_anywhere : (b : Bool) (v : Option ℕ) → leads_by good os true v ≡ true
-      → leads_by good os b v ≡ true
+  pub good_anywhere : (b : Bool) (v : Option ℕ) → leads_by good ways os true v ≡ true
+      → leads_by good ways os b v ≡ true
   good_anywhere true v leads = leads
   good_anywhere false None leads = refl
   good_anywhere false (Some w) leads = grind arith
 
   -- and each that has it is healed, and null is
-  pub coloured_leads : (v : Option ℕ) → leads_by good os false v ≡ true → has_colour good v ≡ true
-      → leads_by good os true v ≡ true
+  pub coloured_leads : (v : Option ℕ) → leads_by good ways os false v ≡ true → has_colour good v ≡ true
+      → leads_by good ways os true v ≡ true
   coloured_leads None leads colour = refl
   coloured_leads (Some w) leads colour = grind arith
 
-  pub null_leads : (v : Option ℕ) → OnTrue (is_none v) (leads_by good os true v ≡ true)
+  pub null_leads : (v : Option ℕ) → OnTrue (is_none v) (leads_by good ways os true v ≡ true)
   null_leads None = refl
   null_leads (Some w) = tt
 
-  pub good_word : (n : ℕ) (v : Option ℕ) → target_by os v ≡ Some n → IsGood good v
-      → leads_by good os true v ≡ true
-  good_word n v named is = rw named (good_leads good v is)
+  -- a word of the good colour of a place at which an object lies that needn't move
+  pub good_word : (p : ℕ) (v : Option ℕ) → place_by v ≡ Some p → stays_at ways os p ≡ true → IsGood good v
+      → leads_by good ways os true v ≡ true
+  good_word p None at stays is = refl
+  good_word p (Some w) at stays is =
+      let from : leads_from ways os (has_colour ways.last (Some w)) (place_by (Some w)) ≡ true =
+      ap (leads_from ways os (has_colour ways.last (Some w))) at ∙ simp stays refl in
+      let word = is.word in
+      let coloured = is.coloured in
+      grind arith
 
-  pub leads_anyhow : (b : Bool) (v : Option ℕ) → leads_by good os b v ≡ true
-      → leads_by good os false v ≡ true
+  -- or a word from before, where one lies that is still to move
+  pub unmoved_word : (p : ℕ) (v : Option ℕ) → place_by v ≡ Some p → is_chosen_place ways.pages.uses p ≡ true
+      → is_some (slice_index_or os p None) ≡ true → ways.tuned ≡ false → IsGood ways.last v
+      → leads_by good ways os true v ≡ true
+  unmoved_word p None at leaves lies untuned is = refl
+  unmoved_word p (Some w) at leaves lies untuned is =
+      let from : leads_from ways os (has_colour ways.last (Some w)) (place_by (Some w)) ≡ true =
+      ap (leads_from ways os (has_colour ways.last (Some w))) at
+      ∙ (let coloured = is.coloured in simp (coloured, leaves, lies) refl) in
+      let word = is.word in
+      grind arith
+
+  pub leads_anyhow : (b : Bool) (v : Option ℕ) → leads_by good ways os b v ≡ true
+      → leads_by good ways os false v ≡ true
   leads_anyhow false v leads = leads
   leads_anyhow true v leads = good_anywhere false v leads
 
-  pub each_anyhow : (b : Bool) (vs : List (Option ℕ)) → Each (leads_by good os b) vs
-      → Each (leads_by good os false) vs
+  pub each_anyhow : (b : Bool) (vs : List (Option ℕ)) → Each (leads_by good ways os b) vs
+      → Each (leads_by good ways os false) vs
   each_anyhow b [] each = tt
   each_anyhow b (v ∷ vs) each = (leads_anyhow b v each.0, each_anyhow b vs each.1)
 
 -- where none has to have the good colour, it is all the same which one that is
-module _ (old new : Colour) (os : List (Option ℕ)) where
-  in_none : (v : Option ℕ) → leads_by old os false v ≡ true → leads_by new os false v ≡ true
+module _ (old new : Colour) (ways : Ways) (os : List (Option ℕ)) where
+  in_none : (v : Option ℕ) → leads_by old ways os false v ≡ true → leads_by new ways os false v ≡ true
   in_none None leads = leads
   in_none (Some w) leads = leads
 
-  pub each_in_none : (b : Bool) (vs : List (Option ℕ)) → Each (leads_by old os b) vs
-      → Each (leads_by new os false) vs
+  pub each_in_none : (b : Bool) (vs : List (Option ℕ)) → Each (leads_by old ways os b) vs
+      → Each (leads_by new ways os false) vs
   each_in_none b [] each = tt
-  each_in_none b (v ∷ vs) each = (in_none v (leads_anyhow old os b v each.0), each_in_none b vs each.1)
+  each_in_none b (v ∷ vs) each = (in_none v (leads_anyhow old ways os b v each.0), each_in_none b vs each.1)
 
 -- ---- what nothing names
 

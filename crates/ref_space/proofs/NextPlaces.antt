@@ -5,7 +5,8 @@ use Rattle.std.proofs.lemmas.Bool.{true≢false, false≢true}
 use Rattle.std.proofs.lemmas.List.{get_or-set_same, get_or-set_other}
 use Rattle.std.specs.Option.{option_map}
 use Rattle.ref_space.specs.Bits.{first_set, any_set}
-use Rattle.ref_space.specs.Pages.{Use, use_at, is_free_at, is_open_at, with_cell, with_free, has_open_cell, page_later, next_place}
+use Rattle.ref_space.specs.Pages.{Use, use_at, is_free_at, is_open_at, with_cell, with_free, has_open_cell, page_later}
+use Rattle.ref_space.specs.Pages.{next_place}
 use Rattle.ref_space.specs.Pages.{AreWhole, IsFirstFree, IsNextPlace}
 
 -- ---- one page

@@ -1,9 +1,9 @@
 -- Where the next object is placed at worked pages, and where it isn't. Bitmaps of two cells stand for those of 64.
-use Rattle.std.proofs.Common.{◌≡◌, ℕ, Bool, true, false, List, [], ◌∷◌, length, Some, None, refl, sym, ap, arith}
+use Rattle.std.proofs.Common.{◌≡◌, ℕ, true, false, List, [], ◌∷◌, Some, None, refl, sym, ap, arith}
 use Rattle.std.proofs.lemmas.Bool.{true≢false}
 use Rattle.std.proofs.lemmas.Option.{same_Some}
 use Rattle.ref_space.specs.Bits.{bits, first_set}
-use Rattle.ref_space.specs.Pages.{Use, use_at, all_free, is_free_at, free_in, fresh_pages, with_cell, next_place}
+use Rattle.ref_space.specs.Pages.{Use, use_at, all_free, is_free_at, fresh_pages, with_cell, next_place}
 use Rattle.ref_space.specs.Pages.{after_placing, AreWhole, IsFirstFree, IsNextPlace, taken_of, Packed}
 
 -- ---- bitmaps
@@ -67,13 +67,6 @@ and_is_the_next_place = refl
 
 a_cell_that_is_not_there_is_not_free : is_free_at three 3 0 ≡ false
 a_cell_that_is_not_there_is_not_free = refl
-
-they_are_free_page_by_page : free_in three ≡ false ∷ false ∷ false ∷ true ∷ true ∷ true ∷ []
-they_are_free_page_by_page = refl
-
-a_taken_cell_is_not_left_out : ¬ (free_in (half_page ∷ []) ≡ true ∷ [])
-a_taken_cell_is_not_left_out is =
-    let sizes : 2 ≡ 1 = ap (λ (bs : List Bool). length bs) is in absurd (omega (arith, sizes))
 
 -- ---- counts
 

@@ -10,6 +10,10 @@ use Rattle.ref_space.proofs.Common.{tabled_if, place_by, is_some, ap, sym, ◌�
 use Rattle.std.proofs.Math.ListN.{get_or-map}
 use Rattle.std.proofs.lemmas.List.{get_or_past}
 use Rattle.ref_space.proofs.IndexLemmas.{place_in-none, place_in-at, place_in-past}
+use Rattle.ref_space.specs.Places.{moved_place}
+use Rattle.ref_space.specs.Naming.{way_of}
+use Rattle.ref_space.specs.Moves.{Ways, forward_of}
+use Rattle.ref_space.specs.Naming.{taken_way, way_from}
 
 -- ---- one cell
 
@@ -184,9 +188,32 @@ named-at : (cells : List (Option Tabled)) (place : Option ℕ)
 named-at cells None = refl
 named-at cells (Some p) = get_or-map occupant_in cells p None
 
-pub named-cell : (cells : List (Option Tabled)) (v : Option ℕ)
-    → target_by (occupants_of cells) v ≡ occupant_in (cell_of_word cells v)
-named-cell cells v = named-at cells (place_by v)
+some-occupant : (c : Option Tabled) → is_some (occupant_in c) ≡ is_some c
+some-occupant None = refl
+some-occupant (Some k) = refl
+
+-- the cells tell where what a place leads to lies, as the numbers of their objects do
+pub moved-way : (ways : Ways) (cells : List (Option Tabled)) (place : Option ℕ)
+    → way_of ways (occupants_of cells) place ≡ moved_place cells ways.forwards place
+moved-way ways cells None = refl
+moved-way ways cells (Some p) =
+    ap (λ b. Some (if b then p else forward_of ways.forwards p))
+    (ap is_some (get_or-map occupant_in cells p None) ∙ some-occupant (cell_at cells p))
+
+pub taken-way : (ways : Ways) (cells : List (Option Tabled)) (place : Option ℕ)
+    → taken_way ways (occupants_of cells) place ≡ place_if_taken cells (moved_place cells ways.forwards place)
+taken-way ways cells None = refl
+taken-way ways cells (Some p) =
+    ap (λ b. if b then Some (way_from ways (occupants_of cells) p) else None)
+    (ap is_some (get_or-map occupant_in cells (way_from ways (occupants_of cells) p) None)
+    ∙ some-occupant (cell_at cells (way_from ways (occupants_of cells) p)))
+    ∙ ap (place_if_taken cells) (moved-way ways cells (Some p))
+
+pub named-cell : (ways : Ways) (cells : List (Option Tabled)) (v : Option ℕ)
+    → target_by ways (occupants_of cells) v ≡ occupant_in (cell_of_word cells ways.forwards v)
+named-cell ways cells v =
+    ap (occupant_at (occupants_of cells)) (moved-way ways cells (place_by v))
+    ∙ named-at cells (moved_place cells ways.forwards (place_by v))
 
 -- a word leads to the object that its cell holds
 pub record LeadsTo (cells : List (Option Tabled)) (es : List Entry) (place : Option ℕ) (p : ℕ) : Type 0 where

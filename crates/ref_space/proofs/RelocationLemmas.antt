@@ -58,19 +58,19 @@ packed_all ps c (suc k) whole few fits packed =
 
 -- ---- what a choice takes out
 
-taken_split : (ps : List Use) → chosen_frames ps ≡ []
+pub taken_split : (ps : List Use) → chosen_frames ps ≡ []
     → taken_of (opened (choosing ps)) + sparse_cells ps ≡ taken_of ps
 taken_split [] none = refl
 taken_split (p ∷ ps) none = grind (arith, sum_by-cons taken_if_sparse p ps, taken_split ps)
 
-pages_split : (ps : List Use) → chosen_frames ps ≡ []
+pub pages_split : (ps : List Use) → chosen_frames ps ≡ []
     → length (opened (choosing ps)) + sparse_count ps ≡ length ps
 pages_split [] none = refl
 pages_split (p ∷ ps) none =
     grind (arith, sum_by-cons (λ (q : Use). cond (is_sparse q) 1 0) p ps, pages_split ps)
 
 -- a sparse page has taken cells
-few_sparse : (c : ℕ) (ps : List Use) → Packed c ps → sparse_count ps ≤ c
+pub few_sparse : (c : ℕ) (ps : List Use) → Packed c ps → sparse_count ps ≤ c
 few_sparse c [] packed = omega arith
 few_sparse zero (p ∷ ps) packed =
     let rest = few_sparse zero ps packed.1 in
@@ -99,7 +99,7 @@ packed-more c [] packed = tt
 packed-more zero (p ∷ ps) packed = packed.1
 packed-more (suc c) (p ∷ ps) packed = packed-more c ps packed
 
-packed-chosen : (c : ℕ) (ps : List Use) → chosen_frames ps ≡ [] → Packed c ps → Packed c (opened (choosing ps))
+pub packed-chosen : (c : ℕ) (ps : List Use) → chosen_frames ps ≡ [] → Packed c ps → Packed c (opened (choosing ps))
 packed-chosen c [] none packed = tt
 packed-chosen zero (p ∷ ps) none packed = grind (arith, packed-chosen zero ps)
 packed-chosen (suc c) (p ∷ ps) none packed =
@@ -153,22 +153,22 @@ use_of-behind [] qs frame none = refl
 use_of-behind (p ∷ ps) qs frame none = grind (arith, use_of-cons p (ps ++ qs) frame, use_of-behind ps qs frame)
 
 -- an open one stays in front
-record StaysOpen (ps : List Use) (frame : ℕ) : Type 0 where
+pub record StaysOpen (ps : List Use) (frame : ℕ) : Type 0 where
   pub same : use_of (opened ps) frame ≡ use_of ps frame
   pub there : 0 < times_framed (opened ps) frame
 
-stays_open : (ps : List Use) (frame : ℕ) → times_framed ps frame ≡ 1 → (use_of ps frame).chosen ≡ false
+pub stays_open : (ps : List Use) (frame : ℕ) → times_framed ps frame ≡ 1 → (use_of ps frame).chosen ≡ false
     → StaysOpen ps frame
 stays_open [] frame once open_page = absurd (omega (arith, once))
 stays_open (p ∷ ps) frame once open_page =
     grind (arith, use_of-cons p ps frame, use_of-cons p (opened ps) frame, stays_open ps frame)
 
 -- a chosen one goes behind
-record GoesBehind (ps : List Use) (frame : ℕ) : Type 0 where
+pub record GoesBehind (ps : List Use) (frame : ℕ) : Type 0 where
   pub gone : times_framed (opened ps) frame ≡ 0
   pub there : 0 < times_in (chosen_frames ps) frame
 
-goes_behind : (ps : List Use) (frame : ℕ) → times_framed ps frame ≡ 1 → (use_of ps frame).chosen ≡ true
+pub goes_behind : (ps : List Use) (frame : ℕ) → times_framed ps frame ≡ 1 → (use_of ps frame).chosen ≡ true
     → GoesBehind ps frame
 goes_behind [] frame once chosen = absurd (omega (arith, once))
 goes_behind (p ∷ ps) frame once chosen =
@@ -193,7 +193,8 @@ empty_of : (ps : List Use) (frame : ℕ) → AreEmptied ps → (use_of ps frame)
 empty_of [] frame emptied chosen = refl
 empty_of (p ∷ ps) frame emptied chosen = grind (arith, use_of-cons p ps frame, emptied.0, empty_of ps frame emptied.1)
 
-whole_of : (ps : List Use) (frame : ℕ) → 0 < times_framed ps frame → AreWhole ps → length (use_of ps frame).free ≡ 64
+pub whole_of : (ps : List Use) (frame : ℕ) → 0 < times_framed ps frame → AreWhole ps
+    → length (use_of ps frame).free ≡ 64
 whole_of [] frame some whole = absurd (omega (arith, some))
 whole_of (p ∷ ps) frame some whole = grind (arith, use_of-cons p ps frame, whole.0, whole_of ps frame)
 

@@ -33,7 +33,7 @@ count_given (false ∷ bs) zero within clear = refl
 count_given (true ∷ bs) (suc i) within clear = count_given bs i (omega arith) clear
 count_given (false ∷ bs) (suc i) within clear = ap suc (count_given bs i (omega arith) clear)
 
-count_given_most : (bs : List Bool) (i : ℕ) → count_clear (set bs i true) ≤ count_clear bs
+pub count_given_most : (bs : List Bool) (i : ℕ) → count_clear (set bs i true) ≤ count_clear bs
 count_given_most [] i = omega arith
 count_given_most (true ∷ bs) zero = omega arith
 count_given_most (false ∷ bs) zero = omega arith
@@ -203,3 +203,33 @@ packed_fresh c first frame count =
     subst (Packed c)
     (sym (opened_all (fresh_pages first frame count) (chosen-fresh first frame count)))
     (packed_new c first frame count)
+
+-- open pages don't tell of the cells of others
+pub opened-chosen : (ps : List Use) (page cell : ℕ) (is_free : Bool) → (use_at ps page).chosen ≡ true
+    → opened (with_cell ps page cell is_free) ≡ opened ps
+opened-chosen [] page cell is_free chosen = refl
+opened-chosen (p ∷ ps) zero cell is_free chosen = grind arith
+opened-chosen (p ∷ ps) (suc page) cell is_free chosen = grind (arith, opened-chosen ps page cell is_free chosen)
+
+-- a cell that is taken or given back opens no page
+pub opened_with : (ps : List Use) (page cell : ℕ) (is_free : Bool)
+    → length (opened (with_cell ps page cell is_free)) ≡ length (opened ps)
+opened_with [] page cell is_free = refl
+opened_with (p ∷ ps) zero cell is_free = grind arith
+opened_with (p ∷ ps) (suc page) cell is_free = grind (arith, opened_with ps page cell is_free)
+
+opened_after : (ps : List Use) (at : Option (ℕ × ℕ)) → length (opened (after_placing ps at)) ≡ length (opened ps)
+opened_after ps None = refl
+opened_after ps (Some at) = opened_with ps at.0 at.1 false
+
+pub opened_pages : (ps : List Use) → length (opened (placing ps)) ≡ length (opened ps)
+opened_pages ps = opened_after ps (next_place ps)
+
+-- a cell of an open page that is given back is one fewer
+pub open_given : (ps : List Use) (page cell : ℕ) → AreWhole ps → page < length ps → cell < 64
+    → (use_at ps page).chosen ≡ false → is_free_at ps page cell ≡ false
+    → taken_of (opened ps) ≡ suc (taken_of (opened (with_cell ps page cell true)))
+open_given [] page cell whole within small stays taken = absurd (omega arith)
+open_given (p ∷ ps) zero cell whole within small stays taken = grind (arith, count_given)
+open_given (p ∷ ps) (suc page) cell whole within small stays taken =
+    let rest = open_given ps page cell whole.1 (omega arith) small stays taken in grind (arith, rest)

@@ -1,4 +1,5 @@
 -- What a scan of an object marks, lists and leaves, where the object lies.
+use Rattle.ref_space.specs.Moves.{Ways}
 use Rattle.ref_space.proofs.Common.{◌≡◌, ℕ, ◌+◌, ◌<◌, Bool, true, false, refl, sym, ◌∙◌, ap, arith, List, []}
 use Rattle.ref_space.proofs.Common.{◌∷◌}
 use Rattle.ref_space.proofs.Common.{length, take, Option, Some, None, is_some, slice_index_or, append-nil}
@@ -30,6 +31,16 @@ occupants-marked_each : (t : Table) (values : List (Option ℕ)) → (marked_eac
 occupants-marked_each t [] = refl
 occupants-marked_each t (None ∷ xs) = occupants-marked_each t xs
 occupants-marked_each t (Some n ∷ xs) = occupants-marked_each (marked_if t (Some n)) xs
+
+ways-marked_each : (t : Table) (values : List (Option ℕ)) → (marked_each t values).ways ≡ t.ways
+ways-marked_each t [] = refl
+ways-marked_each t (None ∷ xs) = ways-marked_each t xs
+ways-marked_each t (Some n ∷ xs) = ways-marked_each (marked_if t (Some n)) xs
+
+pub tuned_still : {now : Table} (t : Table) (values : List (Option ℕ)) → now ≡ marked_each t values
+    → t.ways.tuned ≡ true → now.ways.tuned ≡ true
+tuned_still t values is before =
+    ap (λ (s : Table). s.ways.tuned) is ∙ ap (λ (w : Ways). w.tuned) (ways-marked_each t values) ∙ before
 
 pub lies_still : {now : Table} (t : Table) (values : List (Option ℕ)) (n p : ℕ) → now ≡ marked_each t values
     → LiesAt t n p → LiesAt now n p

@@ -2,11 +2,12 @@
 use Rattle.ref_space.proofs.Common.{◌≡◌, ℕ, refl, true, false, false≢true, sym, [], ◌∷◌, Option, Some, None, List}
 use Rattle.ref_space.proofs.Common.{Table}
 use Rattle.ref_space.proofs.Common.{IsUnnamed, Tabled, leads_by, target_by}
-use Rattle.ref_space.specs.ColouredWords.{word_in_colour, word_of_place, recoloured, colour_number}
+use Rattle.ref_space.specs.ColouredWords.{word_in_colour, word_of_place, colour_number}
 use Rattle.ref_space.specs.declared.colour.Colour.{Colour}
 use Rattle.std.proofs.lemmas.Option.{none-some}
 use Rattle.ref_space.proofs.Common.{subst, ap, slice_index_or, ◌+◌, ◌*◌}
-use Rattle.ref_space.specs.Naming.{IsWordHeld, bits_told}
+use Rattle.ref_space.specs.Naming.{IsWordHeld, bits_told, healed_word, way_from}
+use Rattle.ref_space.specs.Moves.{Ways, ways_of}
 use Rattle.ref_space.specs.Pages.{Use, fresh_page, use_of}
 use Rattle.ref_space.proofs.Common.{zero, suc}
 use Rattle.ref_space.specs.Tables.{with_occupant, without_occupant}
@@ -18,36 +19,42 @@ use Rattle.ref_space.specs.declared.colour.Colour.TheVariants.{A, R}
 abbrev occupants : List (Option ℕ)
 occupants = Some 7 ∷ None ∷ []
 
-its_word_leads_to_object_7 : target_by occupants (word_of_place R 0) ≡ Some 7
+abbrev pages : List Use
+pages = fresh_page 5 0 ∷ []
+
+abbrev unmoved : Ways
+unmoved = ways_of (record { uses = pages; next = 6 }) [] A true
+
+its_word_leads_to_object_7 : target_by unmoved occupants (word_of_place R 0) ≡ Some 7
 its_word_leads_to_object_7 = refl
 
-so_does_that_of_another_colour : target_by occupants (word_of_place A 0) ≡ Some 7
+so_does_that_of_another_colour : target_by unmoved occupants (word_of_place A 0) ≡ Some 7
 so_does_that_of_another_colour = refl
 
-null_leads_nowhere : target_by occupants None ≡ None
+null_leads_nowhere : target_by unmoved occupants None ≡ None
 null_leads_nowhere = refl
 
 -- null may be held, and no word of a free cell, of another frame, or of no frame, in front of the first
-null_may_be_held : leads_by R occupants true None ≡ true
+null_may_be_held : leads_by R unmoved occupants true None ≡ true
 null_may_be_held = refl
 
-no_word_of_a_free_cell : leads_by R occupants false (word_of_place R 1) ≡ true → ⊥
+no_word_of_a_free_cell : leads_by R unmoved occupants false (word_of_place R 1) ≡ true → ⊥
 no_word_of_a_free_cell leads = false≢true leads
 
-no_word_of_another_frame : leads_by R occupants false (word_of_place R 64) ≡ true → ⊥
+no_word_of_another_frame : leads_by R unmoved occupants false (word_of_place R 64) ≡ true → ⊥
 no_word_of_another_frame leads = false≢true leads
 
-no_word_in_front_of_the_first : leads_by R occupants false (word_in_colour R 0 63) ≡ true → ⊥
+no_word_in_front_of_the_first : leads_by R unmoved occupants false (word_in_colour R 0 63) ≡ true → ⊥
 no_word_in_front_of_the_first leads = false≢true leads
 
 -- it has to have the good colour where a slot or a healed object holds it
-a_slot_may_hold_it : leads_by R occupants true (word_of_place R 0) ≡ true
+a_slot_may_hold_it : leads_by R unmoved occupants true (word_of_place R 0) ≡ true
 a_slot_may_hold_it = refl
 
-no_slot_holds_it_in_another_colour : leads_by R occupants true (word_of_place A 0) ≡ true → ⊥
+no_slot_holds_it_in_another_colour : leads_by R unmoved occupants true (word_of_place A 0) ≡ true → ⊥
 no_slot_holds_it_in_another_colour leads = false≢true leads
 
-it_is_healed_by_the_good_colour : recoloured R (word_of_place A 0) ≡ word_of_place R 0
+it_is_healed_by_the_good_colour : healed_word R unmoved occupants (word_of_place A 0) ≡ word_of_place R 0
 it_is_healed_by_the_good_colour = refl
 
 -- ---- its bits, in hexadecimal c000000000000140
@@ -64,10 +71,7 @@ abbrev colour_in : Option (Colour × ℕ × ℕ) → ℕ
 colour_in None = 0
 colour_in (Some parts) = colour_number parts.0
 
-abbrev pages : List Use
-pages = fresh_page 5 0 ∷ []
-
-its_bits : IsWordHeld R pages occupants true (Some 7) 13835058055282164032
+its_bits : IsWordHeld R unmoved occupants true (Some 7) 13835058055282164032
 its_bits = record {
   colour = R;
   frame = 0;
@@ -86,34 +90,37 @@ they_are_told = refl
 no_bits_of_its_frame : bits_told pages (word_of_place R 0) ≡ 13835058055282163776 → ⊥
 no_bits_of_its_frame same = absurd (omega (arith, same))
 
-no_bits_of_another_cell : IsWordHeld R pages occupants false (Some 7) 13835058055282164033 → ⊥
+no_bits_of_another_cell : IsWordHeld R unmoved occupants false (Some 7) 13835058055282164033 → ⊥
 no_bits_of_another_cell is =
     let cell : 1 ≡ is.cell = ap cell_in is.parts in
     let address : 5 ≡ (use_of pages is.frame).address = ap page_in is.parts in
     at_odds is.frame is.cell address cell is.lies
   where
-    at_odds : (frame cell : ℕ) → 5 ≡ (use_of pages frame).address → 1 ≡ cell → slice_index_or occupants (64 * frame + cell) None ≡ Some 7 → ⊥
-    at_odds zero cell address one lies = none-some 7 (subst (λ c. slice_index_or occupants (0 + c) None ≡ Some 7) (sym one) lies)
+    at_odds : (frame cell : ℕ) → 5 ≡ (use_of pages frame).address → 1 ≡ cell
+        → slice_index_or occupants (way_from unmoved occupants (64 * frame + cell)) None ≡ Some 7 → ⊥
+    at_odds zero cell address one lies = none-some 7 (subst (λ c. slice_index_or occupants (way_from unmoved occupants
+        (0 + c)) None ≡ Some 7) (sym one) lies)
     at_odds (suc frame) cell address one lies =
         let nowhere : (use_of pages (suc frame)).address ≡ 0 = grind arith in absurd (omega (arith, address, nowhere))
 
-no_bits_of_another_colour : IsWordHeld R pages occupants true (Some 7) 4611686018427388224 → ⊥
+no_bits_of_another_colour : IsWordHeld R unmoved occupants true (Some 7) 4611686018427388224 → ⊥
 no_bits_of_another_colour is =
     let colour : 1 ≡ colour_number is.colour = ap colour_in is.parts in
     let good : colour_number is.colour ≡ 3 = ap colour_number (is.healed refl) in
     absurd (omega (arith, colour, good))
 
-null_has_no_word : IsWordHeld R pages occupants true None 13835058055282164032 → ⊥
+null_has_no_word : IsWordHeld R unmoved occupants true None 13835058055282164032 → ⊥
 null_has_no_word is = absurd (omega (arith, is))
 
 -- ---- where objects lie
 
-the_first_free_cell_is_taken : with_occupant (Some 7 ∷ None ∷ Some 8 ∷ None ∷ []) 9
+it_lies_where_it_is_placed : with_occupant (Some 7 ∷ None ∷ Some 8 ∷ None ∷ []) (Some (0, 1)) 9
     ≡ Some 7 ∷ Some 9 ∷ Some 8 ∷ None ∷ []
-the_first_free_cell_is_taken = refl
+it_lies_where_it_is_placed = refl
 
-no_later_cell_is_taken : with_occupant (Some 7 ∷ None ∷ Some 8 ∷ None ∷ []) 9 ≡ Some 7 ∷ None ∷ Some 8 ∷ Some 9 ∷ [] → ⊥
-no_later_cell_is_taken same = none-some 9 (sym (ap (λ os. slice_index_or os 1 None) same))
+and_nowhere_else : with_occupant (Some 7 ∷ None ∷ Some 8 ∷ None ∷ []) (Some
+    (0, 1)) 9 ≡ Some 7 ∷ None ∷ Some 8 ∷ Some 9 ∷ [] → ⊥
+and_nowhere_else same = none-some 9 (sym (ap (λ os. slice_index_or os 1 None) same))
 
 its_cell_alone_is_given_back : without_occupant (Some 7 ∷ None ∷ Some 8 ∷ []) 8 ≡ Some 7 ∷ None ∷ None ∷ []
 its_cell_alone_is_given_back = refl
@@ -136,7 +143,7 @@ table = record {
   room = 1;
   last = 9;
   slots = None ∷ Some 7 ∷ [];
-  pages = record { uses = pages; next = 6 };
+  ways = unmoved;
   occupants = occupants;
   round = record { number = 1; good = R };
 }

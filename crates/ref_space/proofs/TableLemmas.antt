@@ -19,6 +19,19 @@ use Rattle.ref_space.specs.ColouredWords.{word_of_place}
 use Rattle.ref_space.proofs.Common.{Pages}
 use Rattle.ref_space.specs.Pages.{new_pages}
 use Rattle.ref_space.proofs.CallLemmas.{between-fresh}
+use Rattle.ref_space.proofs.Common.{is_none}
+use Rattle.ref_space.specs.declared.colour.Colour.TheVariants.{A}
+use Rattle.ref_space.proofs.PageLemmas.{length-fresh}
+use Rattle.ref_space.proofs.MoveLemmas.{chosen-fresh, opened_all}
+use Rattle.ref_space.specs.Pages.{Pages, fresh_pages, taken_of}
+use Rattle.ref_space.specs.Moves.{Ways, AreFree, first_ways, ways_of}
+use Rattle.ref_space.proofs.Common.{subst}
+use Rattle.ref_space.proofs.Common.{sym}
+use Rattle.ref_space.proofs.FreeLemmas.{none_leaves}
+use Rattle.ref_space.proofs.RoomLemmas.{packed_fresh}
+use Rattle.ref_space.proofs.FreeLemmas.{none_chosen_fresh}
+use Rattle.ref_space.specs.Pages.{page_at, is_chosen_place}
+use Rattle.std.proofs.lemmas.Bool.{true≢false}
 
 -- ---- numbers that rise
 
@@ -69,25 +82,25 @@ numbers-named : (name : Option ℕ → Option ℕ) (ks : List Tabled)
 numbers-named name [] = refl
 numbers-named name (k ∷ ks) = ap (λ ns. k.object.no ∷ ns) (numbers-named name ks)
 
-pub orderly : {round : Round} {cells : List (Option Tabled)} {es : List Entry} {pages : Pages}
+pub orderly : {round : Round} {cells : List (Option Tabled)} {es : List Entry} {ways : Ways}
     (slots : List (Option ℕ))
-    {last room count index_room marked : ℕ} → IsSoundTable round cells es pages last room count index_room marked
-    → IsSoundNaming round cells es slots → IsOrderlyTable (seen_table round pages cells es slots last room)
-orderly {round} {cells} {es} {pages} slots {last} {room} sound naming =
-    let name = target_by (occupants_of cells) in
+    {last room count index_room marked : ℕ} → IsSoundTable round cells es ways last room count index_room marked
+    → IsSoundNaming round ways cells es slots → IsOrderlyTable (seen_table round ways cells es slots last room)
+orderly {round} {cells} {es} {ways} slots {last} {room} sound naming =
+    let name = target_by ways (occupants_of cells) in
     let numbers = numbers-named name (tabled_by cells es) in
     record {
       rising = rw numbers (IsRising-tabled_by cells es sound.placed.rises);
       given = rw numbers (AllUpTo-tabled_by cells es last sound.placed.given);
       few = omega (arith, length-map (tabled_by cells es) (by_number name), sound.counted, sound.within);
       begun = naming.begun;
-      dated = dated round.number (leads_by round.good (occupants_of cells)) name (tabled_by cells es) naming.led;
+      dated = dated round.number (leads_by round.good ways (occupants_of cells)) name (tabled_by cells es) naming.led;
     }
 
 -- ---- addresses
 
 -- each cell has a word
-pub has_word : {size : ℕ} → size ≤ 2 ^ 16 → (place : ℕ) → place < size → IsCell (1 + place / 64) (place % 64)
+pub has_word : {size : ℕ} → size ≤ 2 ^ 17 → (place : ℕ) → place < size → IsCell (1 + place / 64) (place % 64)
 has_word small place within = (omega arith, omega (arith, small, within), omega arith)
 
 pub word_place : (colour : Colour) (place : ℕ) → IsCell (1 + place / 64) (place % 64)
@@ -98,14 +111,45 @@ word_place colour place at =
 
 -- ---- a new table
 
-pub sound_new : {round : Round} {cells : List (Option Tabled)} {es : List Entry} {pages : Pages}
+pub ways_new : (first count : ℕ) {pages : Pages} {forwards : List ℕ} → pages ≡ new_pages first count
+    → forwards ≡ replicate (64 * count) 0 → ways_of pages forwards A true ≡ first_ways first count
+ways_new first count {pages} {forwards} are none = rw (are, none) refl
+
+pub sound_new : {round : Round} {cells : List (Option Tabled)} {es : List Entry} {ways : Ways}
     (first count room index_room : ℕ)
-    → room ≤ 64 * count → 64 * count ≤ 2 ^ 16 → 128 * count ≤ index_room → cells ≡ replicate (64 * count) None
-    → es ≡ [] → 1 ≤ first → first + count ≤ 2 ^ 32 → pages ≡ new_pages first count → IsSoundTable round cells es pages 0 room 0 index_room 0
-sound_new {round} {cells} {es} {pages} first count room index_room fits small index_fits are none begins addresses new =
+    → count ≡ 2 * ((room + 63) / 64) → 64 * count ≤ 2 ^ 17 → 64 * count ≤ index_room
+    → cells ≡ replicate (64 * count) None
+    → es ≡ [] → 1 ≤ first → first + count ≤ 2 ^ 32 → ways ≡ first_ways first count
+    → IsSoundTable round cells es ways 0 room 0 index_room 0
+sound_new {round} {cells} {es} {ways} first count room index_room twice small index_fits are none begins addresses new =
     let size : length cells ≡ 64 * count = ap length are ∙ length-replicate (64 * count) None in
     let rising = between-fresh 1 first 0 count begins in
-    grind (arith, AreFree-fresh first count, fresh_taken first 0 count, size, rising)
+    let open_all = opened_all (fresh_pages first 0 count) (chosen-fresh first 0 count) in
+    let free : AreFree (map is_none cells) (replicate (64 * count) 0) (fresh_pages first 0 count) =
+    subst (λ cs. AreFree (map is_none cs) (replicate (64 * count) 0) (fresh_pages first 0 count)) (sym are)
+    (AreFree-fresh first count) in
+    rw (new, none)
+    (record {
+      placed = record {
+        rises = tt;
+        given = tt;
+        free = free;
+        settled = λ is_tuned. none_leaves (map is_none cells) first count;
+        taken = ap taken_of open_all ∙ fresh_taken first 0 count;
+        rising = rising;
+        addressed = addresses;
+        small = omega (arith, size, small);
+        few = omega (arith);
+      };
+      cells_fit = omega (arith, size, twice);
+      open_fit = (let open_count = ap length open_all ∙ length-fresh first 0 count in omega (arith, open_count, twice));
+      twice = length-fresh first 0 count ∙ twice;
+      packed = packed_fresh ((room + 63) / 64) first 0 count;
+      counted = refl;
+      within = omega arith;
+      index_fits = omega (arith, size, index_fits);
+      marks_counted = refl;
+    })
 
 none_taken : (n p : ℕ) → cell_at (replicate n None) p ≡ None
 none_taken zero p = refl
@@ -117,16 +161,19 @@ all_null p null zero = tt
 all_null p null (suc n) = (null, all_null p null n)
 
 pub naming_new : {round : Round} {cells : List (Option Tabled)} {es : List Entry} {slots : List (Option ℕ)}
-    (count n : ℕ)
+    {ways : Ways} (count n : ℕ)
     → 1 ≤ round.number → cells ≡ replicate (64 * count) None → es ≡ []
-    → slots ≡ replicate n None
-    → IsSoundNaming round cells es slots
-naming_new {round} {cells} {es} {slots} count n begun are none nulls =
+    → slots ≡ replicate n None → (first : ℕ) → ways ≡ first_ways first count
+    → IsSoundNaming round ways cells es slots
+naming_new {round} {cells} {es} {slots} {ways} count n begun are none nulls first new =
     record {
       begun = begun;
+      apart = λ place chosen same.
+          let open_all = none_chosen_fresh first 0 count (page_at (fresh_pages first 0 count) place) in
+          true≢false (sym chosen ∙ ap (λ (s : Ways). is_chosen_place s.pages.uses place) new ∙ open_all);
       listed = λ p k at.
           let free : cell_at cells p ≡ None = ap (λ cs. cell_at cs p) are ∙ none_taken (64 * count) p in absurd (cc);
-      rooted = rw nulls (all_null (leads_by round.good (occupants_of cells) true) refl n);
+      rooted = rw nulls (all_null (leads_by round.good ways (occupants_of cells) true) refl n);
       led = rw none tt;
     }
 
@@ -135,20 +182,21 @@ pub map-nulls : {X : Type 0} (f : X → Option ℕ) (x : X) → f x ≡ None →
 map-nulls f x is zero = refl
 map-nulls f x is (suc n) = ap (λ v. v ∷ map f (replicate n x)) is ∙ ap (λ vs. None ∷ vs) (map-nulls f x is n)
 
-pub seen_new : {cells : List (Option Tabled)} {es : List Entry} {slots : List (Option ℕ)} {pages : Pages}
-    (first count n room : ℕ) → count ≡ (room + 63) / 64 → pages ≡ new_pages first count → cells ≡ replicate (64 * count) None → es ≡ [] → slots ≡ replicate n None
-    → seen_table (record { number = 1; good = R }) pages cells es slots 0 room ≡ empty_table room n first
-seen_new {cells} {es} {slots} {pages} first count n room fills new are none nulls =
+pub seen_new : {cells : List (Option Tabled)} {es : List Entry} {slots : List (Option ℕ)} {ways : Ways}
+    (first count n room : ℕ) → count ≡ 2 * ((room + 63) / 64) → ways ≡ first_ways first count
+    → cells ≡ replicate (64 * count) None → es ≡ [] → slots ≡ replicate n None
+    → seen_table (record { number = 1; good = R }) ways cells es slots 0 room ≡ empty_table room n first
+seen_new {cells} {es} {slots} {ways} first count n room fills new are none nulls =
     let occupants = ap occupants_of are ∙ map-nulls occupant_in None refl (64 * count)
     ∙ ap (λ m. replicate (64 * m) None) fills in
-    let held = ap (map (target_by (occupants_of cells))) nulls
-    ∙ map-nulls (target_by (occupants_of cells)) None refl n in
+    let held = ap (map (target_by ways (occupants_of cells))) nulls
+    ∙ map-nulls (target_by ways (occupants_of cells)) None refl n in
     rw none (λ i. record {
       tabled = [];
       room = room;
       last = 0;
       slots = held i;
-      pages = (new ∙ ap (new_pages first) fills) i;
+      ways = (new ∙ ap (first_ways first) fills) i;
       occupants = occupants i;
       round = record { number = 1; good = R };
     })

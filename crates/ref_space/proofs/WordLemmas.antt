@@ -1,11 +1,10 @@
 -- A word has the parts that it was made of, and no other number has parts.
-use Rattle.std.proofs.Common.{◌≡◌, ℕ, ◌==◌, ◌+◌, ◌*◌, ◌%◌, ◌^◌, arith, Some, None, Option, Bool, true, false, refl}
-use Rattle.std.proofs.Common.{sym, ap, subst, ◌∙◌, ◌&&◌}
-use Rattle.std.specs.Prelude.{◌||◌}
+use Rattle.std.proofs.Common.{◌≡◌, ℕ, ◌==◌, ◌+◌, ◌*◌, arith, Some, None, Option, Bool, true, false, refl}
+use Rattle.std.proofs.Common.{ap, ◌∙◌, ◌&&◌}
 use Rattle.std.proofs.lemmas.Bool.{eq-eqb, false≢true}
-use Rattle.std.specs.Option.{is_some, is_none}
+use Rattle.std.specs.Option.{is_some}
 use Rattle.ref_space.specs.ColouredWords.{colour_number, IsCell, coloured_word, is_coloured, IsWordOf, parts_of}
-use Rattle.ref_space.specs.ColouredWords.{place_by, word_in_colour, is_word, has_colour, recoloured}
+use Rattle.ref_space.specs.ColouredWords.{place_by, word_in_colour, is_word, has_colour}
 use Rattle.ref_space.specs.declared.colour.Colour.{Colour}
 
 pub parts_of-coloured : (colour : Colour) (page cell : ℕ) → IsCell page cell
@@ -51,19 +50,6 @@ both : (a b : Bool) → a ≡ true → b ≡ true → (a && b) ≡ true
 both true b a_is b_is = b_is
 both false b a_is b_is = a_is
 
--- so it may be held by what is healed
-pub good_leads : (colour : Colour) (value : Option ℕ) → IsGood colour value
-    → (is_none value || (is_word value && has_colour colour value)) ≡ true
-good_leads colour None is = refl
-good_leads colour (Some word) is = both (is_word (Some word)) (has_colour colour (Some word)) is.word is.coloured
-
--- the word of the same cell in another colour
-pub place_by-recoloured : (colour : Colour) (value : Option ℕ) → place_by (recoloured colour value) ≡ place_by value
-place_by-recoloured colour None = refl
-place_by-recoloured colour (Some word) =
-    let same : (colour_number colour * 2 ^ 62 + word % 2 ^ 62) % 2 ^ 62 ≡ word % 2 ^ 62 = omega arith in
-    rw same refl
-
 some_parts : (word : ℕ) (parts : Option (Colour × ℕ × ℕ)) → parts_of word ≡ parts → is_some parts ≡ true
     → (own : Colour × ℕ × ℕ) × (parts_of word ≡ Some own)
 some_parts word None is some = absurd (false≢true some)
@@ -72,15 +58,3 @@ some_parts word (Some own) is some = (own, is)
 pub parts_of_word : (word : ℕ) → is_word (Some word) ≡ true
     → (own : Colour × ℕ × ℕ) × (parts_of word ≡ Some own)
 parts_of_word word is = some_parts word (parts_of word) refl is
-
-pub recoloured_good : (colour : Colour) (word : ℕ) → is_word (Some word) ≡ true
-    → IsGood colour (recoloured colour (Some word))
-recoloured_good colour word is =
-    let own = parts_of_word word is in again own.0 (is_word-parts_of word own.0 own.1)
-  where
-    again : (own : Colour × ℕ × ℕ) → IsWordOf word own → IsGood colour (recoloured colour (Some word))
-    again (old, page, cell) of =
-        let rest : word % 2 ^ 62 ≡ page * 64 + cell = omega (arith, of.1, of.0.1, of.0.2) in
-        let same : colour_number colour * 2 ^ 62 + word % 2 ^ 62 ≡ colour_number colour * 2 ^ 62 + page * 64 + cell =
-        omega (arith, rest) in
-        subst (λ w. IsGood colour (Some w)) (sym same) (word_is_good colour page cell of.0)

@@ -17,6 +17,11 @@ abbrev pub first_set : List Bool → Option ℕ
 first_set [] = None
 first_set (b ∷ bs) = if b then Some 0 else option_map suc (first_set bs)
 
+-- and the first that isn't
+abbrev pub first_clear : List Bool → Option ℕ
+first_clear [] = None
+first_clear (b ∷ bs) = if b then option_map suc (first_clear bs) else Some 0
+
 abbrev pub any_set : List Bool → Bool
 any_set [] = false
 any_set (b ∷ bs) = if b then true else any_set bs

@@ -6,3 +6,4 @@ pub mod Tables
 pub mod Places
 pub mod Naming
 pub mod Worklists
+pub mod Moves

@@ -1,6 +1,7 @@
 -- Pages of 64 cells: which cells are free, where the next object is placed, and which pages a move empties (this
 -- project's profile; ZGC, JEP 333, has pages of other sizes, and fills each in order of address).
-use Rattle.std.specs.Prelude.{◌≡◌, ℕ, zero, suc, ◌+◌, ◌^◌, ◌<◌, ◌≤◌, Bool, true, false, if◌then◌else◌, not, ◌&&◌}
+use Rattle.std.specs.Prelude.{◌≡◌, ℕ, zero, suc, ◌+◌, ◌*◌, ◌/◌, ◌%◌, ◌^◌, ◌<◌, ◌≤◌, Bool, true, false, if◌then◌else◌}
+use Rattle.std.specs.Prelude.{not, ◌&&◌}
 use Rattle.std.specs.Prelude.{◌==◌, nat_lt, nat_le, List, [], ◌∷◌, ◌++◌, length, map, replicate, slice_set}
 use Rattle.std.specs.Prelude.{slice_index_or, Option, Some, None, Result, Ok, Err}
 use Rattle.std.specs.List.{filter, count_by, sum_by}
@@ -51,11 +52,6 @@ fresh_pages address frame (suc count) = fresh_page address frame ∷ fresh_pages
 abbrev pub new_pages : ℕ → ℕ → Pages
 new_pages address count = record { uses = fresh_pages address 0 count; next = address + count }
 
--- of each cell whether it is free, page by page
-abbrev pub free_in : List Use → List Bool
-free_in [] = []
-free_in (p ∷ ps) = p.free ++ free_in ps
-
 abbrev pub is_free_at : List Use → ℕ → ℕ → Bool
 is_free_at ps page cell = slice_index_or (use_at ps page).free cell false
 
@@ -67,6 +63,26 @@ abbrev pub with_cell : List Use → ℕ → ℕ → Bool → List Use
 with_cell [] page cell is_free = []
 with_cell (p ∷ ps) zero cell is_free = with_free cell is_free p ∷ ps
 with_cell (p ∷ ps) (suc page) cell is_free = p ∷ with_cell ps page cell is_free
+
+-- ---- places
+
+-- A place is a cell of a frame: cell c of frame f is place 64 * f + c. Where its page stands in the order, whether that
+-- was chosen, and whether the pages have the cell as free.
+abbrev pub place_in_frame : ℕ × ℕ → ℕ
+place_in_frame at = 64 * at.0 + at.1
+
+abbrev pub page_at : List Use → ℕ → ℕ
+page_at ps place = place_of ps (place / 64)
+
+abbrev pub is_chosen_place : List Use → ℕ → Bool
+is_chosen_place ps place = (use_at ps (page_at ps place)).chosen
+
+abbrev pub is_free_place : List Use → ℕ → Bool
+is_free_place ps place = is_free_at ps (page_at ps place) (place % 64)
+
+-- the pages, with that cell free or taken
+abbrev pub with_place : List Use → ℕ → Bool → List Use
+with_place ps place is_free = with_cell ps (page_at ps place) (place % 64) is_free
 
 -- ---- placing
 
@@ -173,6 +189,34 @@ chosen_frames (p ∷ ps) = if p.chosen then p.frame ∷ chosen_frames ps else ch
 abbrev pub has_chosen : List Use → Bool
 has_chosen ps = nat_lt 0 (length (chosen_frames ps))
 
+-- the taken cells of a frame by place, from that of the first of these cells on, and those of several frames
+abbrev pub taken_places : ℕ → List Bool → List ℕ
+taken_places place [] = []
+taken_places place (b ∷ bs) =
+    if b then taken_places (suc place) bs else place ∷ taken_places (suc place) bs
+
+abbrev pub taken_in : List Use → List ℕ → List ℕ
+taken_in ps [] = []
+taken_in ps (f ∷ fs) = taken_places (64 * f) (use_of ps f).free ++ taken_in ps fs
+
+-- what is left in the chosen pages, in order of address and of cell
+abbrev pub left_in : List Use → List ℕ
+left_in ps = taken_in ps (chosen_frames ps)
+
+-- what lies at a place is to move to the next free cell, if there is one: of pages, and of a list that has of each place
+-- where what lay there moves
+abbrev pub reserved_to : Option (ℕ × ℕ) → ℕ → Pages × List ℕ → Pages × List ℕ
+reserved_to None from state = state
+reserved_to (Some at) from state = (with_placed state.0, slice_set state.1 from (place_in_frame at))
+
+abbrev pub reserved : Pages × List ℕ → ℕ → Pages × List ℕ
+reserved state from = reserved_to (next_cell state.0.uses) from state
+
+-- and what lies at several, one after another
+abbrev pub reserving : Pages × List ℕ → List ℕ → Pages × List ℕ
+reserving state [] = state
+reserving state (from ∷ rest) = reserving (reserved state from) rest
+
 -- whether a page has some taken cells, and at most half
 abbrev pub is_sparse : Use → Bool
 is_sparse p = nat_lt 0 (taken_cells p) && nat_le (taken_cells p) 32
@@ -194,6 +238,9 @@ chosen_if_sparse p = if is_sparse p then record p { chosen = true } else p
 abbrev pub choosing : List Use → List Use
 choosing ps = map chosen_if_sparse ps
 
+abbrev pub with_chosen : Pages → Pages
+with_chosen ps = record ps { uses = choosing ps.uses }
+
 -- why a choice is refused: it is worth nothing below two pages, and each chosen page needs a new address
 abbrev pub choose_refusal : Pages → Option Fault
 choose_refusal ps =
@@ -210,7 +257,7 @@ abbrev pub choice : Pages → Result ℕ Fault
 choice ps = chosen_or (choose_refusal ps) (sparse_cells ps.uses)
 
 abbrev pub chosen_unless : Option Fault → Pages → Pages
-chosen_unless None ps = record ps { uses = choosing ps.uses }
+chosen_unless None ps = with_chosen ps
 chosen_unless (Some fault) ps = ps
 
 abbrev pub after_choice : Pages → Pages
@@ -253,8 +300,3 @@ times_framed (p ∷ ps) frame = if p.frame == frame then suc (times_framed ps fr
 -- the frames below the count of pages are of one page each, and no page has another
 abbrev pub AreFramed : List Use → Type 0
 AreFramed ps = (frame : ℕ) → times_framed ps frame ≡ (if nat_lt frame (length ps) then 1 else 0)
-
--- none was chosen, and the frames are those from the first on, in order: as where nothing ever moved
-abbrev pub AreUnmoved : ℕ → List Use → Type 0
-AreUnmoved first [] = Unit {0}
-AreUnmoved first (p ∷ ps) = (p.frame ≡ first) × (p.chosen ≡ false) × AreUnmoved (suc first) ps

@@ -1,11 +1,12 @@
 -- How the table lies in memory: cells by place, 64 a page, an index of places by number, and the cells that are free.
-use Rattle.std.specs.Prelude.{◌≡◌, ℕ, suc, ◌*◌, ◌<◌, ◌≤◌, ◌^◌, Bool, true, false, ◌==◌, ◌&&◌, not}
+use Rattle.std.specs.Prelude.{◌≡◌, ℕ, suc, ◌+◌, ◌*◌, ◌/◌, ◌<◌, ◌≤◌, ◌^◌, Bool, true, false, ◌==◌, ◌&&◌, not}
 use Rattle.std.specs.Prelude.{if◌then◌else◌, nat_lt, List, [], ◌∷◌, length, map, Option, Some, None, slice_index_or}
 use Rattle.std.specs.Prelude.{slice_set}
 use Rattle.std.specs.List.{filter}
 use Rattle.std.specs.Borrow.{Bor}
 use Rattle.ref_base.specs.Graphs.{Reference}
-use Rattle.ref_space.specs.Pages.{Use, Pages, free_in, taken_of, AreWhole, AreUnmoved, AreBetween}
+use Rattle.ref_space.specs.Pages.{taken_of, opened, AreBetween, Packed, is_chosen_place}
+use Rattle.ref_space.specs.Moves.{Ways, AreFree, NoneLeaves, forward_of}
 use Rattle.std.specs.Option.{option_map, is_none, is_some}
 use Rattle.ref_space.specs.ColouredWords.{place_by}
 use Rattle.ref_space.specs.Tables.{Tabled, Table, is_marked, marked_of, with_nothing_done, blanked_unless_marked}
@@ -81,9 +82,15 @@ abbrev pub at_place : List (Option Tabled) → Option ℕ → Option Tabled
 at_place cells None = None
 at_place cells (Some place) = cell_at cells place
 
--- what the cell of a word holds: nothing of null
-abbrev pub cell_of_word : List (Option Tabled) → Option ℕ → Option Tabled
-cell_of_word cells value = at_place cells (place_by value)
+-- the place of a word, or that to which what lay there moved
+abbrev pub moved_place : List (Option Tabled) → List ℕ → Option ℕ → Option ℕ
+moved_place cells forwards None = None
+moved_place cells forwards (Some place) =
+    Some (if is_some (cell_at cells place) then place else forward_of forwards place)
+
+-- what the cell there holds: nothing of null
+abbrev pub cell_of_word : List (Option Tabled) → List ℕ → Option ℕ → Option Tabled
+cell_of_word cells forwards value = at_place cells (moved_place cells forwards (place_by value))
 
 -- a place, if its cell holds an object
 abbrev pub place_if_taken : List (Option Tabled) → Option ℕ → Option ℕ
@@ -91,8 +98,14 @@ place_if_taken cells None = None
 place_if_taken cells (Some place) = if is_some (cell_at cells place) then Some place else None
 
 -- the place of the cell of a word, if an object lies there
-abbrev pub place_of_word : List (Option Tabled) → Option ℕ → Option ℕ
-place_of_word cells value = place_if_taken cells (place_by value)
+abbrev pub place_of_word : List (Option Tabled) → List ℕ → Option ℕ → Option ℕ
+place_of_word cells forwards value = place_if_taken cells (moved_place cells forwards (place_by value))
+
+-- the entry of number n names another place
+abbrev pub with_place_of : List Entry → ℕ → ℕ → List Entry
+with_place_of [] n place = []
+with_place_of (e ∷ es) n place =
+    record e { place = if e.no == n then place else e.place } ∷ with_place_of es n place
 
 -- how many entries in front are of numbers below n
 abbrev pub count_below : List Entry → ℕ → ℕ
@@ -119,12 +132,6 @@ abbrev pub Rises : List Entry → Type 0
 Rises [] = Unit {0}
 Rises (e ∷ es) = AllAbove e.no es × Rises es
 
--- each page has 64 cells, those are free that hold nothing, and nothing ever moved
-pub record AreFree (cells : List (Option Tabled)) (pages : List Use) : Type 0 where
-  pub whole : AreWhole pages
-  pub unmoved : AreUnmoved 0 pages
-  pub empty : map is_none cells ≡ free_in pages
-
 -- the index as it is before one more entry: where it has this many already, its gaps are closed
 abbrev pub with_room : ℕ → List (Option Tabled) → List Entry → List Entry
 with_room most cells es = if length es == most then filter (is_live cells) es else es
@@ -135,51 +142,59 @@ AreIndexed cells index =
     (place : ℕ) (k : Tabled) → cell_at cells place ≡ Some k → place_in index k.object.no ≡ Some place
 
 -- what holds of a table's cells, index and pages: each object has its entry, and each cell without one is free
-pub record IsPlaced (cells : List (Option Tabled)) (index : List Entry) (pages : Pages) (last : ℕ) : Type 0 where
+pub record IsPlaced (cells : List (Option Tabled)) (index : List Entry) (ways : Ways) (last : ℕ) : Type 0 where
   pub rises : Rises index
   pub given : NoneAbove last index
-  pub free : AreFree cells pages.uses
-  pub taken : taken_of pages.uses ≡ length (tabled_by cells index)
-  pub rising : AreBetween 1 pages.uses pages.next
-  pub addressed : pages.next ≤ 2 ^ 32
-  pub small : length cells ≤ 2 ^ 16
-  pub few : length index ≤ 2 * length cells
+  pub free : AreFree (map is_none cells) ways.forwards ways.pages.uses
+  pub settled : ways.tuned ≡ true → NoneLeaves (map is_none cells) ways.pages.uses
+  pub taken : taken_of (opened ways.pages.uses) ≡ length (tabled_by cells index)
+  pub rising : AreBetween 1 ways.pages.uses ways.pages.next
+  pub addressed : ways.pages.next ≤ 2 ^ 32
+  pub small : length cells ≤ 2 ^ 17
+  pub few : length index ≤ length cells
 
--- what holds of a table's fields: that, there are cells for as many objects as there may be, no push to the index ever
--- takes memory, and the objects and the marked ones are counted
-pub record IsSoundTable (round : Round) (cells : List (Option Tabled)) (index : List Entry) (pages : Pages)
+-- what holds of a table's fields: that, there are twice as many pages as the objects fill that there may be, the first
+-- half of the open ones has all of these, no push to the index ever takes memory, and the objects and the marked ones
+-- are counted
+pub record IsSoundTable (round : Round) (cells : List (Option Tabled)) (index : List Entry) (ways : Ways)
     (last room count index_room marked : ℕ) : Type 0 where
-  pub placed : IsPlaced cells index pages last
+  pub placed : IsPlaced cells index ways last
   pub cells_fit : room ≤ length cells
+  pub open_fit : room ≤ 64 * length (opened ways.pages.uses)
+  pub twice : length ways.pages.uses ≡ 2 * ((room + 63) / 64)
+  pub packed : Packed ((room + 63) / 64) (opened ways.pages.uses)
   pub counted : count ≡ length (tabled_by cells index)
   pub within : count ≤ room
-  pub index_fits : 2 * length cells ≤ index_room
+  pub index_fits : length cells ≤ index_room
   pub marks_counted : marked ≡ length (marked_of round.number (tabled_by cells index))
 
 -- what holds of words: each cell has one, each object has its entry, and each word that a slot or an object holds leads
--- to an object; those of slots and of healed objects have the good colour
-pub record IsSoundNaming (round : Round) (cells : List (Option Tabled)) (index : List Entry) (slots : List (Option ℕ))
+-- to an object; those of slots and of healed objects have the good colour, which isn't that of words from before pages
+-- were chosen that are still
+pub record IsSoundNaming (round : Round) (ways : Ways) (cells : List (Option Tabled)) (index : List Entry) (slots : List
+    (Option ℕ))
     : Type 0 where
   pub listed : AreIndexed cells index
-  pub rooted : Each (leads_by round.good (occupants_of cells) true) slots
+  pub rooted : Each (leads_by round.good ways (occupants_of cells) true) slots
   pub begun : 1 ≤ round.number
-  pub led : EachHeld round.number (leads_by round.good (occupants_of cells)) (tabled_by cells index)
+  pub apart : (place : ℕ) → is_chosen_place ways.pages.uses place ≡ true → ways.last ≡ round.good → ⊥
+  pub led : EachHeld round.number (leads_by round.good ways (occupants_of cells)) (tabled_by cells index)
 
 -- the objects that the index leads to, and what slots hold, with numbers in the place of words
-abbrev pub named_tabled : List (Option Tabled) → List Entry → List Tabled
-named_tabled cells index = map (by_number (target_by (occupants_of cells))) (tabled_by cells index)
+abbrev pub named_tabled : Ways → List (Option Tabled) → List Entry → List Tabled
+named_tabled ways cells index = map (by_number (target_by ways (occupants_of cells))) (tabled_by cells index)
 
-abbrev pub named_slots : List (Option Tabled) → List (Option ℕ) → List (Option ℕ)
-named_slots cells slots = map (target_by (occupants_of cells)) slots
+abbrev pub named_slots : Ways → List (Option Tabled) → List (Option ℕ) → List (Option ℕ)
+named_slots ways cells slots = map (target_by ways (occupants_of cells)) slots
 
 -- what a contract sees of a table's fields
-abbrev pub seen_table : Round → Pages → List (Option Tabled) → List Entry → List (Option ℕ) → ℕ → ℕ → Table
-seen_table round pages cells index slots last room = record {
-  tabled = named_tabled cells index;
+abbrev pub seen_table : Round → Ways → List (Option Tabled) → List Entry → List (Option ℕ) → ℕ → ℕ → Table
+seen_table round ways cells index slots last room = record {
+  tabled = named_tabled ways cells index;
   room = room;
   last = last;
-  slots = named_slots cells slots;
-  pages = pages;
+  slots = named_slots ways cells slots;
+  ways = ways;
   occupants = occupants_of cells;
   round = round;
 }

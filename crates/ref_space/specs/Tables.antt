@@ -22,8 +22,11 @@ use Rattle.ref_space.specs.declared.colour.Colour.TheVariants.{R}
 use Rattle.ref_space.specs.declared.cell.Change.TheVariants.{Cut, Stamp, ClearedIn, ClearIn, Link}
 use Rattle.ref_space.specs.declared.linked.Linked.{Linked}
 use Rattle.ref_space.specs.declared.linked.Look.{Look}
-use Rattle.ref_space.specs.Pages.{Pages, new_pages, with_placed, with_given}
+use Rattle.ref_base.specs.declared.fault.Fault.{Fault}
+use Rattle.ref_space.specs.Pages.{with_placed, with_given, next_cell, place_in_frame, choose_refusal, left_in}
+use Rattle.ref_space.specs.Moves.{Ways, first_ways, forward_of, ways_chosen, ways_left, ways_renumbered}
 use Rattle.ref_space.specs.Worklists.{Worklist}
+use Rattle.ref_space.specs.Moves.{tuned}
 
 -- an object of the table, how many holds of it are out, the round in which it was marked last, and that in which it was
 -- healed last, so that each word that it holds had the colour that was good then, 0 where it never was; its link, which
@@ -44,19 +47,20 @@ pub record Table : Type 0 where
   pub room : ℕ
   pub last : ℕ
   pub slots : List (Option ℕ)
-  pub pages : Pages
+  pub ways : Ways
   pub occupants : List (Option ℕ)
   pub round : Round
 
--- a table of no objects, with so many slots, each empty, in pages of 64 cells from this address on
+-- a table of no objects, with so many slots, each empty, in pages of 64 cells from this address on: twice as many as the
+-- objects fill, so that there is room for what moves
 abbrev pub empty_table : ℕ → ℕ → ℕ → Table
 empty_table room slots first = record {
   tabled = [];
   room = room;
   last = 0;
   slots = replicate slots None;
-  pages = new_pages first ((room + 63) / 64);
-  occupants = replicate (64 * ((room + 63) / 64)) None;
+  ways = first_ways first (2 * ((room + 63) / 64));
+  occupants = replicate (64 * (2 * ((room + 63) / 64))) None;
   round = record { number = 1; good = R };
 }
 
@@ -197,11 +201,10 @@ abbrev pub is_number : Option ℕ → ℕ → Bool
 is_number None n = false
 is_number (Some m) n = m == n
 
--- a new object gets the first free cell, and the cell of one that goes is free
-abbrev pub with_occupant : List (Option ℕ) → ℕ → List (Option ℕ)
-with_occupant [] n = []
-with_occupant (None ∷ os) n = Some n ∷ os
-with_occupant (Some m ∷ os) n = Some m ∷ with_occupant os n
+-- a new object gets the cell at which the next is placed, and the cell of one that goes is free
+abbrev pub with_occupant : List (Option ℕ) → Option (ℕ × ℕ) → ℕ → List (Option ℕ)
+with_occupant os None n = os
+with_occupant os (Some at) n = slice_set os (place_in_frame at) (Some n)
 
 abbrev pub without_occupant : List (Option ℕ) → ℕ → List (Option ℕ)
 without_occupant [] n = []
@@ -213,15 +216,20 @@ place_of_number [] n = 0
 place_of_number (o ∷ os) n = if is_number o n then 0 else suc (place_of_number os n)
 
 -- the pages once that cell is given back
-abbrev pub with_vacated : Pages → List (Option ℕ) → ℕ → Pages
-with_vacated ps os n = with_given ps (place_of_number os n / 64) (place_of_number os n % 64)
+abbrev pub with_vacated : Ways → List (Option ℕ) → ℕ → Ways
+with_vacated ways os n =
+    record ways { pages = with_given ways.pages (place_of_number os n / 64) (place_of_number os n % 64) }
+
+-- and once an object was placed
+abbrev pub ways_placed : Ways → Ways
+ways_placed ways = record ways { pages = with_placed ways.pages }
 
 -- the table without the object of number n
 abbrev pub without_object : Table → ℕ → Table
 without_object t n =
     record t {
       tabled = without_tabled t.tabled n;
-      pages = with_vacated t.pages t.occupants n;
+      ways = with_vacated t.ways t.occupants n;
       occupants = without_occupant t.occupants n;
     }
 
@@ -242,8 +250,8 @@ with_tabled t into k = record t {
   tabled = t.tabled ++ k ∷ [];
   last = k.object.no;
   slots = slice_set t.slots into (Some k.object.no);
-  pages = with_placed t.pages;
-  occupants = with_occupant t.occupants k.object.no;
+  ways = ways_placed t.ways;
+  occupants = with_occupant t.occupants (next_cell t.ways.pages.uses) k.object.no;
 }
 
 -- ---- marks
@@ -288,12 +296,64 @@ is_healed_in round (Some k) = is_healed round k
 abbrev pub with_nothing_done : Tabled → Tabled
 with_nothing_done k = record k { marked_in = 0; healed_in = 0 }
 
+-- and of those that aren't healed
+abbrev pub unhealed_of : ℕ → List Tabled → List ℕ
+unhealed_of round = numbers_by (λ k. from_bool (not (is_healed round k)))
+
+-- pages were chosen, and what lies there is to move: the colour of moves is good
+abbrev pub selected_unless : Option Fault → Table → Table
+selected_unless None t =
+    record t { ways = ways_chosen t.ways t.round.good; round = record t.round { good = R } }
+selected_unless (Some fault) t = t
+
+abbrev pub table_selected : Table → Table
+table_selected t = selected_unless (choose_refusal t.ways.pages) t
+
+-- the chosen pages are empty, and get new addresses
+abbrev pub table_renumbered : Table → Table
+table_renumbered t = record t { ways = ways_renumbered t.ways }
+
+-- the numbers without n
+abbrev pub without_number : List ℕ → ℕ → List ℕ
+without_number [] n = []
+without_number (m ∷ ms) n = if m == n then without_number ms n else m ∷ without_number ms n
+
+abbrev pub without_if_any : List ℕ → Option ℕ → List ℕ
+without_if_any ms None = ms
+without_if_any ms (Some n) = without_number ms n
+
+-- the numbers of the objects at these places, in order
+abbrev pub numbers_at : List (Option ℕ) → List ℕ → List ℕ
+numbers_at os [] = []
+numbers_at os (place ∷ places) = if_any (slice_index_or os place None) ++ numbers_at os places
+
+-- those that are still to move, in order
+abbrev pub left_of : Table → List ℕ
+left_of t = numbers_at t.occupants (left_in t.ways.pages.uses)
+
+-- what lies at this place has moved to where it was to go
+abbrev pub moved_from : Table → ℕ → Table
+moved_from t from = record t {
+  ways = ways_left t.ways from;
+  occupants = slice_set
+      (slice_set t.occupants (forward_of t.ways.forwards from) (slice_index_or t.occupants from None)) from None;
+}
+
+-- an object that is still to move has moved
+abbrev pub brought : Table → Option ℕ → Table
+brought t None = t
+brought t (Some n) = if has (left_of t) n then moved_from t (place_of_number t.occupants n) else t
+
 -- the table as a round begins, in which this colour is good: numbers of rounds begin anew once they are spent
 abbrev pub table_begun : Table → Colour → Table
 table_begun t good =
     if nat_lt t.round.number (2 ^ 64 - 1)
-    then record t { round = record { number = t.round.number + 1; good = good } }
-    else record t { tabled = map with_nothing_done t.tabled; round = record { number = 1; good = good } }
+    then record t { ways = tuned t.ways; round = record { number = t.round.number + 1; good = good } }
+    else record t {
+      tabled = map with_nothing_done t.tabled;
+      ways = tuned t.ways;
+      round = record { number = 1; good = good };
+    }
 
 -- the table without the object of number n, where that isn't marked
 abbrev pub table_freed : Table → ℕ → Table

@@ -4,19 +4,17 @@ ghost use Rattle.std.specs.Prelude.{◌≡◌, ◌-◌, ◌^◌, ◌<◌, ◌≤
 ghost use Rattle.std.specs.Option.{option_map};
 ghost use Rattle.ref_base.specs.Heaps.{with_field, with_reference, with_stamp, cleared};
 ghost use Rattle.ref_space.specs.Places.{is_of, is_held_as, is_unmarked_as, begun_cell, condemned_cell};
-ghost use Rattle.ref_space.specs.Naming.{by_number, with_referent, with_referent_in};
-ghost use Rattle.ref_space.specs.ColouredWords.{recoloured};
+ghost use Rattle.ref_space.specs.Naming.{with_referent, with_words};
 ghost use Rattle.ref_space.specs.Tables.{made_entry, tabled_fields, has_field, holds_in};
 ghost use Rattle.ref_space.specs.Tables.{on_object, may_hold, more_held_if, less_held};
-ghost use Rattle.ref_space.specs.Tables.{is_marked_in, is_unmarked_in, with_marked, with_healed};
+ghost use Rattle.ref_space.specs.Tables.{is_marked_in, is_unmarked_in, with_marked};
+ghost use Rattle.ref_base.specs.CollectorRows.{referent_of};
 ghost use Rattle.ref_space.specs.Tables.{tabled_reference, tabled_link, tabled_cleared_in, change_of};
 ghost use Rattle.ref_space.specs.Naming.{occupant_in};
 ghost use Rattle.ref_space.specs.Tables.{field_in_cell, field_held, anew_in};
 
-use crate::colour::Colour;
 use crate::field_words::Words;
 use crate::kept::Kept;
-use crate::round::Round;
 use crate::word::Word;
 use ref_base::ObjNo;
 use std::marker::Model;
@@ -272,6 +270,17 @@ impl Cell {
         }
     }
 
+    /// The referent of the object: null also where it is plain, or there is none.
+    #[inline(always)]
+    pub(crate) fn referent(&self) -> Word
+        ensures { result ≡ referent_of (tabled_reference self.now) }
+    {
+        match self.kept() {
+            Some(kept) => kept.referent,
+            None => Word::null(),
+        }
+    }
+
     /// The object's link: 0 where there is none.
     #[inline(always)]
     pub(crate) fn link(&self) -> u32
@@ -357,26 +366,14 @@ impl Cell {
         is_condemned
     }
 
-    /// Each word of the object gets the good colour: it is healed in this round.
-    pub(crate) fn heal(&mut self, round: Round)
-        ensures { self.new ≡
-            option_map (λ k. with_healed round.number (by_number (recoloured round.good) k)) self.old }
+    /// The object has these words in the place of its own: it is healed in this round.
+    #[inline(always)]
+    pub(crate) fn put_healed(&mut self, fields: Words, referent: Word, round: u64)
+        ensures { self.new ≡ option_map (with_words fields referent round) self.old }
     {
-        self.fields.recolour(round.good);
-        self.heal_referent(round.good);
-        self.healed_in = round.number;
-    }
-
-    // So does its referent, if it is a reference.
-    fn heal_referent(&mut self, good: Colour)
-        ensures { self.new ≡ option_map (on_object (with_reference (with_referent_in good))) self.old }
-    {
-        if let Some(reference) = self.reference {
-            self.reference = Some(Kept {
-                referent: reference.referent.in_colour(good),
-                ..reference
-            });
-        }
+        self.fields = fields;
+        self.set_referent(referent);
+        self.healed_in = round;
     }
 
     /// Writes the referent of the object, where it is a reference.

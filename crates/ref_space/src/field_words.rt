@@ -1,9 +1,7 @@
 //! An object's fields, as its cell has them.
 
-ghost use Rattle.std.specs.Prelude.{◌≡◌, ◌≤◌, nat_lt, length, map, replicate, None, slice_index_or, slice_set};
-ghost use Rattle.ref_space.specs.ColouredWords.{recoloured};
+ghost use Rattle.std.specs.Prelude.{◌≡◌, ◌≤◌, nat_lt, length, replicate, None, slice_index_or, slice_set};
 
-use crate::colour::Colour;
 use crate::word::Word;
 use ref_base::MOST_FIELDS;
 use std::marker::Model;
@@ -66,15 +64,6 @@ impl Words {
             values[field]
         } else {
             Word::null()
-        }
-    }
-
-    /// Each field gets this colour.
-    pub(crate) fn recolour(&mut self, colour: Colour)
-        ensures { self.new ≡ map (recoloured colour) self.old }
-    {
-        for field in 0..self.count {
-            self.held[field] = self.held[field].in_colour(colour);
         }
     }
 

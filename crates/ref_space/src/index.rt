@@ -5,7 +5,7 @@ ghost use Rattle.std.specs.Prelude.{◌≡◌, ◌+◌, ◌≤◌, length, map};
 ghost use Rattle.std.specs.List.{filter};
 ghost use Rattle.std.specs.Vec.{vec_capacity};
 ghost use Rattle.ref_space.specs.Places.{is_live, is_held, tabled_by, place_in, place_if_live, lent};
-ghost use Rattle.ref_space.specs.Places.{count_below, first_entry, with_room, Rises};
+ghost use Rattle.ref_space.specs.Places.{with_place_of, count_below, first_entry, with_room, Rises};
 ghost use Rattle.ref_space.specs.Places.{AreIndexed, blanked_cell, condemns, condemned_at};
 ghost use Rattle.ref_space.specs.Worklists.{with_more};
 ghost use Rattle.ref_space.specs.Tables.{first_from, held_from, unmarked_of, tabled_at};
@@ -100,6 +100,17 @@ pub(crate) fn place_near(cells: &[Cell], index: &[Entry], no: ObjNo, place: usiz
     match cells.get(place) {
         Some(cell) if cell.is_of(no) => Some(place),
         _ => place_of(cells, index, no),
+    }
+}
+
+/// The object of this number lies at this place now, if there is one. In time as for `count_below`.
+pub(crate) fn set_place(index: &mut [Entry], no: ObjNo, place: u32)
+    requires { Rises index.old }
+    ensures { index.new ≡ with_place_of index.old no place }
+{
+    let at = count_below(index, no);
+    if at < index.len() && index[at].no == no {
+        index[at] = Entry { no, place };
     }
 }
 

@@ -1,7 +1,7 @@
 //! A page of 64 cells.
 
 ghost use Rattle.std.specs.Prelude.{◌≡◌, ◌<◌, Some, true, false, slice_index_or};
-ghost use Rattle.ref_space.specs.Bits.{first_set, any_set};
+ghost use Rattle.ref_space.specs.Bits.{first_set, first_clear, any_set};
 ghost use Rattle.ref_space.specs.Pages.{fresh_page, with_free, taken_cells, has_open_cell, is_sparse};
 ghost use Rattle.ref_space.specs.Pages.{chosen_if_sparse};
 
@@ -101,6 +101,15 @@ impl Page {
         ensures within { result < 64 }
     {
         self.free.trailing_zeros()
+    }
+
+    /// Its lowest taken cell.
+    pub(crate) fn lowest_taken(&self) -> u32
+        requires { 0 < taken_cells self.now }
+        ensures first { first_clear self.now.free ≡ Some result }
+        ensures within { result < 64 }
+    {
+        self.free.trailing_ones()
     }
 
     /// Whether a cell is free.

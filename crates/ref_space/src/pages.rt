@@ -1,11 +1,15 @@
 //! The pages of a heap.
 
-ghost use Rattle.std.specs.Prelude.{◌≡◌, ◌+◌, ◌^◌, ◌<◌, ◌≤◌, ◌++◌, [], true, false, take, length, slice_index_or, IfOk};
+ghost use Rattle.std.specs.Prelude.{◌≡◌, ◌+◌, ◌*◌, ◌^◌, ◌<◌, ◌≤◌, ◌++◌, [], true, false, take, length, slice_index_or};
+ghost use Rattle.std.specs.Prelude.{is_some, IfOk};
 ghost use Rattle.std.specs.Vec.{vec_capacity};
+ghost use Rattle.std.specs.Option.{IfSome};
 ghost use Rattle.ref_space.specs.Pages.{fresh_pages, new_pages, NoneHasRoom, use_at, place_of, has_open_cell};
 ghost use Rattle.ref_space.specs.Pages.{sparse_count, sparse_cells, choosing, chosen_frames, empty_pages, AreFramed};
 ghost use Rattle.ref_space.specs.Pages.{opened};
-ghost use Rattle.ref_space.specs.PageViews.{AreMapped};
+ghost use Rattle.ref_space.specs.Pages.{left_in, taken_places, taken_cells, use_of, reserved, reserving};
+ghost use Rattle.ref_space.specs.PageViews.{AreMapped, NoneTaken};
+ghost use Rattle.ref_space.specs.Worklists.{first_in};
 
 use crate::page::Page;
 use ref_base::Fault;
@@ -26,6 +30,8 @@ pub struct Pages<A: Allocator = Global> {
     next_address: u64,
     // No page in front of this place is open and has a free cell.
     first_open: usize,
+    // No cell is taken of the chosen pages in front of this place in their list.
+    first_left: usize,
 }
 
 impl<A: Allocator> Model for Pages<A> {
@@ -38,7 +44,7 @@ impl<A: Allocator> Model for Pages<A> {
     ghost view = { λ p. record { uses = p.pages.items; next = p.next_address } };
 
     ghost invariant = { λ p. ArePages p.pages.items p.places.items p.chosen.items p.next_address p.first_open
-        (vec_capacity p.pages) (vec_capacity p.chosen) };
+        p.first_left (vec_capacity p.pages) (vec_capacity p.chosen) };
 }
 
 impl<A: Allocator + Copy> Pages<A> {
@@ -58,13 +64,14 @@ impl<A: Allocator + Copy> Pages<A> {
             chosen,
             next_address: first_address as u64 + count as u64,
             first_open: 0,
+            first_left: 0,
         })
     }
 }
 
 impl<A: Allocator> Pages<A> {
-    ghost use Rattle.ref_space.specs.Pages.{AreWhole, AreBetween, next_cell, with_placed, with_given, taken_cells};
-    ghost use Rattle.ref_space.specs.Pages.{is_free_at, use_of, has_chosen, choice, after_choice, renumbered};
+    ghost use Rattle.ref_space.specs.Pages.{AreWhole, AreBetween, next_cell, with_placed, with_given};
+    ghost use Rattle.ref_space.specs.Pages.{place_in_frame, is_free_at, has_chosen, choice, after_choice, renumbered};
 
     /// How many pages there are. Takes no memory, in constant time.
     pub fn len(&self) -> usize
@@ -98,6 +105,7 @@ impl<A: Allocator> Pages<A> {
     /// room that it passes over: each once, and again once a cell in front of it was given back or addresses changed.
     pub fn place(&mut self) -> Option<(usize, u32)>
         ensures answer { result ≡ next_cell self.old.uses }
+        ensures within { IfSome result (λ at. place_in_frame at < 64 * length self.old.uses) }
         ensures after { self.new ≡ with_placed self.old }
     {
         let page = first_with_room(&self.pages, self.first_open);
@@ -139,6 +147,14 @@ impl<A: Allocator> Pages<A> {
         self.pages[self.place_of(frame)].taken()
     }
 
+    /// Whether the page of this frame is chosen. Takes no memory, in constant time.
+    pub fn is_chosen(&self, frame: usize) -> bool
+        requires { frame < length self.now.uses }
+        ensures { result ≡ (use_of self.now.uses frame).chosen }
+    {
+        self.pages[self.place_of(frame)].is_chosen()
+    }
+
     /// Whether pages are chosen. Takes no memory, in constant time.
     pub fn has_chosen(&self) -> bool
         ensures { result ≡ has_chosen self.now.uses }
@@ -164,13 +180,116 @@ impl<A: Allocator> Pages<A> {
         }
         let cells = sparse_cells(&self.pages);
         choose_sparse(&mut self.pages, &mut self.chosen);
+        self.first_left = 0;
         Ok(cells)
+    }
+
+    /// The first taken cell of the chosen pages, by place: cell c of frame f is place 64 * f + c. None where nothing is
+    /// left there. Takes no memory. In constant time, but for the chosen pages without a taken cell that it passes over,
+    /// each once.
+    pub fn first_left(&mut self) -> Option<usize>
+        ensures answer { result ≡ first_in (left_in self.old.uses) }
+        ensures after { self.new ≡ self.old }
+    {
+        let at = self.first_with_left();
+        self.first_left = at;
+        if at == self.chosen_count() {
+            return None;
+        }
+        let frame = self.chosen_frame(at);
+        let page = self.place_of(frame);
+        Some(64 * frame + self.pages[page].lowest_taken() as usize)
+    }
+
+    /// Whether something is left there. Takes no memory, in time as for `first_left`, but that the pages it passes over
+    /// are passed over again by the next call.
+    pub fn has_left(&self) -> bool
+        ensures { result ≡ is_some (first_in (left_in self.now.uses)) }
+    {
+        self.first_with_left() < self.chosen_count()
+    }
+
+    // Where the first chosen page that has a taken cell stands in their list, or how many they are.
+    fn first_with_left(&self) -> usize
+        ensures within { result ≤ length (chosen_frames self.now.uses) }
+        ensures none { NoneTaken self.now.uses (chosen_frames self.now.uses) result }
+        ensures there { result < length (chosen_frames self.now.uses)
+            → 0 < taken_cells (use_of self.now.uses (slice_index_or (chosen_frames self.now.uses) result 0)) }
+    {
+        for at in self.first_left..self.chosen_count() {
+            if self.taken(self.chosen_frame(at)) > 0 {
+                return at;
+            }
+        }
+        self.chosen_count()
+    }
+
+    // How many pages are chosen.
+    fn chosen_count(&self) -> usize
+        ensures { result ≡ length (chosen_frames self.now.uses) }
+    {
+        self.chosen.len()
+    }
+
+    // The frame of the chosen page at this place in their list.
+    fn chosen_frame(&self, at: usize) -> usize
+        requires { at < length (chosen_frames self.now.uses) }
+        ensures frame { result ≡ slice_index_or (chosen_frames self.now.uses) at 0 }
+        ensures within { result < length self.now.uses }
+        ensures chosen { (use_of self.now.uses result).chosen ≡ true }
+        ensures whole { AreWhole self.now.uses }
+    {
+        self.chosen[at] as usize
+    }
+
+    /// Takes for each taken cell of the chosen pages, in order, the next free cell of an open one, while there is one,
+    /// and writes its place into the list, which has an entry for each place. Takes no memory, in time of the chosen
+    /// pages, and as for so many calls of `place`.
+    pub fn reserve(&mut self, forwards: &mut [u32])
+        requires each { length forwards.old ≡ 64 * length self.old.uses }
+        requires small { length forwards.old ≤ 2 ^ 32 }
+        ensures { (self.new, forwards.new) ≡ reserving (self.old, forwards.old) (left_in self.old.uses) }
+    {
+        for at in 0..self.chosen_count() {
+            let frame = self.chosen_frame(at);
+            self.reserve_frame(frame, forwards);
+        }
+    }
+
+    // The same for each taken cell of this frame, whose page is chosen.
+    fn reserve_frame(&mut self, frame: usize, forwards: &mut [u32])
+        requires frame { frame < length self.old.uses }
+        requires chosen { (use_of self.old.uses frame).chosen ≡ true }
+        requires whole { AreWhole self.old.uses }
+        requires each { length forwards.old ≡ 64 * length self.old.uses }
+        requires small { length forwards.old ≤ 2 ^ 32 }
+        ensures { (self.new, forwards.new) ≡ reserving (self.old, forwards.old)
+            (taken_places (64 * frame) (use_of self.old.uses frame).free) }
+    {
+        for cell in 0..64 {
+            if !self.is_free(frame, cell) {
+                self.reserve_place(64 * frame + cell as usize, forwards);
+            }
+        }
+    }
+
+    // The same for what lies at this place.
+    fn reserve_place(&mut self, from: usize, forwards: &mut [u32])
+        requires from { from < length forwards.old }
+        requires each { length forwards.old ≡ 64 * length self.old.uses }
+        requires small { length forwards.old ≤ 2 ^ 32 }
+        ensures { (self.new, forwards.new) ≡ reserved (self.old, forwards.old) from }
+    {
+        if let Some((frame, cell)) = self.place() {
+            forwards[from] = (64 * frame + cell as usize) as u32;
+        }
     }
 
     /// Ends what a choice began: each chosen page is open again with all its cells free, and gets, in order, the next
     /// address that none ever had. So it comes behind all others. Takes no memory, in time of the pages.
     pub fn renumber(&mut self)
-        ensures { self.new ≡ renumbered self.old }
+        ensures after { self.new ≡ renumbered self.old }
+        ensures addresses { self.new.next ≤ 2 ^ 32 }
     {
         drop_chosen(&mut self.pages);
         push_emptied(&mut self.pages, &self.chosen, self.next_address);
@@ -178,6 +297,7 @@ impl<A: Allocator> Pages<A> {
         self.chosen.clear();
         set_places(&mut self.places, &self.pages);
         self.first_open = 0;
+        self.first_left = 0;
     }
 }
 

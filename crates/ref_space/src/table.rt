@@ -1,14 +1,17 @@
 //! The table of a heap's objects, and of the slots that hold them: how they lie, and the calls that name an object by
 //! its number.
 
-ghost use Rattle.std.specs.Prelude.{◌≡◌, ◌+◌, ◌-◌, ◌/◌, ◌%◌, ◌^◌, ◌==◌, ◌≤◌, ◌<◌, nat_lt, IfOk, OnErr, true, length};
-ghost use Rattle.std.specs.Prelude.{is_some, map, replicate, if◌then◌else◌, None, Some};
+ghost use Rattle.std.specs.Prelude.{◌≡◌, ◌+◌, ◌-◌, ◌*◌, ◌/◌, ◌%◌, ◌^◌, ◌==◌, ◌≤◌, ◌<◌, nat_lt, IfOk, OnErr, true};
+ghost use Rattle.std.specs.Prelude.{false, [], length};
+ghost use Rattle.std.specs.Prelude.{is_some, map, replicate, slice_index_or, if◌then◌else◌, None, Some};
 ghost use Rattle.std.specs.Option.{option_map};
 ghost use Rattle.std.specs.Bool.{OnFalse};
 ghost use Rattle.ref_space.specs.Places.{begun_cell};
-ghost use Rattle.ref_space.specs.ColouredWords.{recoloured};
+ghost use Rattle.ref_space.specs.Places.{place_of_word};
+ghost use Rattle.ref_space.specs.Naming.{word_there, IsSettled};
 
 mod by_word;
+mod moves;
 mod scan;
 mod slots;
 
@@ -26,21 +29,29 @@ use crate::reference::Reference;
 use crate::round::Round;
 use crate::word::Word;
 use crate::worklist::Worklist;
+use by_word::healed_word;
 use ref_base::{Fault, ObjNo, Policy};
 use std::alloc::{AllocError, Allocator, Global};
 use std::marker::Model;
 
 /// The objects of a heap, each with a count of holds and a mark. All memory is taken by `new`: for each cell 160 bytes
-/// of its own and 16 of the index, and 32 for each page of 64 cells.
+/// of its own, 8 of the index and 4 for where what lay there moved, and 32 for each page of 64 cells. Twice as many
+/// pages are there as the objects fill that there may be, so that there is room for what moves.
 #[derive(Drop)]
 pub struct Table<A: Allocator = Global> {
     // Cell c of frame f stands at place 64 * f + c.
     cells: Vec<Cell, A>,
-    // In order of number. It has room for two entries a cell, so gaps are closed at most once in as many new objects as
-    // there are cells.
+    // In order of number. It has room for as many entries as there are cells, two for each object that there may be, so
+    // gaps are closed at most once in as many new objects as there may be.
     index: Vec<Entry, A>,
     // Which cells are free. A new object gets the lowest of the first page that has one.
     pages: Pages<A>,
+    // Of each place, where what lay there moved.
+    forwards: Vec<u32, A>,
+    // The colour of the words from before the last choice.
+    last_good: Colour,
+    // Whether nothing was chosen since the round began.
+    is_tuned: bool,
     // The round that goes on.
     round: Round,
     // What the slots hold.
@@ -61,13 +72,18 @@ impl<A: Allocator> Model for Table<A> {
 
     ghost Value = { Data };
 
+    ghost use Rattle.ref_space.specs.Moves.{ways_of};
     ghost use Rattle.ref_space.specs.Places.{IsSoundTable, IsSoundNaming, seen_table};
 
-    ghost view = { λ t. seen_table t.round t.pages t.cells.items t.index.items t.slots.items t.last t.room };
+    ghost view = { λ t. seen_table t.round (ways_of t.pages t.forwards.items t.last_good t.is_tuned)
+        t.cells.items t.index.items t.slots.items t.last t.room };
 
-    ghost invariant = { λ t. IsSoundTable t.round t.cells.items t.index.items t.pages t.last t.room t.count
+    ghost invariant = { λ t.
+        IsSoundTable t.round t.cells.items t.index.items
+        (ways_of t.pages t.forwards.items t.last_good t.is_tuned) t.last t.room t.count
         (vec_capacity t.index) t.marked
-        × IsSoundNaming t.round t.cells.items t.index.items t.slots.items };
+        × IsSoundNaming t.round (ways_of t.pages t.forwards.items t.last_good t.is_tuned)
+        t.cells.items t.index.items t.slots.items };
 }
 
 impl<A: Allocator + Copy> Table<A> {
@@ -89,15 +105,18 @@ impl<A: Allocator + Copy> Table<A> {
     ghost use Rattle.ref_base.specs.CollectorRows.{referent_of};
     ghost use Rattle.ref_space.specs.Tables.{made_of, IsUnnamed};
     ghost use Rattle.ref_space.specs.Worklists.{emptied_list, with_more};
-    ghost use Rattle.ref_space.specs.Naming.{target_of, HasTarget, IsHealed, IsWordHeld, by_number, reference_by_number};
+    ghost use Rattle.ref_space.specs.Naming.{target_of, HasTarget, IsHealed, IsWordHeld, by_number};
+    ghost use Rattle.ref_space.specs.Naming.{reference_by_number};
     ghost use Rattle.ref_space.specs.Naming.{bits_told};
+    ghost use Rattle.ref_space.specs.Tables.{LiesAt, left_of};
+    ghost use Rattle.ref_space.specs.Pages.{has_chosen};
 
     /// A table of no objects, with room for so many, in pages at this address and those that follow it, and with so
     /// many slots, each empty. The one error is `NoMemory`.
     pub fn new(alloc: A, room: usize, slots: usize, first_page: u32) -> Result<Self, Fault>
         requires small { room ≤ 2 ^ 16 }
         requires begins { 1 ≤ first_page }
-        requires addresses { first_page + (room + 63) / 64 ≤ 2 ^ 32 }
+        requires addresses { first_page + 2 * ((room + 63) / 64) ≤ 2 ^ 32 }
         ensures ok { IfOk result (λ t. t ≡ empty_table room slots first_page) }
         ensures err { OnErr result (result ≡ Err Fault.NoMemory) }
     {
@@ -108,18 +127,22 @@ impl<A: Allocator + Copy> Table<A> {
     fn with_room(alloc: A, room: usize, slots: usize, first_page: u32) -> Result<Self, AllocError>
         requires small { room ≤ 2 ^ 16 }
         requires begins { 1 ≤ first_page }
-        requires addresses { first_page + (room + 63) / 64 ≤ 2 ^ 32 }
+        requires addresses { first_page + 2 * ((room + 63) / 64) ≤ 2 ^ 32 }
         ensures { IfOk result (λ t. t ≡ empty_table room slots first_page) }
     {
-        let page_count = room.div_ceil(64);
+        let page_count = 2 * room.div_ceil(64);
         let pages = Pages::new(alloc, page_count, first_page)?;
-        let index = Vec::with_capacity(alloc, 128 * page_count)?;
+        let index = Vec::with_capacity(alloc, 64 * page_count)?;
         let slots = empty_slots(alloc, slots)?;
         let cells = free_cells(alloc, 64 * page_count)?;
+        let forwards = no_moves(alloc, 64 * page_count)?;
         Ok(Table {
             cells,
             index,
             pages,
+            forwards,
+            last_good: Colour::A,
+            is_tuned: true,
             round: Round::FIRST,
             slots,
             room,
@@ -133,6 +156,7 @@ impl<A: Allocator + Copy> Table<A> {
     pub fn len(&self) -> usize
         ensures count { result ≡ length self.now.tabled }
         ensures orderly { IsOrderlyTable self.now }
+        ensures settled { self.now.ways.tuned ≡ true → left_of self.now ≡ [] }
     {
         self.count
     }
@@ -175,7 +199,7 @@ impl<A: Allocator + Copy> Table<A> {
     /// no such object or field. The word is one of the cell in which the field's object lies.
     pub fn word_at(&self, no: ObjNo, field: usize) -> Option<u64>
         ensures there { is_some result ≡ has_field (tabled_at self.now.tabled no) field }
-        ensures word { IfSome result (IsWordHeld self.now.round.good self.now.pages.uses self.now.occupants
+        ensures word { IfSome result (IsWordHeld self.now.round.good self.now.ways self.now.occupants
             (is_healed_in self.now.round.number (tabled_at self.now.tabled no))
             (field_held (tabled_at self.now.tabled no) field)) }
     {
@@ -191,7 +215,7 @@ impl<A: Allocator + Copy> Table<A> {
     // The bits of a word with the address of its page in the place of the frame: 0 for null.
     fn told_bits(&self, value: Word) -> u64
         requires { HasTarget self.now value }
-        ensures { result ≡ bits_told self.now.pages.uses value }
+        ensures { result ≡ bits_told self.now.ways.pages.uses value }
     {
         match value.place() {
             Some(place) => value.bits_at(self.pages.address(place as usize / 64)),
@@ -205,7 +229,8 @@ impl<A: Allocator + Copy> Table<A> {
     /// place, and else by one search.
     #[inline(always)]
     pub fn scan(&mut self, entry: Entry, policy: Policy, grey: &mut Worklist<A>) -> bool
-        requires { MayList self.old grey.old }
+        requires tuned { self.old.ways.tuned ≡ true }
+        requires room { MayList self.old grey.old }
         ensures finds { result ≡ refers_into (is_unmarked_at self.old.round.number self.new.tabled)
             (tabled_reference (tabled_at self.old.tabled entry.no)) }
         ensures listed { grey.new ≡ with_more grey.old
@@ -229,9 +254,23 @@ impl<A: Allocator + Copy> Table<A> {
         ensures healed { IsHealed self.now result }
     {
         match place_of(&self.cells, &self.index, no) {
-            Some(place) => Word::of_place(self.round.good, place as u32),
+            Some(place) => self.word_to(place),
             None => Word::null(),
         }
+    }
+
+    // The word of the object at this place: in the good colour, but in that from before where it is still to move.
+    fn word_to(&self, place: usize) -> Word
+        requires { is_some (slice_index_or self.now.occupants place None) ≡ true }
+        ensures named { target_of self.now result ≡ slice_index_or self.now.occupants place None }
+        ensures healed { IsHealed self.now result }
+    {
+        let colour = if self.pages.is_chosen(place / 64) {
+            self.last_good
+        } else {
+            self.round.good
+        };
+        Word::of_place(colour, place as u32)
     }
 
     /// Whether the object of this number is held.
@@ -389,11 +428,12 @@ impl<A: Allocator + Copy> Table<A> {
         requires rises { self.old.last < no }
         requires room { length self.old.tabled < self.old.room }
         requires from { IfSome reference (λ r. r.from < length self.old.slots) }
-        ensures { self.new ≡ with_tabled self.old into
+        ensures after { self.new ≡ with_tabled self.old into
             (made_entry self.old.round.number no count (option_map (made_of self.old.slots) reference) marked) }
+        ensures left { left_of self.new ≡ left_of self.old }
     {
         let kept = self.kept_of_new(reference);
-        make_room(&mut self.index, &self.cells, 2 * self.cells.len());
+        make_room(&mut self.index, &self.cells, self.cells.len());
         let (page, cell) = self.pages.place().unwrap();
         let place = 64 * page + cell as usize;
         self.cells[place].occupy(no, count, kept, marked, self.round.number);
@@ -428,10 +468,12 @@ impl<A: Allocator + Copy> Table<A> {
     /// Frees the object of this entry. False where there is none, or it is marked: then nothing changes. Nothing names
     /// one that goes. In constant time where the object lies at the entry's place, and else by one search.
     pub fn free(&mut self, entry: Entry) -> bool
-        requires { is_unmarked_in self.old.round.number (tabled_at self.old.tabled entry.no) ≡ true
+        requires tuned { self.old.ways.tuned ≡ true }
+        requires unnamed { is_unmarked_in self.old.round.number (tabled_at self.old.tabled entry.no) ≡ true
             → IsUnnamed self.old entry.no }
         ensures answer { result ≡ is_unmarked_in self.old.round.number (tabled_at self.old.tabled entry.no) }
         ensures after { self.new ≡ table_freed self.old entry.no }
+        ensures left { left_of self.new ≡ left_of self.old }
     {
         let Some(place) = place_near(&self.cells, &self.index, entry.no, entry.place as usize)
         else {
@@ -514,10 +556,13 @@ impl<A: Allocator + Copy> Table<A> {
     /// A round begins, in which this colour is good: the slots are healed, and no object is marked or healed. In time
     /// of the slots; and, once in 2^64 - 1 rounds, of the cells.
     pub fn begin(&mut self, good: Colour)
+        requires settled { left_of self.old ≡ [] }
+        requires apart { has_chosen self.old.ways.pages.uses ≡ true → self.old.ways.last ≡ good → ⊥ }
         ensures { self.new ≡ table_begun self.old good }
     {
-        recolour(&mut self.slots, good);
+        heal_slots(&mut self.slots, &self.cells, &self.forwards, good);
         self.marked = 0;
+        self.is_tuned = true;
         if self.round.number < u64::MAX {
             let number = self.round.number + 1;
             self.round = Round { number, good };
@@ -538,12 +583,14 @@ fn forget_rounds(cells: &mut [Cell])
     }
 }
 
-// These words get this colour.
-fn recolour(words: &mut [Word], colour: Colour)
-    ensures { words.new ≡ map (recoloured colour) words.old }
+// These words are healed.
+fn heal_slots(slots: &mut [Word], cells: &[Cell], forwards: &[u32], good: Colour)
+    requires few { length cells.now ≤ 2 ^ 17 }
+    requires each { length forwards.now ≡ length cells.now }
+    ensures { slots.new ≡ map (λ v. word_there good (place_of_word cells.now forwards.now v)) slots.old }
 {
-    for word in words.iter_mut() {
-        *word = word.in_colour(colour);
+    for word in slots.iter_mut() {
+        *word = healed_word(cells, forwards, *word, good);
     }
 }
 
@@ -556,6 +603,17 @@ fn free_cells<A: Allocator>(alloc: A, room: usize) -> Result<Vec<Cell, A>, Alloc
         cells.push_reserved(Cell::vacant());
     }
     Ok(cells)
+}
+
+// Of so many places, that nothing moved.
+fn no_moves<A: Allocator>(alloc: A, count: usize) -> Result<Vec<u32, A>, AllocError>
+    ensures { IfOk result (λ v. v.items ≡ replicate count 0) }
+{
+    let mut forwards = Vec::with_capacity(alloc, count)?;
+    for _place in 0..count {
+        forwards.push_reserved(0);
+    }
+    Ok(forwards)
 }
 
 // So many empty slots.

@@ -10,14 +10,17 @@ ghost use Rattle.ref_world.specs.HeapReplies.{told_reply, GivesOut, IsGiven, IsH
 ghost use Rattle.ref_world.specs.Standing.{answered};
 ghost use Rattle.ref_world.specs.WorldHeaps.{heap_no_of};
 
-use crate::replies::{began, done, doomed, looked, made, refers, scanned, swept, value};
+use crate::replies::{
+    began, done, doomed, looked, made, moved, refers, scanned, selected, swept, value,
+};
 use ref_base::{Fault, HeapStep, ObjNo, PlainStep, Reply};
-use ref_clear::{Heap, Notice};
+use ref_clear::Notice;
+use ref_move::MovingHeap;
 use ref_objects::Hold;
 use std::alloc::{Allocator, Global};
 
 /// The heap that a world has.
-pub type WorldHeap<A = Global> = Heap<A>;
+pub type WorldHeap<A = Global> = MovingHeap<A>;
 
 /// What a step of a heap answers, with what it gives out.
 #[derive(Debug)]
@@ -118,6 +121,9 @@ fn plain_call<A: Allocator + Copy>(heap: &mut WorldHeap<A>, step: PlainStep) -> 
         PlainStep::EndClear => done(heap.end_clear()),
         PlainStep::Sweep { worker } => swept(heap.sweep(worker)),
         PlainStep::EndSweep => done(heap.end_sweep()),
+        PlainStep::Select => selected(heap.select()),
+        PlainStep::MoveNext { worker } => moved(heap.move_next(worker)),
+        PlainStep::EndMove => done(heap.end_move()),
     }
 }
 

@@ -2,7 +2,7 @@
 
 ghost use Rattle.std.specs.Prelude.{◌≡◌};
 ghost use Rattle.ref_base.specs.CollectorRows.{value_reply};
-ghost use Rattle.ref_mark.specs.MarkCalls.{reply_of, done_reply, scan_reply};
+ghost use Rattle.ref_mark.specs.MarkCalls.{reply_of, done_reply, scan_reply, moved_reply};
 ghost use Rattle.ref_clear.specs.ClearCalls.{looked_reply, swept_reply};
 
 use ref_base::{Fault, ObjNo, Reply};
@@ -100,6 +100,25 @@ pub(crate) fn swept(answer: Result<Option<u32>, Fault>) -> Reply
 {
     match answer {
         Ok(Some(count)) => Reply::Swept(count),
+        Ok(None) => Reply::Nothing,
+        Err(fault) => Reply::Refused(fault),
+    }
+}
+
+pub(crate) fn selected(answer: Result<u32, Fault>) -> Reply
+    ensures { result ≡ reply_of Reply.Selected answer }
+{
+    match answer {
+        Ok(count) => Reply::Selected(count),
+        Err(fault) => Reply::Refused(fault),
+    }
+}
+
+pub(crate) fn moved(answer: Result<Option<ObjNo>, Fault>) -> Reply
+    ensures { result ≡ reply_of moved_reply answer }
+{
+    match answer {
+        Ok(Some(object)) => Reply::Moved(object),
         Ok(None) => Reply::Nothing,
         Err(fault) => Reply::Refused(fault),
     }

@@ -9,6 +9,7 @@ use Rattle.ref_base.specs.declared.actor.Actor.TheVariants.{Mutator}
 use Rattle.ref_base.specs.declared.urgency.Urgency.{Urgency}
 use Rattle.ref_base.specs.declared.step.Step.{Step}
 use Rattle.ref_base.specs.declared.plain_step.PlainStep.TheVariants.{Store, Load, EndMark, EndClear, EndSweep}
+use Rattle.ref_base.specs.declared.plain_step.PlainStep.TheVariants.{Select, EndMove}
 use Rattle.ref_base.specs.declared.step.Step.TheVariants.{Release}
 use Rattle.refrun.specs.StepForms.{Form}
 use Rattle.ref_base.specs.declared.step.Step.TheVariants as steps
@@ -110,6 +111,8 @@ form_of_world_step (steps.Plain (Begin now urgency)) =
 form_of_world_step (steps.Plain EndMark) = has_form Turn (codes "endmark") [] [] refl tt
 form_of_world_step (steps.Plain EndClear) = has_form Turn (codes "endclear") [] [] refl tt
 form_of_world_step (steps.Plain EndSweep) = has_form Turn (codes "endsweep") [] [] refl tt
+form_of_world_step (steps.Plain Select) = has_form Turn (codes "select") [] [] refl tt
+form_of_world_step (steps.Plain EndMove) = has_form Turn (codes "endmove") [] [] refl tt
 form_of_world_step step = search (rules, alone, at_slot, at_slots, at_queue)
 
 pub form_of_step : (step : ScriptStep) → HasForm (script_step_words step)

@@ -69,17 +69,20 @@ worker_forms =
     ∷ form (codes "clearnext") []
     ∷ form (codes "hand") []
     ∷ form (codes "sweep") []
+    ∷ form (codes "move") []
     ∷ form (codes "put") []
     ∷ form (codes "release") []
     ∷ []
 
--- the steps that have no actor: the turns of a cycle
+-- the steps that have no actor: the turns of a cycle, and those of moves
 abbrev pub turn_forms : List Form
 turn_forms =
     form (codes "begin") (Clock ∷ UrgencyName ∷ [])
     ∷ form (codes "endmark") []
     ∷ form (codes "endclear") []
     ∷ form (codes "endsweep") []
+    ∷ form (codes "select") []
+    ∷ form (codes "endmove") []
     ∷ []
 
 -- the operands behind a name, if it is the name of one of these steps

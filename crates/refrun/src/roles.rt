@@ -166,8 +166,8 @@ impl<'a> Station<'a> {
         }
     }
 
-    /// A worker's share of the cycles, until the mutators have ended. The first worker begins and ends the cycles and
-    /// their phases; what comes at the wrong time is refused, which is no matter.
+    /// A worker's share of the cycles, until the mutators have ended. The first worker begins and ends the cycles,
+    /// their phases and the moves between them; what comes at the wrong time is refused, which is no matter.
     pub(crate) fn work<R: Wait>(&mut self, rt: &R, worker: WorkerNo) -> Result<(), Fault>
         requires { IsSeated self.old }
         ensures { StaysSeated self.old self.new }
@@ -187,20 +187,34 @@ impl<'a> Station<'a> {
         unreachable!()
     }
 
-    /// Ends the phase that can end, and begins a cycle where none is open and this is not the last time.
+    /// Ends the phase that can end. Where a cycle has ended, objects are chosen to move; and a cycle begins where none
+    /// is open and nothing moves. Neither comes at the last time.
     fn lead<R: Wait>(&mut self, rt: &R, now: u64, is_last: bool)
         requires { IsSeated self.old }
         ensures { StaysSeated self.old self.new }
     {
         let _ = self.ask(rt, PlainStep::EndMark);
         let _ = self.ask(rt, PlainStep::EndClear);
+        let _ = self.ask(rt, PlainStep::EndMove);
         if self.ask(rt, PlainStep::EndSweep).is_ok() {
             self.shared.tally.count_cycle();
         }
         if !is_last {
+            let _ = self.ask(rt, PlainStep::Select);
             let urgency = Urgency::Normal;
             let _ = self.ask(rt, PlainStep::Begin { now, urgency });
         }
+    }
+
+    /// One step of each kind of work.
+    fn collect<R: Wait>(&mut self, rt: &R, worker: WorkerNo)
+        requires { IsSeated self.old }
+        ensures { StaysSeated self.old self.new }
+    {
+        let _ = self.ask(rt, PlainStep::Scan { worker });
+        let _ = self.ask(rt, PlainStep::ClearNext { worker });
+        let _ = self.ask(rt, PlainStep::Sweep { worker });
+        let _ = self.ask(rt, PlainStep::MoveNext { worker });
     }
 
     /// One step of each kind of work, and one notice on its way.
@@ -208,9 +222,7 @@ impl<'a> Station<'a> {
         requires { IsSeated self.old }
         ensures { StaysSeated self.old self.new }
     {
-        let _ = self.ask(rt, PlainStep::Scan { worker });
-        let _ = self.ask(rt, PlainStep::ClearNext { worker });
-        let _ = self.ask(rt, PlainStep::Sweep { worker });
+        self.collect(rt, worker);
         let answer = deliver_one(
             rt,
             self.shared.heap,

@@ -243,6 +243,9 @@ fn worker_step(by: WorkerNo, name: &[u8], operands: &mut Operands<'_>) -> Option
     if name == b"sweep".as_slice() {
         return Some(Step::Plain(PlainStep::Sweep { worker: by }));
     }
+    if name == b"move".as_slice() {
+        return Some(Step::Plain(PlainStep::MoveNext { worker: by }));
+    }
     if name == b"put".as_slice() {
         return Some(Step::Put {
             actor: Actor::Worker(by),
@@ -256,7 +259,7 @@ fn worker_step(by: WorkerNo, name: &[u8], operands: &mut Operands<'_>) -> Option
     None
 }
 
-/// The turn of a cycle of this name.
+/// The turn of a cycle or of moves of this name.
 fn turn(name: &[u8], operands: &mut Operands<'_>) -> Option<Step>
     ensures { MatchOption result (operands_in turn_forms name.now ≡ None)
         (λ step. IsReadNamed (operands_in turn_forms name.now) name.now (reading operands.old)
@@ -276,6 +279,12 @@ fn turn(name: &[u8], operands: &mut Operands<'_>) -> Option<Step>
     }
     if name == b"endsweep".as_slice() {
         return Some(Step::Plain(PlainStep::EndSweep));
+    }
+    if name == b"select".as_slice() {
+        return Some(Step::Plain(PlainStep::Select));
+    }
+    if name == b"endmove".as_slice() {
+        return Some(Step::Plain(PlainStep::EndMove));
     }
     None
 }

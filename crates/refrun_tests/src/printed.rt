@@ -274,6 +274,9 @@ fn each_step_of_the_collector_prints_as_in_a_script(rt: HostRuntime) -> Result<(
         (Step::Hand { worker }, "w0 hand"),
         (Step::Plain(PlainStep::Sweep { worker }), "w0 sweep"),
         (Step::Plain(PlainStep::EndSweep), "endsweep"),
+        (Step::Plain(PlainStep::Select), "select"),
+        (Step::Plain(PlainStep::MoveNext { worker }), "w0 move"),
+        (Step::Plain(PlainStep::EndMove), "endmove"),
     ];
     agree(&rt, rt.alloc(), &table)
 }
@@ -323,6 +326,8 @@ fn each_reply_of_the_collector_prints_as_in_a_trace(rt: HostRuntime) -> Result<(
             "notice 2 q0 cycle 1 w0",
         ),
         (Reply::Swept(64), "swept 64"),
+        (Reply::Selected(3), "selected 3"),
+        (Reply::Moved(ObjNo(1)), "moved 1"),
     ];
     agree(&rt, rt.alloc(), &table)
 }

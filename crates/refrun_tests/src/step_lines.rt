@@ -8,7 +8,7 @@ use std::process::Abort;
 use std::test::Fail;
 
 /// A line of each step; actors, slots and queues may be outside the configuration.
-const READ: [&str; 36] = [
+const READ: [&str; 39] = [
     "m0 new s0 0",
     "m0 soft s1 s0 q0 0",
     "m0 weak s1 s0 - 0",
@@ -33,6 +33,7 @@ const READ: [&str; 36] = [
     "w0 clearnext",
     "w0 hand",
     "w0 sweep",
+    "w0 move",
     "w0 put",
     "w0 release",
     "begin 5 normal",
@@ -40,6 +41,8 @@ const READ: [&str; 36] = [
     "endmark",
     "endclear",
     "endsweep",
+    "select",
+    "endmove",
     "m0 weak s00 s01 q02 003",
     "m4294967295 drop s4294967295",
     "  w7   scan ",
@@ -48,7 +51,7 @@ const READ: [&str; 36] = [
 ];
 
 /// The actor's letter or the name is that of no step, or the name is missing, whatever else is wrong.
-const UNKNOWN: [&str; 31] = [
+const UNKNOWN: [&str; 28] = [
     "m0",
     "w0",
     "m",
@@ -73,9 +76,6 @@ const UNKNOWN: [&str; 31] = [
     "end mark",
     "w0 job s1 1",
     "w0 run s1",
-    "select",
-    "w0 move",
-    "endmove",
     "m0 -",
     "put m0",
     "wx",
@@ -187,7 +187,7 @@ const BAD: [&str; 65] = [
 ];
 
 /// A word stands behind the last operand.
-const EXTRA: [&str; 32] = [
+const EXTRA: [&str; 35] = [
     "m0 new s0 0 x",
     "m0 soft s1 s0 q0 0 x",
     "m0 weak s1 s0 - 0 x",
@@ -211,6 +211,7 @@ const EXTRA: [&str; 32] = [
     "w0 clearnext x",
     "w0 hand x",
     "w0 sweep x",
+    "w0 move x",
     "w0 put x",
     "w0 release x",
     "begin 5 normal x",
@@ -218,6 +219,8 @@ const EXTRA: [&str; 32] = [
     "endmark x",
     "endclear x",
     "endsweep x",
+    "select x",
+    "endmove x",
     "m0 put s0 s0",
     "endmark w0",
 ];

@@ -23,7 +23,11 @@ enum Call {
     Address(usize),
     Len,
     HasChosen,
+    IsChosen(usize),
     Choose,
+    /// The first taken cell of the chosen pages.
+    FirstLeft,
+    HasLeft,
     Renumber,
 }
 
@@ -114,6 +118,31 @@ fn choose<A: Allocator>(pages: &mut Pages<A>) -> Told {
     }
 }
 
+fn is_chosen<A: Allocator>(pages: &Pages<A>, frame: usize) -> Told {
+    if frame >= pages.len() {
+        return Told::NotAsked;
+    }
+    yes_or_no(pages.is_chosen(frame))
+}
+
+fn at(place: Option<usize>) -> Told {
+    match place {
+        Some(place) => Told::At(place / 64, (place % 64) as u32),
+        None => Told::Nowhere,
+    }
+}
+
+/// What the chosen pages have is to move: the list tells where to. Not asked where the list isn't one of all places.
+fn reserve<A: Allocator>(pages: &mut Pages<A>, forwards: &mut [u32]) -> Told {
+    // Divided, since no product of a length is known to fit.
+    let is_of_all_places = forwards.len() / 64 == pages.len() && forwards.len() % 64 == 0;
+    if !is_of_all_places || forwards.len() > 1 << 32 {
+        return Told::NotAsked;
+    }
+    pages.reserve(forwards);
+    Told::Done
+}
+
 fn renumber<A: Allocator>(pages: &mut Pages<A>) -> Told {
     pages.renumber();
     Told::Done
@@ -130,7 +159,10 @@ fn answer<A: Allocator>(pages: &mut Pages<A>, call: Call) -> Told {
         Call::Address(frame) => address(pages, frame),
         Call::Len => Told::Number(pages.len() as u64),
         Call::HasChosen => yes_or_no(pages.has_chosen()),
+        Call::IsChosen(frame) => is_chosen(pages, frame),
         Call::Choose => choose(pages),
+        Call::FirstLeft => at(pages.first_left()),
+        Call::HasLeft => yes_or_no(pages.has_left()),
         Call::Renumber => renumber(pages),
     }
 }

@@ -89,6 +89,7 @@ impl Heap {
         for place in self.dead.drain(left..).rev() {
             let place = place as usize;
             self.cells[place].no = 0;
+            self.count -= 1;
             self.pages[place / CELLS].taken &= !(1 << (place % CELLS));
             self.first_open = self.first_open.min(place / CELLS);
         }
@@ -100,17 +101,18 @@ impl Heap {
         if !self.dead.is_empty() {
             return Err(Fault::SweepLeft);
         }
+        self.renumber();
         self.phase = Phase::Idle;
         Ok(())
     }
 
     // ---- parts of calls
 
-    fn check(&self, phase: Phase) -> Result<(), Fault> {
+    pub(super) fn check(&self, phase: Phase) -> Result<(), Fault> {
         (self.phase == phase).then_some(()).ok_or(Fault::WrongPhase)
     }
 
-    fn check_worker(&self, worker: usize, phase: Phase) -> Result<(), Fault> {
+    pub(super) fn check_worker(&self, worker: usize, phase: Phase) -> Result<(), Fault> {
         (worker < self.found.len()).then_some(()).ok_or(Fault::NoSuchActor)?;
         self.check(phase)
     }
@@ -122,7 +124,7 @@ impl Heap {
             return;
         }
         let is_kept = strength == Strength::Soft && self.clock - stamp <= self.span;
-        if is_kept || self.is_marked(referent.place()) {
+        if is_kept || self.is_marked(self.lies_at(referent.place())) {
             self.heal_referent(grey as usize, referent);
         } else {
             self.cells[grey as usize].link = self.found[worker].replace(grey);

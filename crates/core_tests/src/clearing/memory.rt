@@ -30,6 +30,10 @@ const SMALL: Config = Config {
     span: 10,
 };
 
+/// How many bytes a heap of this size takes: 11,040 for each of its two pages, 16 for each cell of its size and for
+/// each worker, and 128 for the slots of its mutator.
+const SMALL_HEAP: usize = 2 * 11_040 + 4 * 16 + 2 * 16 + 128;
+
 /// Each call once.
 const EACH_CALL: [(Call, Told); 41] = [
     (Ask(Size), Told::Size(SMALL)),
@@ -94,7 +98,7 @@ fn make_without_memory(rt: &impl Abort, memory: &Bump, calls: &[(Call, Told)]) -
 
 #[test]
 fn after_new_no_call_takes_memory(rt: HostRuntime) -> Result<(), Fail> {
-    let memory = limited(rt.alloc(), 32_768)?;
+    let memory = limited(rt.alloc(), 2 * SMALL_HEAP)?;
     make_without_memory(&rt, &memory, &EACH_CALL)
 }
 
@@ -103,8 +107,8 @@ fn want_of_memory_is_told_by_new(rt: HostRuntime) -> Result<(), Fail> {
     let mut was_refused = false;
     let mut was_made = false;
     // What is left grows by steps so small that in some of them only the pending lists have too little.
-    for step in 0..740 {
-        let memory = limited(rt.alloc(), 16_384)?;
+    for step in 0..=SMALL_HEAP / 16 {
+        let memory = limited(rt.alloc(), SMALL_HEAP)?;
         let _rest = all_but(&memory, 16 * step)?;
         match Heap::new(&memory, SMALL, 1) {
             Ok(heap) => {
@@ -151,7 +155,7 @@ fn a_heap_out_of_limits_is_refused_before_memory_is_taken(rt: HostRuntime) -> Re
 
 /// How many bytes a heap of 4,096 cells and of so many workers takes.
 fn taken_by(alloc: Global, workers: u32) -> Result<usize, Fail> {
-    let memory = limited(alloc, 1_048_576)?;
+    let memory = limited(alloc, 2_097_152)?;
     let before = memory.chunk_capacity();
     let config = Config {
         workers,
@@ -165,14 +169,22 @@ fn taken_by(alloc: Global, workers: u32) -> Result<usize, Fail> {
 }
 
 #[test]
-fn a_heap_takes_192_bytes_a_cell_32_a_page_and_16_a_worker(rt: HostRuntime) -> Result<(), Fail> {
-    let cells = 4_096 * 192 + 64 * 32;
+fn a_heap_takes_11_040_bytes_a_page_16_a_cell_and_16_a_worker(rt: HostRuntime) -> Result<(), Fail> {
+    // Twice as many pages as its cells fill, of which each has 160, 8 and 4 bytes for each of its 64 cells, and 32; and
+    // the grey and the condemned list, of 8 bytes a cell.
+    let pages = 128 * (64 * (160 + 8 + 4) + 32);
+    let lists = 4_096 * (8 + 8);
     // Beside them are the 16 slots of one mutator.
     let slots = 128;
-    assert_eq!(rt; taken_by(rt.alloc(), 1)?, cells + 16 + slots, "one worker");
+    let without_workers = pages + lists + slots;
+    assert_eq!(rt;
+        taken_by(rt.alloc(), 1)?,
+        without_workers + 16,
+        "one worker"
+    );
     assert_eq!(rt;
         taken_by(rt.alloc(), 8)?,
-        cells + 8 * 16 + slots,
+        without_workers + 8 * 16,
         "eight workers"
     );
     Ok(())

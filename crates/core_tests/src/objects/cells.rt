@@ -92,14 +92,16 @@ fn a_new_object_lies_in_the_first_free_cell(rt: HostRuntime) -> Result<(), Fail>
         (Do(New(1, 0)), Told::Object(2)),
         (Do(New(2, 0)), Told::Object(3)),
         (Do(DropSlot(1)), Told::Done),
+        // Marks begin twice, before it is freed and after that: the second time makes colour B good.
         (Do(Sweep(2)), Told::Yes),
         (Do(New(1, 0)), Told::Object(4)),
         (Do(Store(0, 0, 1)), Told::Done),
-        // Where object 2 lay: colour A, page 1, cell 1.
-        (Ask(WordAt(1, 0)), Told::Word(4_611_686_018_427_387_969)),
+        // Where object 2 lay: colour B, page 1, cell 1, in hexadecimal 8000000000000041.
+        (Ask(WordAt(1, 0)), Told::Word(9_223_372_036_854_775_873)),
         (Do(New(3, 0)), Told::Object(5)),
         (Do(Store(0, 0, 3)), Told::Done),
-        (Ask(WordAt(1, 0)), Told::Word(4_611_686_018_427_387_971)),
+        // Behind object 3: cell 3.
+        (Ask(WordAt(1, 0)), Told::Word(9_223_372_036_854_775_875)),
     ];
     agree(&rt, rt.alloc(), 4, &story)
 }
@@ -229,6 +231,7 @@ fn the_condemned_are_listed_in_order_of_number(rt: HostRuntime) -> Result<(), Fa
 #[test]
 fn what_is_not_marked_is_condemned_and_may_be_freed(rt: HostRuntime) -> Result<(), Fail> {
     let story = [
+        (Set(BeginMarks), Told::Done),
         (Do(New(0, 2)), Told::Object(1)),
         (Do(New(1, 2)), Told::Object(2)),
         (Do(DropSlot(0)), Told::Done),

@@ -8,19 +8,23 @@ use super::Do::{
 };
 use super::Keep::{Adopt, Hold, Mint, Release};
 use super::Set::{BeginMarks, Cleared, ClockTo, Condemn, Cut, EndCycle, Link, Stamp};
-use super::{Call, M, config, make_calls};
+use super::{Call, M, begun, config, freed_at, make_calls};
 use crate::arena::{all_that_is_left, limited};
 use crate::closed::condemn_if_closed;
 use crate::told::Told;
 use bumpalo::Bump;
 use ref_base::{Fault, ObjNo, SlotNo, Strength};
-use ref_objects::{Colour, Objects, Worklist};
+use ref_objects::{Objects, Worklist};
 use std::alloc::Allocator;
 use std::process::Abort;
 use std::test::Fail;
 
+/// How many bytes the objects of a heap of three cells take: 11,040 for each of its two pages, and 128 for the slots of
+/// its mutator.
+const OF_THREE_CELLS: usize = 2 * 11_040 + 128;
+
 /// Each call once.
-const EACH_CALL: [(Call, Told); 28] = [
+const EACH_CALL: [(Call, Told); 29] = [
     (Do(New(0, 8)), Told::Object(1)),
     (Do(Refer(Strength::Soft, 1, 0, Some(0), 8)), Told::Object(2)),
     (Do(Store(0, 7, 1)), Told::Done),
@@ -40,6 +44,7 @@ const EACH_CALL: [(Call, Told); 28] = [
     (Keep(Adopt(4)), Told::Object(2)),
     (Keep(Mint(1)), Told::Held(1, 1)),
     (Keep(Release), Told::Done),
+    (Set(BeginMarks), Told::Done),
     (Do(Mark(1)), Told::Yes),
     (Do(MarkSlot(0)), Told::Nothing),
     (Do(MarkSlotAt(1)), Told::Found(2)),
@@ -70,7 +75,7 @@ fn make_without_memory(rt: &impl Abort, memory: &Bump, calls: &[(Call, Told)]) -
 
 #[test]
 fn after_new_no_call_takes_memory(rt: HostRuntime) -> Result<(), Fail> {
-    let memory = limited(rt.alloc(), 32_768)?;
+    let memory = limited(rt.alloc(), 2 * OF_THREE_CELLS + 3 * 8)?;
     make_without_memory(&rt, &memory, &EACH_CALL)
 }
 
@@ -88,15 +93,16 @@ fn fill<A: Allocator + Copy>(rt: &impl Abort, heap: &mut Objects<A>, cells: u32)
 /// Frees all objects but the first, as a cycle does.
 fn free_all_but_one<A: Allocator + Copy>(heap: &mut Objects<A>, condemned: &mut Worklist<A>) {
     let _dropped = heap.drop_slot(M, SlotNo(0));
+    begun(heap);
     heap.mark(ObjNo(1));
     condemn_if_closed(heap, condemned);
     for _object in 0..condemned.room() {
         if let Some(entry) = condemned.take_first() {
-            heap.free(entry);
+            freed_at(heap, entry);
         }
     }
     heap.end_cycle();
-    heap.begin_marks(Colour::A);
+    begun(heap);
 }
 
 /// Fills the heap, and again each time that all but the first object were freed. As that one stays, the index fills
@@ -119,8 +125,10 @@ fn fill_again_and_again<A: Allocator + Copy>(
 #[test]
 fn after_new_no_memory_is_taken(rt: HostRuntime) -> Result<(), Fail> {
     for cells in 1..70 {
-        let pages = (cells as usize).div_ceil(64);
-        let memory = limited(rt.alloc(), 10_768 * pages + 256)?;
+        // Twice as many as the cells fill.
+        let pages = 2 * (cells as usize).div_ceil(64);
+        // The list of the condemned has 8 bytes a cell.
+        let memory = limited(rt.alloc(), 11_040 * pages + 128 + 8 * cells as usize)?;
         let mut heap = Objects::new(&memory, config(cells), 1)?;
         let mut condemned = Worklist::new(&memory, cells as usize)?;
         let _rest = all_that_is_left(&rt, &memory)?;

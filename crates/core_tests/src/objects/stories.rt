@@ -355,6 +355,7 @@ fn what_a_cycle_reaches_is_marked_and_the_rest_is_white(rt: HostRuntime) -> Resu
 #[test]
 fn nothing_is_condemned_that_something_else_refers_to(rt: HostRuntime) -> Result<(), Fail> {
     let story = [
+        (Set(BeginMarks), Told::Done),
         (Do(New(0, 1)), Told::Object(1)),
         // Slot 1 holds what isn't marked.
         (Do(New(1, 1)), Told::Object(2)),
@@ -388,6 +389,7 @@ fn the_condemned_refer_to_nothing_and_nothing_comes_to_name_them(
     rt: HostRuntime,
 ) -> Result<(), Fail> {
     let story = [
+        (Set(BeginMarks), Told::Done),
         (Do(New(0, 1)), Told::Object(1)),
         (Do(New(1, 1)), Told::Object(2)),
         (Do(Store(1, 0, 0)), Told::Done),

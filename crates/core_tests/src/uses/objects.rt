@@ -5,7 +5,7 @@ ghost use Rattle.ref_space.specs.Worklists.{empty_worklist};
 ghost use Rattle.ref_objects.specs.Grounds.{first_ground};
 
 use ref_base::{Config, MutNo, ObjNo, QueueNo, SlotNo, Strength};
-use ref_objects::{Hold, Objects, Start, Worklist};
+use ref_objects::{Colour, Hold, Objects, Start, Worklist};
 use std::alloc::Global;
 use std::process::Abort;
 
@@ -62,6 +62,7 @@ fn an_object_is_freed(objects: &mut Objects, condemned: &mut Worklist) -> bool
 {
     let _made = objects.alloc_obj(MutNo(0), SlotNo(0), 0);
     let _dropped = objects.drop_slot(MutNo(0), SlotNo(0));
+    objects.begin_marks(Colour::A);
     objects.condemn(condemned);
     match condemned.take_first() {
         Some(entry) => objects.free(entry),

@@ -19,6 +19,13 @@ const TWO_QUEUES: Config = Config {
     ..CONFIG
 };
 
+/// How many bytes the heap of a world takes: 11,040 for each of its two pages, 16 for each of its 8 cells and for its
+/// worker, and 128 for the slots of its mutator.
+const HEAP: usize = 2 * 11_040 + 8 * 16 + 16 + 128;
+
+/// More than hands and queues take.
+const HANDS_AND_QUEUES: usize = 1_280;
+
 const NO_MEMORY: Reply = Reply::Refused(Fault::NoMemory);
 
 /// Reference 2 is in the hand of mutator 0.
@@ -35,8 +42,8 @@ fn want_of_memory_is_told_by_new(rt: HostRuntime) -> Result<(), Fail> {
     let mut was_refused = false;
     let mut was_made = false;
     // What is left grows by steps so small that in some of them only hands or queues have too little.
-    for step in 0..800 {
-        let memory = limited(rt.alloc(), 16_384)?;
+    for step in 0..=(HEAP + HANDS_AND_QUEUES) / 16 {
+        let memory = limited(rt.alloc(), HEAP + HANDS_AND_QUEUES)?;
         let _rest = all_but(&memory, 16 * step)?;
         match World::new(&memory, CONFIG) {
             Ok(world) => {

@@ -3,15 +3,18 @@
 mod draws;
 mod ways;
 
+use crate::hand::leak;
 use draws::Draws;
-use ref_base::{Config, Step};
-use ref_world::World;
+use ref_base::{Config, HeapStep, Reply, Step};
+use ref_objects::Start;
+use ref_world::{HeapReply, World, WorldHeap, apply_heap};
+use std::alloc::Global;
 use std::process::Abort;
 use std::test::Fail;
 use ways::{ANSWERS, WAYS, Way, has_way, place_of, way_of};
 
 /// How often a step of each kind was answered in each way.
-type Counts = [[u32; WAYS]; 23];
+type Counts = [[u32; WAYS]; 26];
 
 /// Counts one more.
 fn count(counts: &mut Counts, step: Step, way: Way) {
@@ -42,8 +45,26 @@ const SMALL: Config = Config {
 /// The same, with 16 cells.
 const ROOMY: Config = Config { cells: 16, ..SMALL };
 
-/// Sizes of worlds, each with the seed of its draws.
-const SIZES: [(Config, u64); 11] = [
+/// Sizes of worlds that objects fill two pages of and more, each with the seed of its draws.
+const LARGE_SIZES: [(Config, u64); 2] = [
+    (
+        Config {
+            cells: 128,
+            ..SMALL
+        },
+        10,
+    ),
+    (
+        Config {
+            cells: 4_096,
+            ..SMALL
+        },
+        11,
+    ),
+];
+
+/// Other sizes.
+const SIZES: [(Config, u64); 9] = [
     (SMALL, 1),
     (ROOMY, 2),
     (Config { span: 0, ..ROOMY }, 3),
@@ -66,59 +87,117 @@ const SIZES: [(Config, u64); 11] = [
         },
         5,
     ),
-    // About a page, and more of them.
+    // About a page.
     (Config { cells: 1, ..SMALL }, 6),
     (Config { cells: 63, ..SMALL }, 7),
     (Config { cells: 64, ..SMALL }, 8),
     (Config { cells: 65, ..SMALL }, 9),
-    (
-        Config {
-            cells: 128,
-            ..SMALL
-        },
-        10,
-    ),
-    (
-        Config {
-            cells: 4_096,
-            ..SMALL
-        },
-        11,
-    ),
 ];
 
-/// How many worlds of each size there are, one after the other, and how many steps each does: 220,000 steps in all.
+/// How many worlds of each size there are, one after the other.
 const WORLDS: u32 = 10;
 
-const STEPS: u32 = 2_000;
+/// How many steps each does: 100,000 in all large ones, and 108,000 in all others.
+const LARGE_STEPS: u32 = 5_000;
 
-#[test]
-fn each_step_is_answered_in_each_of_its_ways(rt: HostRuntime) -> Result<(), Fail> {
-    let mut counts: Counts = [[0; WAYS]; 23];
-    for &(config, seed) in &SIZES {
-        let mut draws = Draws::new(config, seed);
-        for nth in 0..WORLDS {
-            let mut world = World::new(rt.alloc(), config)?;
-            for place in 0..STEPS {
-                let step = draws.step();
-                let reply = world.step(step);
-                let way = way_of(reply);
-                assert!(rt;
-                    has_way(step, way),
-                    "seed {seed}, world {nth}, {place}: {step} : {reply}"
-                );
-                count(&mut counts, step, way);
-            }
-            world.end();
+const STEPS: u32 = 1_200;
+
+/// Does so many steps in each world of this size, and counts how they are answered.
+fn do_worlds(
+    rt: &impl Abort,
+    alloc: Global,
+    (config, seed): (Config, u64),
+    steps: u32,
+    counts: &mut Counts,
+) -> Result<(), Fail> {
+    let mut draws = Draws::new(config, seed);
+    for nth in 0..WORLDS {
+        let mut world = World::new(alloc, config)?;
+        for place in 0..steps {
+            let step = draws.step();
+            let reply = world.step(step);
+            let way = way_of(reply);
+            assert!(rt;
+                has_way(step, way),
+                "seed {seed}, world {nth}, {place}: {step} : {reply}"
+            );
+            count(counts, step, way);
+        }
+        world.end();
+    }
+    Ok(())
+}
+
+/// Where a heap of 128 cells starts whose four pages take the last addresses.
+const LATE: Start = Start {
+    page: 4_294_967_292,
+    ..Start::FIRST
+};
+
+/// What a heap answers to a step that hands nothing over: none to another.
+fn plain_reply(heap: &mut WorldHeap, step: Step) -> Option<Reply> {
+    let Step::Plain(step) = step else {
+        return None;
+    };
+    match apply_heap(heap, HeapStep::Plain(step)) {
+        HeapReply::Told(reply) => Some(reply),
+        HeapReply::Notice(notice) => {
+            leak(Some(notice.into_hold()));
+            None
+        }
+        HeapReply::Held(hold) | HeapReply::Back(_, hold) => {
+            leak(Some(hold));
+            None
         }
     }
+}
+
+/// Draws 10,000 steps for heaps whose addresses are spent as soon as objects are to move.
+fn do_late(rt: &impl Abort, alloc: Global, counts: &mut Counts) -> Result<(), Fail> {
+    let config = Config {
+        cells: 128,
+        ..SMALL
+    };
+    let mut draws = Draws::new(config, 12);
+    for nth in 0..WORLDS {
+        let mut heap = WorldHeap::starting(alloc, config, 0, LATE)?;
+        for place in 0..1_000 {
+            let step = draws.step();
+            if let Some(reply) = plain_reply(&mut heap, step) {
+                let way = way_of(reply);
+                assert!(rt; has_way(step, way), "heap {nth}, {place}: {step} : {reply}");
+                count(counts, step, way);
+            }
+        }
+        heap.end();
+    }
+    Ok(())
+}
+
+/// Each way of the kinds of steps from this place on was met.
+fn are_met(rt: &impl Abort, counts: &Counts, from: usize) {
     for (place, &(name, ways)) in ANSWERS.iter().enumerate() {
         for (nth, way) in ways.iter().enumerate() {
             assert!(rt;
-                count_of(&counts, place, *way) > 0,
+                place < from || count_of(counts, place, *way) > 0,
                 "{name} never in its way {nth}"
             );
         }
     }
+}
+
+#[test]
+fn each_step_is_answered_in_each_of_its_ways(rt: HostRuntime) -> Result<(), Fail> {
+    let mut counts: Counts = [[0; WAYS]; 26];
+    for &size in &LARGE_SIZES {
+        do_worlds(&rt, rt.alloc(), size, LARGE_STEPS, &mut counts)?;
+    }
+    do_late(&rt, rt.alloc(), &mut counts)?;
+    // The last three kinds are those of moves.
+    are_met(&rt, &counts, 23);
+    for &size in &SIZES {
+        do_worlds(&rt, rt.alloc(), size, STEPS, &mut counts)?;
+    }
+    are_met(&rt, &counts, 0);
     Ok(())
 }

@@ -7,7 +7,7 @@ ghost use Rattle.ref_base.specs.KeptPaths.{is_kept};
 ghost use Rattle.ref_base.specs.DoomedSets.{refers_into};
 ghost use Rattle.ref_base.specs.Heaps.{reference_at};
 ghost use Rattle.ref_base.specs.CollectorRows.{emptied};
-ghost use Rattle.ref_base.specs.Refusals.{is_empty, begin_refusal, work_refusal, end_mark_refusal};
+ghost use Rattle.ref_base.specs.Refusals.{is_empty, is_in, begin_refusal, work_refusal, end_mark_refusal};
 ghost use Rattle.ref_base.specs.declared.heap_step.HeapStep.TheVariants.{Plain};
 ghost use Rattle.ref_base.specs.declared.plain_step.PlainStep.TheVariants.{Begin, EndMark, Scan};
 ghost use Rattle.ref_space.specs.Tables.{fields_in};
@@ -92,7 +92,8 @@ impl<A: Allocator + Copy> Marker<A> {
 
     // All objects become white, and another colour is good.
     fn whiten(&mut self, now: u64, urgency: Urgency)
-        requires { self.old.cycle < 2 ^ 64 - 1 }
+        requires idle { is_in self.old.phase Phase.Idle ≡ true }
+        requires numbers { self.old.cycle < 2 ^ 64 - 1 }
         ensures { self.new ≡ whitened self.old now urgency }
     {
         self.grey.clear();

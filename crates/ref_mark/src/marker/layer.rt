@@ -1,14 +1,14 @@
 //! What the layer above does to a heap in its cycles.
 
-ghost use Rattle.std.specs.Prelude.{◌≡◌, ◌==◌, ◌≤◌, IfOk, length, not, true, false};
+ghost use Rattle.std.specs.Prelude.{◌≡◌, ◌==◌, ◌≤◌, [], IfOk, length, not, true, false};
 ghost use Rattle.ref_base.specs.Members.{has};
 ghost use Rattle.ref_base.specs.Collectors.{joined};
-ghost use Rattle.ref_base.specs.Refusals.{is_empty, work_refusal};
+ghost use Rattle.ref_base.specs.Refusals.{is_empty, is_in, work_refusal};
 ghost use Rattle.ref_base.specs.CollectorRows.{list_at};
 ghost use Rattle.ref_space.specs.Worklists.{emptied_list, with_more};
 ghost use Rattle.ref_objects.specs.Grounds.{IsRefused, IsClosed, if_done, unmarked};
 ghost use Rattle.ref_mark.specs.Chains.{linked_last, chain_with};
-ghost use Rattle.ref_mark.specs.CycleHeaps.{shaded, cycle_in_phase, found_looked_at, doomed, sweep_begun};
+ghost use Rattle.ref_mark.specs.CycleHeaps.{shaded, cycle_ended, found_looked_at, doomed, sweep_begun};
 ghost use Rattle.ref_mark.specs.CycleHeaps.{is_swept, swept, is_past_mark};
 ghost use Rattle.ref_mark.specs.MarkViews.{found_look};
 
@@ -100,6 +100,7 @@ impl<A: Allocator + Copy> Marker<A> {
     /// the list then, in order of number. In time of the objects, and of those that were freed since gaps were closed
     /// last.
     pub fn to_sweeping(&mut self, condemned: &mut Worklist<A>)
+        requires clearing { is_in self.old.phase Phase.Clearing ≡ true }
         requires found { is_empty (joined self.old.found) ≡ true }
         requires closed { IsClosed self.old.heap (has self.old.marked) }
         requires room { length self.old.heap.objects ≤ condemned.old.room }
@@ -111,13 +112,17 @@ impl<A: Allocator + Copy> Marker<A> {
         self.phase = Phase::Sweeping;
     }
 
-    /// The cycle ends, and the gaps that freed objects left are closed where they are many. Nothing doomed is left. In
-    /// time of the objects that are there and of those that were freed.
+    /// The cycle ends, and what was chosen to move before it; the gaps that freed objects left are closed where they
+    /// are many. It is in Sweeping, nothing doomed is left, and so each object is healed. In time of the objects that
+    /// are there, of those that were freed, and of the pages.
     pub fn to_idle(&mut self)
-        requires { is_empty (doomed self.old) ≡ true }
-        ensures { self.new ≡ cycle_in_phase self.old Phase.Idle }
+        requires sweeping { is_in self.old.phase Phase.Sweeping ≡ true }
+        requires swept { is_empty (doomed self.old) ≡ true }
+        requires healed { self.old.space.unhealed ≡ [] }
+        ensures { self.new ≡ cycle_ended self.old }
     {
         self.objects.end_cycle();
+        self.objects.end_moves();
         self.phase = Phase::Idle;
     }
 
@@ -127,7 +132,7 @@ impl<A: Allocator + Copy> Marker<A> {
     {
         match self.phase {
             Phase::Clearing | Phase::Sweeping => true,
-            Phase::Idle | Phase::Marking => false,
+            Phase::Idle | Phase::Marking | Phase::Moving => false,
         }
     }
 }

@@ -1,7 +1,7 @@
 //! What the layers above change of a heap's objects: slots, stamps, referents, the cycle of a clear, the clock, and
 //! which objects there are.
 
-ghost use Rattle.std.specs.Prelude.{◌≡◌, ◌<◌, ◌≤◌, true, Some, length};
+ghost use Rattle.std.specs.Prelude.{◌≡◌, ◌<◌, ◌≤◌, true, Some, [], length};
 ghost use Rattle.ref_base.specs.Heaps.{with_slot, with_changed, with_reference, with_stamp, cleared, with_clock};
 ghost use Rattle.ref_base.specs.Refusals.{drop_refusal};
 ghost use Rattle.ref_base.specs.Members.{has};
@@ -13,6 +13,7 @@ ghost use Rattle.ref_objects.specs.GroundViews.{with_slot_at, written};
 ghost use Rattle.ref_space.specs.Worklists.{emptied_list, with_more};
 
 use super::Objects;
+use crate::stage::Stage;
 use ref_base::{Fault, MutNo, ObjNo, SlotNo};
 use ref_space::{Change, Entry, Look, Worklist};
 use std::alloc::Allocator;
@@ -99,10 +100,11 @@ impl<A: Allocator + Copy> Objects<A> {
     }
 
     /// Condemns what isn't marked: from now on it reads as referring to nothing, nothing can come to name it, and it
-    /// may be freed. What is made from now on is marked from the start. Nothing that is marked refers to what isn't,
-    /// and no slot or hold names it. Just the condemned stand in the list then, in order of number. In time of the
-    /// objects, and of those that were freed since gaps were closed last.
+    /// may be freed; a cycle does so. What is made from now on is marked from the start. Nothing that is marked refers
+    /// to what isn't, and no slot or hold names it. Just the condemned stand in the list then, in order of number. In
+    /// time of the objects, and of those that were freed since gaps were closed last.
     pub fn condemn(&mut self, condemned: &mut Worklist<A>)
+        requires tuned { self.old.space.stage ≡ Stage.Tuned }
         requires closed { IsClosed self.old.heap (has self.old.marked) }
         requires room { length self.old.heap.objects ≤ condemned.old.room }
         ensures after { self.new ≡ with_condemned self.old }

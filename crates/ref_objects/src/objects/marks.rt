@@ -1,6 +1,6 @@
 //! Marks of a heap's objects, and their colour, for the layer that marks what a cycle reaches.
 
-ghost use Rattle.std.specs.Prelude.{◌≡◌, ◌<◌, None, IfOk, length, slice_index_or};
+ghost use Rattle.std.specs.Prelude.{◌≡◌, ◌<◌, None, [], false, IfOk, length, slice_index_or};
 ghost use Rattle.ref_base.specs.Graphs.{object_at};
 ghost use Rattle.ref_base.specs.Heaps.{slot_at, reference_at};
 ghost use Rattle.ref_base.specs.Members.{has};
@@ -14,6 +14,7 @@ ghost use Rattle.ref_objects.specs.Grounds.{all_newly_marked, ground_scanned, Ma
 ghost use Rattle.ref_base.specs.DoomedSets.{refers_into};
 
 use super::Objects;
+use crate::stage::Stage;
 use ref_base::{Fault, MutNo, ObjNo, Policy, SlotNo};
 use ref_space::{Colour, Entry, Worklist};
 use std::alloc::Allocator;
@@ -80,7 +81,8 @@ impl<A: Allocator + Copy> Objects<A> {
     /// constant time where the object lies at the entry's place, and else by one search.
     #[inline(always)]
     pub fn scan(&mut self, entry: Entry, policy: Policy, grey: &mut Worklist<A>) -> bool
-        requires { MayGrow self.old grey.old }
+        requires tuned { self.old.space.stage ≡ Stage.Tuned }
+        requires room { MayGrow self.old grey.old }
         ensures finds { result ≡ refers_into (is_unmarked self.new) (reference_at self.old.heap entry.no) }
         ensures listed { grey.new ≡ with_more grey.old
             (all_newly_marked self.old (scanned_values (is_kept policy) (object_at self.old.heap.objects entry.no))) }
@@ -91,15 +93,22 @@ impl<A: Allocator + Copy> Objects<A> {
         self.table.scan(entry, policy, grey)
     }
 
-    /// Takes every mark away, and nothing is condemned any more; this colour is good, and no object is healed. In time
-    /// of the slots.
+    /// Takes every mark away, and nothing is condemned any more; this colour is good, and no object is healed. It isn't
+    /// the colour of the last cycle that began, nor that of moves; no object is still to move, and a choice that a cycle
+    /// outlived has ended. In time of the slots.
     pub fn begin_marks(&mut self, good: Colour)
+        requires other { self.old.space.last ≡ good → ⊥ }
+        requires cycle { good ≡ Colour.R → ⊥ }
+        requires moved { self.old.space.still_to_move ≡ [] }
+        requires ended { self.old.space.stage ≡ Stage.Tuned → self.old.space.has_choice ≡ false }
         ensures { self.new ≡ marks_begun self.old good }
     {
         // Gives the proof that nothing was marked or healed in a later round.
         let _count = self.table.len();
         self.table.begin(good);
         self.condemning = false;
+        self.last = good;
+        self.stage = Stage::Tuned;
     }
 
     /// How many objects aren't marked. In constant time.

@@ -123,8 +123,9 @@ impl<A: Allocator + Copy> Objects<A> {
     }
 
     /// The word that a field of the object of this number holds, 0 where it holds null: none where there is no such
-    /// object or field. Its page and cell are those in which the field's object lies, and it has the good colour where
-    /// the object is healed. Mutators never see it: it is for who inspects a heap.
+    /// object or field. Its page and cell are those in which the field's object lies. It has the good colour where a
+    /// cycle was the last to make a colour good, and has healed the object. Mutators never see it: it is for who
+    /// inspects a heap.
     pub fn word_at(&self, no: ObjNo, field: u32) -> Option<u64>
         ensures there { is_some result ≡ nat_lt field (field_count (object_at self.now.heap.objects no)) }
         ensures word { IfSome result (IsWordIn self.now no field) }

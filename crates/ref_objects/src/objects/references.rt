@@ -7,7 +7,7 @@ ghost use Rattle.ref_base.specs.Heaps.{slot_at, reference_at, got};
 ghost use Rattle.ref_base.specs.Paths.{is_soft};
 ghost use Rattle.ref_base.specs.Refusals.{clear_refusal, get_refusal};
 ghost use Rattle.ref_objects.specs.Grounds.{IsRefused, if_done, ground_with_heap, is_unmarked, read_as, cut_but};
-ghost use Rattle.ref_objects.specs.Grounds.{renewed, is_spared};
+ghost use Rattle.ref_objects.specs.Grounds.{renewed, is_spared, ground_brought};
 ghost use Rattle.ref_objects.specs.Grounds.{IsSparedIfAny};
 ghost use Rattle.ref_objects.specs.GroundViews.{with_slot_at, written};
 
@@ -56,7 +56,8 @@ impl<A: Allocator + Copy> Objects<A> {
 
     /// Gets the referent of the reference in slot `from` into slot `into`, and answers it: null where it is cleared, of
     /// a phantom reference, and where it isn't marked if that is to be hidden. Where it is an object, a soft reference
-    /// is stamped with the clock. Tried in this order: `NoSuchActor`, `EmptySlot`, `NotAReference`. In constant time.
+    /// is stamped with the clock, and an object that is still to move moves first. Tried in this order: `NoSuchActor`,
+    /// `EmptySlot`, `NotAReference`. In constant time.
     #[inline(always)]
     pub fn get(
         &mut self,
@@ -70,7 +71,10 @@ impl<A: Allocator + Copy> Objects<A> {
             (λ value. value ≡ read_as self.old hide_unmarked
             (referent_got (reference_of self.old.heap (slot_at self.old.heap mutator from)))) }
         ensures after { self.new ≡ if_done result
-            (ground_with_heap self.old (got self.old.heap mutator into from
+            (ground_with_heap
+            (ground_brought self.old (read_as self.old hide_unmarked
+            (referent_got (reference_of self.old.heap (slot_at self.old.heap mutator from)))))
+            (got self.old.heap mutator into from
             (read_as self.old hide_unmarked
             (referent_got (reference_of self.old.heap (slot_at self.old.heap mutator from)))))) self.old }
     {
@@ -166,14 +170,15 @@ impl<A: Allocator + Copy> Objects<A> {
         }
     }
 
-    // The slot at place `into` holds what a get of the reference in that at place `from` answers: its referent or null.
+    // The slot at place `into` holds what a get of the reference in that at place `from` answers: its referent, which
+    // moves first where it is still to move, or null.
     #[inline(always)]
     fn put_got(&mut self, into: usize, from: usize, value: Option<ObjNo>)
         requires into { into < length self.old.heap.slots }
         requires from { from < length self.old.heap.slots }
         requires read { (n : ℕ) → value ≡ Some n
             → referent_of (reference_of self.old.heap (slice_index_or self.old.heap.slots from None)) ≡ Some n }
-        ensures { self.new ≡ with_slot_at self.old into value }
+        ensures { self.new ≡ with_slot_at (ground_brought self.old value) into value }
     {
         if value.is_some() {
             self.table.get_referent(into, from);

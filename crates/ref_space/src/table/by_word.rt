@@ -6,14 +6,17 @@ ghost use Rattle.ref_base.specs.CollectorRows.{referent_of};
 ghost use Rattle.ref_base.specs.Heaps.{with_field, with_reference};
 ghost use Rattle.std.specs.Bool.{OnTrue};
 ghost use Rattle.ref_space.specs.Tables.{has_field, field_in_cell, tabled_reference, is_unmarked_in, on_object};
-ghost use Rattle.ref_space.specs.Tables.{marked_if, anew_if, change_of, tabled_fields};
+ghost use Rattle.ref_space.specs.Tables.{marked_if, anew_if, change_of, tabled_fields, field_held};
+ghost use Rattle.ref_space.specs.Tables.{brought, left_of, without_if_any};
 ghost use Rattle.ref_space.specs.Naming.{target_of, HasTarget, IsHealed, tabled_of, changed_of};
 ghost use Rattle.ref_space.specs.Naming.{reference_by_number, with_referent};
 ghost use Rattle.ref_space.specs.Worklists.{entry_number};
 ghost use Rattle.ref_space.specs.Places.{lent, cell_of_word, place_of_word};
+ghost use Rattle.ref_space.specs.Naming.{word_there};
 
 use super::Table;
 use crate::cell::{Cell, Change};
+use crate::colour::Colour;
 use crate::field_words::Words;
 use crate::index::Entry;
 use crate::kept::Kept;
@@ -27,62 +30,77 @@ impl<A: Allocator + Copy> Table<A> {
     pub(super) fn name(&self, value: Word) -> Option<ObjNo>
         ensures { result ≡ target_of self.now value }
     {
-        match cell_by(&self.cells, value) {
+        match cell_by(&self.cells, &self.forwards, value) {
             Some(cell) => cell.number(),
             None => None,
         }
     }
 
     /// What a field of the object that a word leads to holds, in the good colour: none where there is no such object or
-    /// field. A word of another colour is healed, and one of the good colour is left as it is.
+    /// field. A word of another colour is healed, and its object moves first where it is still to move; one of the good
+    /// colour is left as it is.
     #[inline(always)]
     pub(super) fn load_field(&mut self, object: Word, field: usize) -> Option<Word>
-        ensures held { option_map (target_of self.old) result ≡ field_in_cell (tabled_of self.old object) field }
-        ensures healed { IfSome result (λ value. IsHealed self.old value) }
-        ensures after { self.new ≡ self.old }
+        requires { HasTarget self.old object }
+        ensures held { option_map (target_of self.new) result ≡ field_in_cell (tabled_of self.old object) field }
+        ensures healed { IfSome result (λ value. IsHealed self.new value) }
+        ensures after { self.new ≡ brought self.old (field_held (tabled_of self.old object) field) }
+        ensures left { left_of self.new
+            ≡ without_if_any (left_of self.old) (field_held (tabled_of self.old object) field) }
     {
         let value = self.field(object, field)?;
         if self.is_good(value) {
             return Some(value);
         }
+        self.bring(value);
         let healed = self.healed(value);
         self.set_field(object, field, healed);
         Some(healed)
     }
 
     /// The referent of the reference that a word leads to, in the good colour: null where it is cleared, or there is no
-    /// such reference. It is healed as the word of a field is.
+    /// such reference. It is healed as the word of a field is, and its object moves first as that of a field does.
     #[inline(always)]
     pub(super) fn load_referent(&mut self, object: Word) -> Word
-        ensures named { target_of self.old result ≡ referent_of (tabled_reference (tabled_of self.old object)) }
-        ensures healed { IsHealed self.old result }
-        ensures after { self.new ≡ self.old }
+        requires { HasTarget self.old object }
+        ensures named { target_of self.new result ≡ referent_of (tabled_reference (tabled_of self.old object)) }
+        ensures healed { IsHealed self.new result }
+        ensures after { self.new ≡ brought self.old (referent_of (tabled_reference (tabled_of self.old object))) }
+        ensures left { left_of self.new
+            ≡ without_if_any (left_of self.old) (referent_of (tabled_reference (tabled_of self.old object))) }
     {
         let value = self.referent(object);
         if self.is_good(value) {
             return value;
         }
+        self.bring(value);
         let healed = self.healed(value);
         self.set_referent(object, healed);
         healed
     }
 
-    // Whether a word may be used as it is: it is null, or has the good colour.
+    // Whether a word may be used as it is: it is null, or has the good colour, so that its object needn't move.
     #[inline(always)]
     fn is_good(&self, value: Word) -> bool
         requires { HasTarget self.now value }
-        ensures { OnTrue result (IsHealed self.now value) }
+        ensures healed { OnTrue result (IsHealed self.now value) }
+        ensures stays { OnTrue result (brought self.now (target_of self.now value) ≡ self.now) }
+        ensures left { OnTrue result
+            (without_if_any (left_of self.now) (target_of self.now value) ≡ left_of self.now) }
     {
         value.has_colour(self.round.good) || value.is_null()
     }
 
-    // The word of the same object in the good colour.
+    // The word of the same object in the good colour, but in that from before where it is still to move.
     fn healed(&self, value: Word) -> Word
         requires { HasTarget self.now value }
         ensures named { target_of self.now result ≡ target_of self.now value }
         ensures healed { IsHealed self.now result }
     {
-        value.in_colour(self.round.good)
+        match place_by(&self.cells, &self.forwards, value) {
+            Some(place) => self.word_to(place),
+            None => Word::null(),
+        }
     }
 
     // What a field of the object that a word leads to holds: none where there is no such object or field.
@@ -91,7 +109,7 @@ impl<A: Allocator + Copy> Table<A> {
         ensures held { option_map (target_of self.now) result ≡ field_in_cell (tabled_of self.now object) field }
         ensures led { IfSome result (λ value. HasTarget self.now value) }
     {
-        match cell_by(&self.cells, object) {
+        match cell_by(&self.cells, &self.forwards, object) {
             Some(cell) => cell.field(field),
             None => None,
         }
@@ -104,7 +122,7 @@ impl<A: Allocator + Copy> Table<A> {
             ≡ tabled_reference (tabled_of self.now object) }
         ensures led { HasTarget self.now (referent_of result) }
     {
-        match cell_by(&self.cells, object) {
+        match cell_by(&self.cells, &self.forwards, object) {
             Some(cell) => cell.kept(),
             None => None,
         }
@@ -127,7 +145,7 @@ impl<A: Allocator + Copy> Table<A> {
     pub(super) fn is_unmarked_by(&self, value: Word) -> bool
         ensures { result ≡ is_unmarked_in self.now.round.number (tabled_of self.now value) }
     {
-        match cell_by(&self.cells, value) {
+        match cell_by(&self.cells, &self.forwards, value) {
             Some(cell) => cell.is_unmarked(self.round.number),
             None => false,
         }
@@ -141,7 +159,7 @@ impl<A: Allocator + Copy> Table<A> {
         ensures after { self.new ≡ changed_of self.old object
             (on_object (with_field field (target_of self.old value))) }
     {
-        match place_by(&self.cells, object) {
+        match place_by(&self.cells, &self.forwards, object) {
             Some(place) => self.cells[place].set_field(field, value),
             None => false,
         }
@@ -153,7 +171,7 @@ impl<A: Allocator + Copy> Table<A> {
         ensures { self.new ≡ changed_of self.old object
             (on_object (with_reference (with_referent (target_of self.old referent)))) }
     {
-        if let Some(place) = place_by(&self.cells, object) {
+        if let Some(place) = place_by(&self.cells, &self.forwards, object) {
             self.cells[place].set_referent(referent);
         }
     }
@@ -163,7 +181,7 @@ impl<A: Allocator + Copy> Table<A> {
     pub(super) fn change_by(&mut self, object: Word, change: Change)
         ensures { self.new ≡ changed_of self.old object (change_of change) }
     {
-        if let Some(place) = place_by(&self.cells, object) {
+        if let Some(place) = place_by(&self.cells, &self.forwards, object) {
             self.cells[place].change(change);
         }
     }
@@ -173,7 +191,7 @@ impl<A: Allocator + Copy> Table<A> {
     pub(super) fn words_by(&self, object: Word) -> Words
         ensures { map (target_of self.now) result ≡ tabled_fields (tabled_of self.now object) }
     {
-        match cell_by(&self.cells, object) {
+        match cell_by(&self.cells, &self.forwards, object) {
             Some(cell) => cell.fields(),
             None => Words::nulls(0),
         }
@@ -185,7 +203,7 @@ impl<A: Allocator + Copy> Table<A> {
         ensures answer { entry_number result ≡ anew_if self.old (target_of self.old value) }
         ensures after { self.new ≡ marked_if self.old (target_of self.old value) }
     {
-        match place_by(&self.cells, value) {
+        match place_by(&self.cells, &self.forwards, value) {
             Some(place) => {
                 let no = self.cells[place].mark(self.round.number);
                 self.marked += usize::from(no.is_some());
@@ -213,22 +231,61 @@ fn entry_at(no: Option<ObjNo>, place: usize) -> Option<Entry>
 
 // The cell that a word leads to, if any.
 #[inline(always)]
-fn cell_by<'a>(cells: &'a [Cell], value: Word) -> Option<&'a Cell>
-    requires { length cells.now ≤ 2 ^ 63 }
-    ensures { lent result ≡ cell_of_word cells.entry.now value }
+fn cell_by<'a>(cells: &'a [Cell], forwards: &[u32], value: Word) -> Option<&'a Cell>
+    requires few { length cells.now ≤ 2 ^ 63 }
+    requires each { length forwards.now ≡ length cells.now }
+    ensures { lent result ≡ cell_of_word cells.entry.now forwards.now value }
 {
-    cells.get(value.index())
+    let place = value.index();
+    let cell = cells.get(place)?;
+    if cell.number().is_some() {
+        return Some(cell);
+    }
+    cells.get(forwards[place] as usize)
 }
 
 // The place of that cell, if an object lies there.
 #[inline(always)]
-fn place_by(cells: &[Cell], value: Word) -> Option<usize>
-    requires { length cells.now ≤ 2 ^ 63 }
-    ensures { result ≡ place_of_word cells.now value }
+pub(super) fn place_by(cells: &[Cell], forwards: &[u32], value: Word) -> Option<usize>
+    requires few { length cells.now ≤ 2 ^ 63 }
+    requires each { length forwards.now ≡ length cells.now }
+    ensures { result ≡ place_of_word cells.now forwards.now value }
 {
     let place = value.index();
-    match cells.get(place) {
-        Some(cell) if cell.number().is_some() => Some(place),
+    if cells.get(place)?.number().is_some() {
+        return Some(place);
+    }
+    let moved_to = forwards[place] as usize;
+    match cells.get(moved_to) {
+        Some(cell) if cell.number().is_some() => Some(moved_to),
         _ => None,
     }
+}
+
+// The word, in this colour, of the place where what a word leads to lies: null where nothing lies there.
+#[inline(always)]
+pub(super) fn healed_word(cells: &[Cell], forwards: &[u32], value: Word, colour: Colour) -> Word
+    requires few { length cells.now ≤ 2 ^ 17 }
+    requires each { length forwards.now ≡ length cells.now }
+    ensures { result ≡ word_there colour (place_of_word cells.now forwards.now value) }
+{
+    match place_by(cells, forwards, value) {
+        Some(place) => Word::of_place(colour, place as u32),
+        None => Word::null(),
+    }
+}
+
+// The healed words of these.
+#[inline(always)]
+pub(super) fn healed_words(cells: &[Cell], forwards: &[u32], words: Words, colour: Colour) -> Words
+    requires few { length cells.now ≤ 2 ^ 17 }
+    requires each { length forwards.now ≡ length cells.now }
+    ensures { result ≡ map (λ v. word_there colour (place_of_word cells.now forwards.now v)) words }
+{
+    let mut healed = words;
+    for field in 0..healed.len() {
+        let word = healed_word(cells, forwards, healed.get(field), colour);
+        healed.set(field, word);
+    }
+    healed
 }

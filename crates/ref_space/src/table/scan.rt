@@ -1,6 +1,6 @@
 //! The parts of a scan: what the cell of an object holds is read there, and not once more by a word.
 
-ghost use Rattle.std.specs.Prelude.{◌≡◌, is_some, length};
+ghost use Rattle.std.specs.Prelude.{◌≡◌, is_some, length, true};
 ghost use Rattle.std.specs.Option.{option_map, IfSome};
 ghost use Rattle.ref_base.specs.KeptPaths.{is_kept};
 ghost use Rattle.ref_base.specs.DoomedSets.{refers_into};
@@ -10,6 +10,7 @@ ghost use Rattle.ref_space.specs.Tables.{tabled_at, tabled_fields, tabled_refere
 ghost use Rattle.ref_space.specs.Naming.{target_of, reference_by_number};
 
 use super::Table;
+use super::by_word::{healed_word, healed_words};
 use crate::index::{Entry, place_near};
 use crate::kept::Kept;
 use crate::word::Word;
@@ -78,10 +79,16 @@ impl<A: Allocator + Copy> Table<A> {
     /// Each of its words gets the good colour.
     #[inline(always)]
     pub(super) fn heal(&mut self, no: ObjNo, place: usize)
-        requires { LiesAt self.old no place }
+        requires tuned { self.old.ways.tuned ≡ true }
+        requires lies { LiesAt self.old no place }
         ensures { self.new ≡ table_healed self.old no }
     {
-        self.cells[place].heal(self.round);
+        let good = self.round.good;
+        let words = self.cells[place].fields();
+        let fields = healed_words(&self.cells, &self.forwards, words, good);
+        let held = self.cells[place].referent();
+        let referent = healed_word(&self.cells, &self.forwards, held, good);
+        self.cells[place].put_healed(fields, referent, self.round.number);
     }
 
     // How many fields it has.

@@ -8,7 +8,7 @@ ghost use Rattle.ref_base.specs.DoomedSets.{refers_into};
 ghost use Rattle.ref_base.specs.Heaps.{with_field};
 ghost use Rattle.ref_space.specs.Tables.{held_at, slotted, tabled_held, changed_held, tabled_at, field_in_cell};
 ghost use Rattle.ref_space.specs.Tables.{field_held, has_field, on_object, change_of, tabled_reference};
-ghost use Rattle.ref_space.specs.Tables.{is_unmarked_at, marked_if, anew_if};
+ghost use Rattle.ref_space.specs.Tables.{is_unmarked_at, marked_if, anew_if, brought, left_of, without_if_any};
 ghost use Rattle.ref_space.specs.Worklists.{entry_number};
 
 use super::Table;
@@ -64,15 +64,18 @@ impl<A: Allocator + Copy> Table<A> {
         self.slots[into] = self.slots[from];
     }
 
-    /// Loads a field of the object in the slot at place `from` into that at place `into`, and answers what it holds.
-    /// None where there is no such object or field: then nothing changes.
+    /// Loads a field of the object in the slot at place `from` into that at place `into`, and answers what it holds. An
+    /// object that is still to move moves first. None where there is no such object or field: then nothing changes.
     #[inline(always)]
     pub fn load(&mut self, into: usize, from: usize, field: usize) -> Option<Option<ObjNo>>
         requires into { into < length self.old.slots }
         requires from { from < length self.old.slots }
         ensures answer { result ≡ field_in_cell (tabled_held self.old from) field }
         ensures after { self.new ≡ (if has_field (tabled_held self.old from) field
-            then slotted self.old into (field_held (tabled_held self.old from) field) else self.old) }
+            then slotted (brought self.old (field_held (tabled_held self.old from) field)) into
+            (field_held (tabled_held self.old from) field) else self.old) }
+        ensures left { left_of self.new
+            ≡ without_if_any (left_of self.old) (field_held (tabled_held self.old from) field) }
     {
         let object = self.slots[from];
         let value = self.load_field(object, field)?;
@@ -114,12 +117,16 @@ impl<A: Allocator + Copy> Table<A> {
     }
 
     /// The slot at place `into` holds the referent of the reference in that at place `from`: nothing where it is
-    /// cleared, or there is no such reference.
+    /// cleared, or there is no such reference. An object that is still to move moves first.
     #[inline(always)]
     pub fn get_referent(&mut self, into: usize, from: usize)
         requires into { into < length self.old.slots }
         requires from { from < length self.old.slots }
-        ensures { self.new ≡ slotted self.old into (referent_of (tabled_reference (tabled_held self.old from))) }
+        ensures after { self.new
+            ≡ slotted (brought self.old (referent_of (tabled_reference (tabled_held self.old from)))) into
+            (referent_of (tabled_reference (tabled_held self.old from))) }
+        ensures left { left_of self.new
+            ≡ without_if_any (left_of self.old) (referent_of (tabled_reference (tabled_held self.old from))) }
     {
         let object = self.slots[from];
         let referent = self.load_referent(object);

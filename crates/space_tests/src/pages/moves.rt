@@ -1,8 +1,11 @@
 //! Which pages are chosen, where objects are placed then, and the addresses after it.
 
-use super::Call::{Address, Choose, Empty, Fill, HasChosen, Place, Renumber, Taken};
-use super::Told::{At, Done, No, Nowhere, Number, Refused, Yes};
-use super::{Call, Told, make_calls};
+use super::Call::{
+    Address, Choose, Empty, Fill, FirstLeft, Give, HasChosen, HasLeft, IsChosen, Place, Renumber,
+    Taken,
+};
+use super::Told::{At, Done, No, NotAsked, Nowhere, Number, Refused, Yes};
+use super::{Call, Told, make_calls, reserve};
 use ref_base::Fault;
 use ref_space::Pages;
 use std::alloc::Global;
@@ -177,4 +180,52 @@ fn the_last_addresses_are_given(rt: HostRuntime) -> Result<(), Fail> {
         (Choose, Refused(Fault::AddressesSpent)),
     ];
     agree(&rt, rt.alloc(), 4_294_967_290, &story)
+}
+
+#[test]
+fn what_is_to_move_has_the_next_free_cells_in_order(rt: HostRuntime) -> Result<(), Fail> {
+    let mut pages = Pages::new(rt.alloc(), 4, 7)?;
+    let chosen = [
+        (Fill(0, 0, 64), Done),
+        (Fill(1, 0, 64), Done),
+        (Fill(2, 0, 40), Done),
+        (Empty(0, 1, 63), Done),
+        (Empty(1, 0, 62), Done),
+        (HasLeft, No),
+        (Choose, Number(4)),
+        (IsChosen(0), Yes),
+        (IsChosen(1), Yes),
+        (IsChosen(2), No),
+        (IsChosen(4), NotAsked),
+    ];
+    make_calls(&rt, &mut pages, &chosen);
+    let mut forwards = [0; 256];
+    assert_eq!(rt; reserve(&mut pages, &mut forwards[..255]), NotAsked);
+    assert_eq!(rt; reserve(&mut pages, &mut forwards), Done);
+    // Where something lies, and where it is to go: cell c of frame f is place 64 * f + c.
+    let table = [(0, 168), (63, 169), (126, 170), (127, 171), (128, 0)];
+    for (row, &(from, to)) in table.iter().enumerate() {
+        assert_eq!(rt; forwards.get(from).copied(), Some(to), "row {row}");
+    }
+    let moved = [
+        (FirstLeft, At(0, 0)),
+        (HasLeft, Yes),
+        (Give(0, 0), Done),
+        (FirstLeft, At(0, 63)),
+        // One that isn't the first may move before it.
+        (Give(1, 62), Done),
+        (FirstLeft, At(0, 63)),
+        (Give(0, 63), Done),
+        (FirstLeft, At(1, 63)),
+        (Give(1, 63), Done),
+        (HasLeft, No),
+        (FirstLeft, Nowhere),
+        (Place, At(2, 44)),
+        (Renumber, Done),
+        (Address(0), Number(11)),
+        (Address(1), Number(12)),
+        (HasLeft, No),
+    ];
+    make_calls(&rt, &mut pages, &moved);
+    Ok(())
 }

@@ -41,7 +41,7 @@ fn queue_in(rt: &impl Abort, memory: &Bump, left: usize) -> Result<bool, Fail> {
 #[test]
 fn a_heap_that_finds_no_memory_is_not_made(rt: HostRuntime) -> Result<(), Fail> {
     let mut made = false;
-    for step in 0..320 {
+    for step in 0..400 {
         let memory = limited(rt.alloc(), 32_768)?;
         let was_made = made;
         made = heap_in(&rt, &memory, 64 * step)?;

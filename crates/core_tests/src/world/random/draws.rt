@@ -10,6 +10,9 @@ pub struct Draws {
     size: Config,
     state: u64,
     clock: u64,
+    /// The last step, and how often it comes again.
+    last: Step,
+    again: u32,
 }
 
 impl Draws {
@@ -19,6 +22,8 @@ impl Draws {
             size,
             state: seed,
             clock: 0,
+            last: Step::Plain(PlainStep::Select),
+            again: 0,
         }
     }
 
@@ -54,12 +59,18 @@ impl Draws {
         QueueNo(self.number(self.size.queues))
     }
 
-    /// One of few slots, so that they are often written over.
+    /// Whether objects fill two pages and more.
+    fn is_large(&self) -> bool {
+        self.size.cells > 64
+    }
+
+    /// One of few slots, so that they are often written over; of all where objects are to live in more than one page.
     fn slot(&mut self) -> SlotNo {
+        let slots = if self.is_large() { 16 } else { 4 };
         if self.below(100) == 0 {
             SlotNo(16)
         } else {
-            SlotNo(self.below(4))
+            SlotNo(self.below(slots))
         }
     }
 
@@ -185,8 +196,8 @@ impl Draws {
 
     /// A step of the collector that isn't a worker's. The clock of a begin goes on, and now and then back.
     fn turn(&mut self) -> Step {
-        match self.below(4) {
-            0 => {
+        match self.below(16) {
+            0..=2 => {
                 self.clock = self.clock.saturating_add(self.below(2) as u64);
                 let back = if self.below(3) == 0 { 4 } else { 0 };
                 let urgency = if self.below(8) == 0 {
@@ -199,31 +210,65 @@ impl Draws {
                     urgency,
                 })
             }
-            1 => Step::Plain(PlainStep::EndMark),
-            2 => Step::Plain(PlainStep::EndClear),
-            _ => Step::Plain(PlainStep::EndSweep),
+            3..=5 => Step::Plain(PlainStep::EndMark),
+            6..=8 => Step::Plain(PlainStep::EndClear),
+            9..=11 => Step::Plain(PlainStep::EndSweep),
+            12 => Step::Plain(PlainStep::Select),
+            _ => Step::Plain(PlainStep::EndMove),
         }
     }
 
     /// A step of a worker.
     fn work(&mut self) -> Step {
         let worker = self.worker();
-        match self.below(8) {
-            0..=3 => Step::Plain(PlainStep::Scan { worker }),
-            4..=5 => Step::Plain(PlainStep::ClearNext { worker }),
-            6 => Step::Hand { worker },
+        match self.below(16) {
+            0..=5 => Step::Plain(PlainStep::Scan { worker }),
+            6..=8 => Step::Plain(PlainStep::ClearNext { worker }),
+            9..=10 => Step::Hand { worker },
+            11..=13 => Step::Plain(PlainStep::MoveNext { worker }),
             _ => Step::Plain(PlainStep::Sweep { worker }),
+        }
+    }
+
+    /// How often the last step comes again. In a large world objects are made in runs of up to two pages, all in one
+    /// slot, and are garbage at once but for the last: so pages become sparse. A worker does some steps in a row.
+    fn run(&mut self) -> u32 {
+        let is_long = self.is_large() && self.below(16) == 0;
+        let limit = match self.last {
+            Step::Plain(PlainStep::New { .. }) if is_long => 128,
+            Step::Plain(
+                PlainStep::Scan { .. }
+                | PlainStep::ClearNext { .. }
+                | PlainStep::Sweep { .. }
+                | PlainStep::MoveNext { .. },
+            ) => 6,
+            _ => 1,
+        };
+        self.below(limit)
+    }
+
+    /// One step. Every other end of a sweep is followed by a choice of what is to move.
+    fn draw(&mut self) -> Step {
+        if self.last == Step::Plain(PlainStep::EndSweep) && self.below(2) == 0 {
+            return Step::Plain(PlainStep::Select);
+        }
+        match self.below(16) {
+            0..=3 => self.change(),
+            4..=5 => self.look(),
+            6..=7 => self.notice(),
+            8..=11 => self.turn(),
+            _ => self.work(),
         }
     }
 
     /// The next step.
     pub fn step(&mut self) -> Step {
-        match self.below(16) {
-            0..=3 => self.change(),
-            4..=5 => self.look(),
-            6..=8 => self.notice(),
-            9..=11 => self.turn(),
-            _ => self.work(),
+        if self.again > 0 {
+            self.again -= 1;
+        } else {
+            self.last = self.draw();
+            self.again = self.run();
         }
+        self.last
     }
 }

@@ -1,10 +1,11 @@
 //! The ways in which each kind of step is answered.
 
 use Way::{
-    Added, Already, BadField, BadQueue, Cleared, ClearingLeft, ClockBack, Closed, Cycle, Done,
-    Empty, EmptySlot, GreyLeft, HandEmpty, HandFull, Kept, NoCell, NoSuchActor, NoneDoomed,
-    NotAReference, Nothing, NoticeOfCycle, Null, Object, Otherwise, OwnNotice, RefersElsewhere,
-    RefersToIt, Scanned, Skipped, SomeDoomed, SweepLeft, Swept, Took, WrongPhase,
+    Added, AddressesSpent, Already, BadField, BadQueue, Cleared, ClearingLeft, ClockBack, Closed,
+    Cycle, Done, Empty, EmptySlot, GreyLeft, HandEmpty, HandFull, Kept, Moved, MovesLeft, NoCell,
+    NoRoom, NoSuchActor, NoneDoomed, NotAReference, Nothing, NoticeOfCycle, Null, Object,
+    Otherwise, OwnNotice, RefersElsewhere, RefersToIt, Scanned, Selected, Skipped, SomeDoomed,
+    SweepLeft, Swept, Took, WrongPhase,
 };
 use ref_base::{Cause, Fault, PlainStep, Reply, Step};
 
@@ -35,6 +36,8 @@ pub enum Way {
     Kept,
     Skipped,
     Swept,
+    Selected,
+    Moved,
     NoCell,
     EmptySlot,
     BadField,
@@ -46,6 +49,9 @@ pub enum Way {
     GreyLeft,
     ClearingLeft,
     SweepLeft,
+    MovesLeft,
+    NoRoom,
+    AddressesSpent,
     HandFull,
     HandEmpty,
     /// By none of these.
@@ -53,10 +59,10 @@ pub enum Way {
 }
 
 /// How many ways there are.
-pub const WAYS: usize = 35;
+pub const WAYS: usize = 40;
 
 /// Each kind of step, by name, and the ways in which it is answered.
-pub static ANSWERS: [(&'static str, &'static [Way]); 23] = [
+pub static ANSWERS: [(&'static str, &'static [Way]); 26] = [
     ("new", &[Object, NoSuchActor, BadField, NoCell]),
     (
         "refer",
@@ -111,6 +117,9 @@ pub static ANSWERS: [(&'static str, &'static [Way]); 23] = [
     ("hand", &[NoticeOfCycle, Nothing, NoSuchActor, HandFull]),
     ("sweep", &[Swept, Nothing, NoSuchActor, WrongPhase]),
     ("endsweep", &[Done, WrongPhase, SweepLeft]),
+    ("select", &[Selected, WrongPhase, NoRoom, AddressesSpent]),
+    ("move", &[Moved, Nothing, NoSuchActor, WrongPhase]),
+    ("endmove", &[Done, WrongPhase, MovesLeft]),
 ];
 
 /// The place of the step's kind in `ANSWERS`.
@@ -139,6 +148,9 @@ pub fn place_of(step: Step) -> usize {
         Step::Hand { .. } => 20,
         Step::Plain(PlainStep::Sweep { .. }) => 21,
         Step::Plain(PlainStep::EndSweep) => 22,
+        Step::Plain(PlainStep::Select) => 23,
+        Step::Plain(PlainStep::MoveNext { .. }) => 24,
+        Step::Plain(PlainStep::EndMove) => 25,
     }
 }
 
@@ -155,6 +167,9 @@ fn way_refused(fault: Fault) -> Way {
         Fault::GreyLeft => GreyLeft,
         Fault::ClearingLeft => ClearingLeft,
         Fault::SweepLeft => SweepLeft,
+        Fault::MovesLeft => MovesLeft,
+        Fault::NoRoom => NoRoom,
+        Fault::AddressesSpent => AddressesSpent,
         Fault::HandFull => HandFull,
         Fault::HandEmpty => HandEmpty,
         _ => Otherwise,
@@ -187,6 +202,8 @@ pub fn way_of(reply: Reply) -> Way {
         Reply::Kept(_) => Kept,
         Reply::Skipped(_) => Skipped,
         Reply::Swept(_) => Swept,
+        Reply::Selected(_) => Selected,
+        Reply::Moved(_) => Moved,
         Reply::Refused(fault) => way_refused(fault),
     }
 }

@@ -2,6 +2,13 @@ use Rattle.ref_share.proofs.Common.{subst, false≢true, IsSome, heap_view}
 use Rattle.ref_share.proofs.cycles.end_phase.Goals.{in-None, in-Some+in_ok-perform+then-eq+in-Ok}
 use Rattle.ref_share.proofs.cycles.end_phase.Goals as goal
 
+pub returns-clause-seat : goal.returns-clause-seat
+returns-clause-seat g c =
+    elim c.match-next.branch [
+      | in-None w ↦ absurd (false≢true (subst IsSome w.in-None.is c.next.ensures.steps))
+      | in-Some+in_ok-perform+then-eq+in-Ok w ↦ rw w.seat-is w.in-Ok.ensures.seat
+    ]
+
 pub returns-clause-ends : goal.returns-clause-ends
 returns-clause-ends g c =
     elim c.match-next.branch [

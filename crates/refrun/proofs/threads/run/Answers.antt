@@ -1,5 +1,11 @@
-use Rattle.refrun.proofs.Common.{◌≡◌, ◌<◌, length, get_or, subst, arith, IsHeapSeat, IsQueueSeat, Shared, Job}
+use Rattle.refrun.proofs.Common.{◌≡◌, ◌<◌, length, get_or, subst, sym, arith, IsHeapSeat, IsQueueSeat, Shared, Job}
+use Rattle.refrun.specs.StressSeats.{IsSeated}
 use Rattle.refrun.proofs.threads.run.Goals as goal
+
+-- each job has seats of the heap and of the queue
+pub map_vec-requires-after_bounds : goal.map_vec-requires-after_bounds
+map_vec-requires-after_bounds g c lifetimes bounds i job within is =
+    subst (λ (of : Job). IsSeated of.station) (sym is) (c.in-Ok.ensures.seated i job within).1
 
 pub joined-requires-clause-left : goal.joined-requires-clause-left
 joined-requires-clause-left g c k d within =

@@ -9,7 +9,8 @@ invariant_of-self-in_default g c = grind (arith, sound_none c.args.worker c.in_o
 
 pub invariant_of-self-in_default-reference : goal.invariant_of-self-in_default-reference
 invariant_of-self-in_default-reference g c =
-    grind (arith, sound_plain c.args.worker c.in_ok-look.ensures.refused c.self.invariant)
+    sound_plain c.args.worker c.in_ok-look.ensures.refused c.self.invariant
+    (sym c.in-Some.is ∙ c.in_ok-look.ensures.answer) (grind arith) c.in_ok-look.ensures.after
 
 pub invariant_of-self-then-is_none : goal.invariant_of-self-then-is_none
 invariant_of-self-then-is_none g c =

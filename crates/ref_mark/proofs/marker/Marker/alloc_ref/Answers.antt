@@ -7,7 +7,12 @@ invariant_of-self-2 g c =
     let o : Object =
     new_reference c.self.inside.objects.heap c.self.inside.objects.next c.args.strength
     (slot_at c.self.inside.objects.heap c.args.mutator c.args.from) c.args.queue c.args.fields in
-    sound_made c.args.mutator c.args.into o refl c.in_ok-no.ensures.after c.self.invariant c.facts-2.ensures
+    record {
+      lists =
+          sound_made c.args.mutator c.args.into o refl c.in_ok-no.ensures.after c.self.invariant.lists
+          c.facts-2.ensures;
+      moves = rw c.in_ok-no.ensures.after c.self.invariant.moves;
+    }
 
 pub returns : goal.returns
 returns g c =
@@ -15,6 +20,6 @@ returns g c =
     new_reference c.self.inside.objects.heap c.self.inside.objects.next c.args.strength
     (slot_at c.self.inside.objects.heap c.args.mutator c.args.from) c.args.queue c.args.fields in
     let young =
-    young_made c.args.mutator c.args.into o refl c.in_ok-no.ensures.after c.self.invariant c.self.inside.policy
+    young_made c.args.mutator c.args.into o refl c.in_ok-no.ensures.after c.self.invariant.lists c.self.inside.policy
     c.self.inside.cycle (unmarked_next c.self.inside.objects c.facts.ensures) in
     grind arith

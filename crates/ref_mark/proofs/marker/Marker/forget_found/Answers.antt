@@ -9,8 +9,14 @@ invariant_of-self g c =
     omega (arith, c.loop-worker-test.false, c.len-worker-end.ensures) in
     let whole : c.loop-worker.self-inside.found.items ≡ map (λ x. no_chain) c.self.inside.found.items =
     all_cleared c.self.inside.found.items c.loop-worker.worker all c.loop-worker.invariant.found in
-    rw (whole, c.loop-worker.invariant.objects, c.loop-worker.invariant.grey, c.loop-worker.invariant.phase)
-    (sound_emptied c.self.invariant)
+    rw (
+      whole,
+      c.loop-worker.invariant.objects,
+      c.loop-worker.invariant.grey,
+      c.loop-worker.invariant.phase,
+      c.loop-worker.invariant.cycle,
+    )
+    (record { lists = sound_emptied c.self.invariant.lists; moves = c.self.invariant.moves })
 
 pub loop-worker-preserved : goal.loop-worker-preserved
 loop-worker-preserved g c = record {

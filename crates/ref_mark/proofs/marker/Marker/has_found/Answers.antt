@@ -11,4 +11,4 @@ returns g c =
     (any_from_yields_List (λ (l : Chain). not (l.first == 0)) _ _ c.any.result c.any.ensures.ran
     (YieldsList-from_slice c.self.inside.found.items cc) (λ x b q k. search (rules, tests))
     ∙ any_found c.self.inside.objects.tags c.self.inside.objects.heap.config.cells c.self.inside.found.items
-    c.self.invariant.chains)
+    c.self.invariant.lists.chains)

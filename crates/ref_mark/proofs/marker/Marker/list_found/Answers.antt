@@ -12,9 +12,14 @@ invariant_of-self g c =
     let white : refers_into (is_white k) (reference_at k.heap c.args.no) ≡ true =
     subst (λ (j : CycleHeap). refers_into (is_white j) (reference_at j.heap c.args.no) ≡ true) (sym c.self.view_is)
     c.requires.white in
-    sound_found c.worker.inside.0 c.args.no asks.worker c.index.ensures
-    (tagged_if_there _ c.args.no c.facts.ensures (referring_is_there (is_white k) k.heap c.args.no white)) asks.going
-    asks.marked asks.black asks.new c.push_near.ensures.links c.push_near.ensures.chain c.self.invariant
+    record {
+      lists =
+          sound_found c.worker.inside.0 c.args.no asks.worker c.index.ensures
+          (tagged_if_there _ c.args.no c.facts.ensures (referring_is_there (is_white k) k.heap c.args.no white))
+          asks.going asks.marked asks.black asks.new c.push_near.ensures.links c.push_near.ensures.chain
+          c.self.invariant.lists;
+      moves = rw c.push_near.ensures.links c.self.invariant.moves;
+    }
 
 pub returns : goal.returns
 returns g c =
@@ -28,5 +33,5 @@ returns g c =
     rw (← c.self.view_is, ← c.worker.view_is)
     (seen_found c.worker.inside.0 c.args.no asks.worker c.index.ensures
     (tagged_if_there _ c.args.no c.facts.ensures (referring_is_there (is_white k) k.heap c.args.no white)) asks.going
-    asks.marked asks.black asks.new c.push_near.ensures.links c.push_near.ensures.chain c.self.invariant
+    asks.marked asks.black asks.new c.push_near.ensures.links c.push_near.ensures.chain c.self.invariant.lists
     c.self.inside.policy c.self.inside.cycle white)

@@ -5,9 +5,12 @@ use Rattle.ref_mark.proofs.marker.Marker.push_grey.Goals as goal
 pub push-requires : goal.push-requires
 push-requires g c =
     grey_has_room c.args.entry.no (subst (λ (k : CycleHeap). MayGrey k c.args.entry.no) (sym c.self.view_is) c.requires)
-    c.self.invariant
+    c.self.invariant.lists
 
 pub invariant_of-self : goal.invariant_of-self
-invariant_of-self g c =
-    sound_greyed c.args.entry.no (subst (λ (k : CycleHeap). MayGrey k c.args.entry.no) (sym c.self.view_is) c.requires)
-    c.self.invariant c.push.ensures
+invariant_of-self g c = record {
+  lists =
+      sound_greyed c.args.entry.no (subst (λ (k : CycleHeap). MayGrey k c.args.entry.no) (sym c.self.view_is)
+      c.requires) c.self.invariant.lists c.push.ensures;
+  moves = c.self.invariant.moves;
+}

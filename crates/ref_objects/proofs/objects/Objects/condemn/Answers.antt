@@ -1,4 +1,4 @@
-use Rattle.ref_objects.proofs.Common.{arith, ◌≤◌, sym, subst, length, length-map, Ground}
+use Rattle.ref_objects.proofs.Common.{◌∙◌, ap, arith, ◌≤◌, sym, subst, length, length-map, Ground}
 use Rattle.ref_objects.proofs.SoundLemmas.{condemned_sound}
 use Rattle.ref_objects.proofs.MarkLemmas.{unmarked-tabled}
 use Rattle.ref_objects.proofs.MarkedLemmas.{seen_condemned}
@@ -14,7 +14,11 @@ condemn-requires g c =
 
 pub invariant_of-self : goal.invariant_of-self
 invariant_of-self g c =
-    grind (arith, condemned_sound c.self.invariant c.len-count.ensures.orderly.rising c.self.view_is c.requires.closed)
+    grind (
+      arith,
+      condemned_sound c.self.invariant c.len-count.ensures.orderly.rising
+          (ap (λ (g : Ground). g.space.stage) c.self.view_is ∙ c.requires.tuned) c.self.view_is c.requires.closed,
+    )
 
 pub returns-clause-after : goal.returns-clause-after
 returns-clause-after g c = grind (arith, seen_condemned c.self.invariant.ground c.len-count.ensures.orderly.rising)

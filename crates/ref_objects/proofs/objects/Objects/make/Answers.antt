@@ -1,4 +1,5 @@
-use Rattle.ref_objects.proofs.Common.{arith, option_map, made_of}
+use Rattle.ref_objects.proofs.Common.{◌∙◌, ap, arith, option_map, made_of, sym}
+use Rattle.ref_space.specs.Tables.{left_of}
 use Rattle.ref_objects.proofs.GroundLemmas.{no_cell, has_cell, seen_made}
 use Rattle.ref_objects.proofs.SlotLemmas.{new_sound}
 use Rattle.ref_objects.proofs.objects.Objects.make.Goals as goal
@@ -9,9 +10,10 @@ returns-then-is_full-clause-refused g c =
 
 pub invariant_of-self : goal.invariant_of-self
 invariant_of-self g c =
-    rw c.push.ensures
+    rw c.push.ensures.after
     (new_sound c.self.invariant c.args.place c.args.fields c.args.reference
-    (omega (arith, c.if-self-from.false, c.from.ensures)) c.len-count.ensures.orderly.given
+    (omega (arith, c.if-self-from.false, c.from.ensures))
+    (ap left_of (sym c.push.ensures.after) ∙ c.push.ensures.left) c.len-count.ensures.orderly.given
     c.len-count.ensures.orderly.begun)
 
 pub returns-clause-refused : goal.returns-clause-refused
@@ -20,7 +22,8 @@ returns-clause-refused g c =
 
 pub returns-clause-after : goal.returns-clause-after
 returns-clause-after g c =
-    rw (c.push.ensures, ← c.self.view_is)
+    rw (c.push.ensures.after, ← c.self.view_is)
     (seen_made c.self.invariant.ground c.args.place c.args.fields
     (option_map (made_of c.self.inside.table.slots) c.args.reference)
-    c.len-count.ensures.orderly.given c.len-count.ensures.orderly.begun)
+    (ap left_of (sym c.push.ensures.after) ∙ c.push.ensures.left) c.len-count.ensures.orderly.given
+    c.len-count.ensures.orderly.begun)

@@ -1,4 +1,5 @@
-use Rattle.ref_objects.proofs.Common.{◌∙◌, ap, refers_into}
+use Rattle.ref_objects.proofs.Common.{◌∙◌, ap, refers_into, Ground}
+use Rattle.ref_objects.specs.Grounds.{is_tuned}
 use Rattle.ref_base.specs.KeptPaths.{is_kept}
 use Rattle.ref_space.specs.Tables.{tabled_reference, tabled_at}
 use Rattle.ref_space.specs.Worklists.{with_more}
@@ -7,12 +8,18 @@ use Rattle.ref_objects.specs.GroundViews.{stored_fields}
 use Rattle.ref_objects.proofs.ScanLemmas.{may_list, scanned_sound, scanned_seen, listed_seen, refers_seen}
 use Rattle.ref_objects.proofs.objects.Objects.scan.Goals as goal
 
-pub scan-requires : goal.scan-requires
-scan-requires g c =
+pub scan-requires-clause-tuned : goal.scan-requires-clause-tuned
+scan-requires-clause-tuned g c =
+    c.self.invariant.moves.settled
+    ∙ ap (λ (g : Ground). is_tuned g.space.stage) c.self.view_is ∙ ap is_tuned c.requires.tuned
+
+pub scan-requires-clause-room : goal.scan-requires-clause-room
+scan-requires-clause-room g c =
     may_list
     (stored_fields c.self.inside.config c.self.inside.heap_no c.self.inside.table c.self.inside.holds
-    c.self.inside.clock c.self.inside.next c.self.inside.condemning)
-    c.args.grey.now (rw c.self.view_is c.requires)
+    c.self.inside.clock c.self.inside.next c.self.inside.condemning c.self.inside.last c.self.inside.stage
+    c.self.inside.has_choice)
+    c.args.grey.now (rw c.self.view_is c.requires.room)
 
 pub invariant_of-self : goal.invariant_of-self
 invariant_of-self g c =

@@ -1,5 +1,6 @@
 use Rattle.std.proofs.Common.{true, arith}
 use Rattle.ref_space.proofs.PageLemmas.{none_shorter}
+use Rattle.ref_space.proofs.LeftLemmas.{none_taken-given}
 use Rattle.ref_space.proofs.CallLemmas.{are_pages-with, given_at}
 use Rattle.ref_space.proofs.pages.Pages.give.Goals as goal
 
@@ -13,6 +14,8 @@ invariant_of-self g c =
     (none_shorter first c.self.inside.first_open c.self.inside.pages.items (omega (arith, least))
     c.self.invariant.full)
     (omega (arith, least)) c.index_mut.ensures.value c.give.ensures
+    (none_taken-given c.self.inside.pages.items c.place_of-page.result c.args.cell c.self.inside.chosen.items
+    c.self.inside.first_left c.self.invariant.emptied)
 
 pub returns : goal.returns
 returns g c =

@@ -1,3 +1,4 @@
+use Rattle.ref_space.specs.Moves.{ways_of}
 use Rattle.ref_space.proofs.Common.{changed}
 use Rattle.ref_space.proofs.Common.{◌∙◌}
 use Rattle.ref_space.proofs.Common.{sym}
@@ -21,6 +22,7 @@ invariant_of-self g c =
     (held_keeps c.self.inside.round.number c.args.if_marked)
     c.index_mut.ensures.value c.add_hold.ensures.after
     (held_values c.self.inside.round.number (leads_by c.self.inside.round.good
+    (ways_of c.self.inside.pages c.self.inside.forwards.items c.self.inside.last_good c.self.inside.is_tuned)
     (occupants_of c.self.inside.cells.items)) c.args.if_marked)
     (held_leaves c.self.inside.round.number c.args.if_marked)
 
@@ -41,7 +43,8 @@ returns-in-Some-clause-after g c =
     (more_held_if c.self.inside.round.number c.args.if_marked)
     (held_keeps c.self.inside.round.number c.args.if_marked)
     c.index_mut.ensures.value c.add_hold.ensures.after c.self.view_is
-    (held-named c.self.inside.round.number (target_by
+    (held-named c.self.inside.round.number (target_by (ways_of c.self.inside.pages c.self.inside.forwards.items
+    c.self.inside.last_good c.self.inside.is_tuned)
     (occupants_of c.self.inside.cells.items)) c.args.if_marked)
     ∙ ap (λ r. changed c.args.self.now c.args.no (more_held_if r c.args.if_marked)) (sym
     (round_seen c.self.invariant c.self.view_is))
@@ -68,3 +71,8 @@ add_hold-requires g c =
     (IsPlaceOf-lent c.args.no c.deref.ensures.value c.deref-2.ensures.value c.in-Some.ensures)
     c.self.view_is holds_in holds-named c.index_mut.ensures.value refl in
     omega (arith, count, c.requires, holds_in-le c.args.self.now.tabled c.args.no)
+
+pub index_mut-requires : goal.index_mut-requires
+index_mut-requires g c =
+    let place = IsPlaceOf-lent c.args.no c.deref.ensures.value c.deref-2.ensures.value c.in-Some.ensures in
+    omega (arith, c.self.inside.cells.ok.0, place.within)

@@ -1,56 +1,83 @@
+use Rattle.ref_space.specs.Moves.{ways_of}
 use Rattle.ref_space.proofs.Common.{◌∙◌, ap, sym, refl, length, Table, tabled_by, table_begun}
-use Rattle.ref_space.proofs.EachLemmas.{items_each, items_mapped, sound_all, marked_of-anew, sound_next}
+use Rattle.ref_space.proofs.EachLemmas.{items_each, sound_all, marked_of-anew, sound_next}
 use Rattle.ref_space.proofs.EachLemmas.{naming_next, seen_next, naming_anew, seen_anew}
-use Rattle.ref_space.specs.ColouredWords.{recoloured}
+use Rattle.ref_space.proofs.CellChanges.{healed_slots, few_places, apart_seen}
 use Rattle.ref_space.specs.Tables.{with_nothing_done}
+use Rattle.ref_space.proofs.BroughtLemmas.{left_settled}
 use Rattle.ref_space.proofs.table.Table.begin.Goals as goal
+use Rattle.ref_space.proofs.EachLemmas.{sound_tuned}
 
 pub invariant_of-self : goal.invariant_of-self
 invariant_of-self g c =
     let slots =
-    items_mapped (recoloured c.args.good) c.self.inside.slots (sym c.self.inside.slots.ok.0) c.recolour.ensures
-    c.deref_mut.ensures.value in (
-      sound_next c.self.inside.round c.args.good c.self.inside.cells.items
-          c.self.inside.index.items c.self.inside.slots.items slots c.if-self-lt18446744073709551615.true refl
+    healed_slots c.self.invariant c.deref.ensures.value c.deref-2.ensures.value c.args.good c.self.inside.slots
+    (sym c.self.inside.slots.ok.0) c.heal_slots.ensures c.deref_mut.ensures.value in (
+      sound_next c.self.inside.round c.args.good
+          (ways_of c.self.inside.pages c.self.inside.forwards.items c.self.inside.last_good c.self.inside.is_tuned)
+          c.self.inside.cells.items
+          c.self.inside.index.items c.self.inside.slots.items slots
+          (left_settled c.self.invariant c.self.view_is c.requires.settled) (few_places c.self.invariant)
+          (apart_seen c.self.invariant c.self.view_is c.args.good c.requires.apart)
+          c.if-self-lt18446744073709551615.true refl
           c.self.invariant.0 c.self.invariant.1,
-      naming_next c.self.inside.round c.args.good c.self.inside.cells.items
-          c.self.inside.index.items c.self.inside.slots.items slots c.if-self-lt18446744073709551615.true refl
+      naming_next c.self.inside.round c.args.good
+          (ways_of c.self.inside.pages c.self.inside.forwards.items c.self.inside.last_good c.self.inside.is_tuned)
+          c.self.inside.cells.items
+          c.self.inside.index.items c.self.inside.slots.items slots
+          (left_settled c.self.invariant c.self.view_is c.requires.settled) (few_places c.self.invariant)
+          (apart_seen c.self.invariant c.self.view_is c.args.good c.requires.apart)
+          c.if-self-lt18446744073709551615.true refl
           c.self.invariant.1,
     )
 
 pub returns-then-self-lt18446744073709551615 : goal.returns-then-self-lt18446744073709551615
 returns-then-self-lt18446744073709551615 g c =
-    seen_next c.self.inside.round c.args.good c.self.inside.cells.items
+    seen_next c.self.inside.round c.args.good
+    (ways_of c.self.inside.pages c.self.inside.forwards.items c.self.inside.last_good c.self.inside.is_tuned)
+    c.self.inside.cells.items
     c.self.inside.index.items c.self.inside.slots.items
-    (items_mapped (recoloured c.args.good) c.self.inside.slots (sym c.self.inside.slots.ok.0) c.recolour.ensures
-    c.deref_mut.ensures.value)
-    c.if-self-lt18446744073709551615.true refl c.self.inside.pages c.self.inside.last c.self.inside.room
+    (healed_slots c.self.invariant c.deref.ensures.value c.deref-2.ensures.value c.args.good c.self.inside.slots
+    (sym c.self.inside.slots.ok.0) c.heal_slots.ensures c.deref_mut.ensures.value)
+    (left_settled c.self.invariant c.self.view_is c.requires.settled) (few_places c.self.invariant)
+    (apart_seen c.self.invariant c.self.view_is c.args.good c.requires.apart)
+    c.if-self-lt18446744073709551615.true refl c.self.invariant.1.rooted c.self.inside.last c.self.inside.room
     ∙ ap (λ (t : Table). table_begun t c.args.good) c.self.view_is
 
 pub invariant_of-self-2 : goal.invariant_of-self-2
 invariant_of-self-2 g c =
     let slots =
-    items_mapped (recoloured c.args.good) c.self.inside.slots (sym c.self.inside.slots.ok.0) c.recolour.ensures
-    c.deref_mut.ensures.value in
+    healed_slots c.self.invariant c.deref.ensures.value c.deref-2.ensures.value c.args.good c.self.inside.slots
+    (sym c.self.inside.slots.ok.0) c.heal_slots.ensures c.deref_mut.ensures.value in
     let each =
     items_each with_nothing_done (λ k. refl) c.self.inside.cells (sym c.self.inside.cells.ok.0) c.forget_rounds.ensures
     c.deref_mut-2.ensures.value in (
       sound_all with_nothing_done (λ k. refl) c.self.inside.cells.items each c.self.inside.index.items
-          c.self.invariant.0
+          (sound_tuned (left_settled c.self.invariant c.self.view_is c.requires.settled) c.self.invariant.0)
           (sym (ap length (marked_of-anew (tabled_by c.self.inside.cells.items c.self.inside.index.items)))),
-      naming_anew c.self.inside.round c.args.good c.self.inside.cells.items
-          c.self.inside.index.items c.self.inside.slots.items slots each refl c.self.invariant.1,
+      naming_anew c.self.inside.round c.args.good
+          (ways_of c.self.inside.pages c.self.inside.forwards.items c.self.inside.last_good c.self.inside.is_tuned)
+          c.self.inside.cells.items
+          c.self.inside.index.items c.self.inside.slots.items slots
+          (left_settled c.self.invariant c.self.view_is c.requires.settled) (few_places c.self.invariant)
+          (apart_seen c.self.invariant c.self.view_is c.args.good c.requires.apart)
+          each refl c.self.invariant.1,
     )
 
 pub returns : goal.returns
 returns g c =
     let slots =
-    items_mapped (recoloured c.args.good) c.self.inside.slots (sym c.self.inside.slots.ok.0) c.recolour.ensures
-    c.deref_mut.ensures.value in
+    healed_slots c.self.invariant c.deref.ensures.value c.deref-2.ensures.value c.args.good c.self.inside.slots
+    (sym c.self.inside.slots.ok.0) c.heal_slots.ensures c.deref_mut.ensures.value in
     let each =
     items_each with_nothing_done (λ k. refl) c.self.inside.cells (sym c.self.inside.cells.ok.0) c.forget_rounds.ensures
     c.deref_mut-2.ensures.value in
-    seen_anew c.self.inside.round c.args.good c.self.inside.cells.items
-    c.self.inside.index.items c.self.inside.slots.items slots each refl
-    c.if-self-lt18446744073709551615.false c.self.inside.pages c.self.inside.last c.self.inside.room
+    seen_anew c.self.inside.round c.args.good
+    (ways_of c.self.inside.pages c.self.inside.forwards.items c.self.inside.last_good c.self.inside.is_tuned)
+    c.self.inside.cells.items
+    c.self.inside.index.items c.self.inside.slots.items slots
+    (left_settled c.self.invariant c.self.view_is c.requires.settled) (few_places c.self.invariant)
+    (apart_seen c.self.invariant c.self.view_is c.args.good c.requires.apart)
+    each refl
+    c.if-self-lt18446744073709551615.false c.self.invariant.1.rooted c.self.inside.last c.self.inside.room
     ∙ ap (λ (t : Table). table_begun t c.args.good) c.self.view_is

@@ -1,3 +1,4 @@
+use Rattle.ref_space.specs.Moves.{ways_of}
 use Rattle.ref_space.proofs.Common.{refl, ◌∙◌, leads_by, target_by, occupants_of}
 use Rattle.ref_space.proofs.Common.{change_of}
 use Rattle.ref_space.proofs.CellChanges.{sound_there, left_there, left_led_nowhere, change_keeps, change_leaves}
@@ -7,10 +8,12 @@ use Rattle.ref_space.proofs.table.Table.change_by.Goals as goal
 pub invariant_of-self : goal.invariant_of-self
 invariant_of-self g c =
     sound_there c.self.invariant
-    (led_place c.self.invariant c.args.object c.self.view_is c.deref.ensures.value c.in-Some.ensures)
+    (led_place c.self.invariant c.args.object c.self.view_is c.deref.ensures.value c.deref-2.ensures.value
+    c.in-Some.ensures)
     (change_of c.args.change) (change_of c.args.change) (change_keeps c.args.change) c.index_mut.ensures.value
     c.change.ensures (change_leads c.self.inside.round.number
-    (leads_by c.self.inside.round.good (occupants_of c.self.inside.cells.items))
+    (leads_by c.self.inside.round.good (ways_of c.self.inside.pages c.self.inside.forwards.items c.self.inside.last_good
+    c.self.inside.is_tuned) (occupants_of c.self.inside.cells.items))
     (λ b. refl)
     c.args.change)
     (change_leaves c.args.change)
@@ -18,14 +21,18 @@ invariant_of-self g c =
 pub returns-in-Some : goal.returns-in-Some
 returns-in-Some g c =
     left_there c.self.invariant
-    (led_place c.self.invariant c.args.object c.self.view_is c.deref.ensures.value c.in-Some.ensures)
+    (led_place c.self.invariant c.args.object c.self.view_is c.deref.ensures.value c.deref-2.ensures.value
+    c.in-Some.ensures)
     (change_of c.args.change) (change_of c.args.change) (change_keeps c.args.change) c.index_mut.ensures.value
     c.change.ensures c.self.view_is
-    (change-named (target_by (occupants_of c.self.inside.cells.items)) refl c.args.change)
-    ∙ changed_here c.self.invariant c.args.object c.self.view_is c.deref.ensures.value c.in-Some.ensures
+    (change-named (target_by (ways_of c.self.inside.pages c.self.inside.forwards.items c.self.inside.last_good
+    c.self.inside.is_tuned) (occupants_of c.self.inside.cells.items)) refl c.args.change)
+    ∙ changed_here c.self.invariant c.args.object c.self.view_is c.deref.ensures.value c.deref-2.ensures.value
+    c.in-Some.ensures
     (change_of c.args.change)
 
 pub returns-in_default : goal.returns-in_default
 returns-in_default g c =
-    left_led_nowhere c.self.invariant c.args.object c.self.view_is c.deref.ensures.value c.in_default.ensures
+    left_led_nowhere c.self.invariant c.args.object c.self.view_is c.deref.ensures.value c.deref-2.ensures.value
+    c.in_default.ensures
     (change_of c.args.change)

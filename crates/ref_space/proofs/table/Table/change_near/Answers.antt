@@ -1,3 +1,4 @@
+use Rattle.ref_space.specs.Moves.{ways_of}
 use Rattle.ref_space.proofs.Common.{arith, refl, leads_by, target_by, occupants_of, change_of, ◌∙◌, sym, ap, is_some}
 use Rattle.ref_space.proofs.CellChanges.{sound_there, left_there, lying_place, change_keeps, change_leaves}
 use Rattle.ref_space.proofs.CellChanges.{change-named, change_leads}
@@ -14,7 +15,8 @@ invariant_of-self g c =
     sound_there c.self.invariant (lying_place c.self.invariant c.self.view_is c.in-Some.ensures.lies)
     (change_of c.args.change) (change_of c.args.change) (change_keeps c.args.change) c.index_mut.ensures.value
     c.change.ensures (change_leads c.self.inside.round.number
-    (leads_by c.self.inside.round.good (occupants_of c.self.inside.cells.items))
+    (leads_by c.self.inside.round.good (ways_of c.self.inside.pages c.self.inside.forwards.items c.self.inside.last_good
+    c.self.inside.is_tuned) (occupants_of c.self.inside.cells.items))
     (λ b. refl)
     c.args.change)
     (change_leaves c.args.change)
@@ -24,7 +26,8 @@ returns-in-Some g c =
     left_there c.self.invariant (lying_place c.self.invariant c.self.view_is c.in-Some.ensures.lies)
     (change_of c.args.change) (change_of c.args.change) (change_keeps c.args.change) c.index_mut.ensures.value
     c.change.ensures c.self.view_is
-    (change-named (target_by (occupants_of c.self.inside.cells.items)) refl c.args.change)
+    (change-named (target_by (ways_of c.self.inside.pages c.self.inside.forwards.items c.self.inside.last_good
+    c.self.inside.is_tuned) (occupants_of c.self.inside.cells.items)) refl c.args.change)
 
 pub returns-in_default : goal.returns-in_default
 returns-in_default g c =

@@ -4,6 +4,7 @@ use Rattle.ref_space.proofs.Common.{less_held, holds_in, nat_lt}
 use Rattle.ref_space.proofs.CellChanges.{sound_there, left_there, left_nowhere, answered_there, answered_nowhere}
 use Rattle.ref_space.proofs.CellChanges.{holds-named}
 use Rattle.ref_space.proofs.table.Table.drop_hold.Goals as goal
+use Rattle.ref_space.proofs.Common.{arith}
 
 pub invariant_of-self : goal.invariant_of-self
 invariant_of-self g c =
@@ -34,3 +35,8 @@ pub returns-in-None-clause-after : goal.returns-in-None-clause-after
 returns-in-None-clause-after g c =
     left_nowhere c.self.invariant
     (IsMissing-lent c.args.no c.deref.ensures.value c.deref-2.ensures.value c.in-None.ensures) c.self.view_is less_held
+
+pub index_mut-requires : goal.index_mut-requires
+index_mut-requires g c =
+    let place = IsPlaceOf-lent c.args.no c.deref.ensures.value c.deref-2.ensures.value c.in-Some.ensures in
+    omega (arith, c.self.inside.cells.ok.0, place.within)

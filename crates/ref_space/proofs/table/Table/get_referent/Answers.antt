@@ -1,17 +1,43 @@
-use Rattle.ref_space.proofs.Common.{◌∙◌, ap}
-use Rattle.ref_space.proofs.TableSlots.{slot_named, slot_sound, slot_seen}
-use Rattle.ref_space.proofs.Common.{referent_of, tabled_reference, tabled_if}
+use Rattle.ref_space.proofs.Common.{◌<◌, ◌∙◌, ap, sym, subst, arith, length, Table}
+use Rattle.ref_space.specs.Naming.{tabled_of}
+use Rattle.ref_space.specs.Tables.{brought, left_of, slotted, tabled_if, tabled_reference, without_if_any}
+use Rattle.ref_base.specs.CollectorRows.{referent_of}
+use Rattle.ref_space.proofs.BroughtLemmas.{slots_brought}
+use Rattle.ref_space.proofs.TableSlots.{slot_there, slot_led, slot_named, slot_sound, slot_seen}
 use Rattle.ref_space.proofs.table.Table.get_referent.Goals as goal
+
+pub load_referent-referent-requires : goal.load_referent-referent-requires
+load_referent-referent-requires g c = slot_led c.self.invariant c.self.view_is c.args.from c.requires.from
+    c.index-object.ensures
+
+pub index_mut-requires : goal.index_mut-requires
+index_mut-requires g c =
+    let there =
+    slot_there c.self-2.invariant c.self-2.view_is c.args.into
+    (subst (λ ns. c.args.into < length ns)
+    (sym (ap (λ (t : Table). t.slots) c.load_referent-referent.ensures.after
+    ∙ slots_brought c.args.self.now _)) c.requires.into) in
+    omega (arith, there, c.self-2.inside.slots.ok.0)
 
 pub invariant_of-self : goal.invariant_of-self
 invariant_of-self g c =
-    slot_sound c.self-2.invariant (c.self-2.view_is ∙ c.load_referent-referent.ensures.after) c.args.into
-    c.load_referent-referent.result c.load_referent-referent.ensures.healed
+    slot_sound c.self-2.invariant c.self-2.view_is c.args.into c.load_referent-referent.result
+    c.load_referent-referent.ensures.healed
 
-pub returns : goal.returns
-returns g c =
-    slot_seen c.self-2.invariant (c.self-2.view_is ∙ c.load_referent-referent.ensures.after) c.args.into
-    c.load_referent-referent.result
-    (c.load_referent-referent.ensures.named
-    ∙ ap (λ n. referent_of (tabled_reference (tabled_if c.args.self.now.tabled n)))
-    (slot_named c.self.invariant c.self.view_is c.args.from c.requires.from c.index-object.ensures))
+pub returns-clause-after : goal.returns-clause-after
+returns-clause-after g c =
+    slot_seen c.self-2.invariant c.self-2.view_is c.args.into c.load_referent-referent.result
+    c.load_referent-referent.ensures.named
+    ∙ ap (λ (t : Table). slotted t c.args.into
+    (referent_of (tabled_reference (tabled_of c.args.self.now c.index-object.result.now))))
+    c.load_referent-referent.ensures.after
+    ∙ ap (λ d. slotted (brought c.args.self.now (referent_of (tabled_reference (tabled_if c.args.self.now.tabled d))))
+    c.args.into (referent_of (tabled_reference (tabled_if c.args.self.now.tabled d))))
+    (slot_named c.self.invariant c.self.view_is c.args.from c.requires.from c.index-object.ensures)
+
+pub returns-clause-left : goal.returns-clause-left
+returns-clause-left g c =
+    ap left_of c.self-2.view_is ∙ c.load_referent-referent.ensures.left
+    ∙ ap (λ d. without_if_any (left_of c.args.self.now)
+    (referent_of (tabled_reference (tabled_if c.args.self.now.tabled d))))
+    (slot_named c.self.invariant c.self.view_is c.args.from c.requires.from c.index-object.ensures)

@@ -1,3 +1,4 @@
+use Rattle.ref_space.specs.Moves.{ways_of}
 use Rattle.ref_space.proofs.Common.{refl, nat_lt, arith, target_by, occupants_of}
 use Rattle.ref_space.proofs.NamingLemmas.{first_where-named}
 use Rattle.ref_space.proofs.table.Table.held_from.Goals as goal
@@ -6,6 +7,7 @@ pub returns : goal.returns
 returns g c =
     grind (
       arith,
-      first_where-named (target_by (occupants_of c.self.inside.cells.items))
+      first_where-named (target_by (ways_of c.self.inside.pages c.self.inside.forwards.items c.self.inside.last_good
+          c.self.inside.is_tuned) (occupants_of c.self.inside.cells.items))
           (λ k. nat_lt 0 k.holds) (λ k. refl),
     )

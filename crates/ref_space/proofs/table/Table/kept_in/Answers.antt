@@ -1,3 +1,4 @@
+use Rattle.ref_space.specs.Moves.{ways_of}
 use Rattle.ref_space.proofs.Common.{arith, ap, ◌∙◌, sym, target_of, target_by, occupants_of, Table, tabled_reference}
 use Rattle.ref_space.proofs.Common.{option_map, reference_by_number}
 use Rattle.ref_space.proofs.CellChanges.{lying_place, named_there, reference-named}
@@ -10,7 +11,8 @@ index-requires g c =
 
 pub returns : goal.returns
 returns g c =
-    let name = target_by (occupants_of c.self.inside.cells.items) in
+    let name = target_by (ways_of c.self.inside.pages c.self.inside.forwards.items c.self.inside.last_good
+    c.self.inside.is_tuned) (occupants_of c.self.inside.cells.items) in
     named_there c.self.invariant (lying_place c.self.invariant c.self.view_is c.requires) c.self.view_is
     tabled_reference c.index.ensures
     (ap (λ (t : Table). option_map (reference_by_number (target_of t)) c.kept.result) (sym c.self.view_is)

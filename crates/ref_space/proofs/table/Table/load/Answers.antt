@@ -1,18 +1,44 @@
-use Rattle.ref_space.proofs.Common.{refl, ◌∙◌, ap}
-use Rattle.ref_space.proofs.TableSlots.{slot_named, slot_sound, slot_seen}
-use Rattle.ref_space.proofs.Common.{tabled_if, field_in_cell}
-use Rattle.ref_space.proofs.CellChanges.{field_loaded}
+use Rattle.ref_space.proofs.Common.{refl, ◌<◌, ◌∙◌, ap, sym, subst, arith, length, Table}
+use Rattle.ref_space.specs.Naming.{tabled_of}
+use Rattle.ref_space.specs.Tables.{field_held, left_of, without_if_any}
+use Rattle.ref_space.proofs.BroughtLemmas.{loaded, not_loaded, slots_brought}
+use Rattle.ref_space.proofs.TableSlots.{slot_there, slot_led, slot_named, slot_sound, slot_seen}
+use Rattle.ref_space.proofs.Common.{tabled_if}
 use Rattle.ref_space.proofs.table.Table.load.Goals as goal
+
+pub load_field-requires : goal.load_field-requires
+load_field-requires g c = slot_led c.self.invariant c.self.view_is c.args.from c.requires.from c.index-object.ensures
+
+pub returns-in_err-value-clause-after : goal.returns-in_err-value-clause-after
+returns-in_err-value-clause-after g c =
+    not_loaded c.args.self.now c.args.into c.args.from c.args.field
+    (tabled_of c.args.self.now c.index-object.result.now)
+    (ap (tabled_if c.args.self.now.tabled)
+    (slot_named c.self.invariant c.self.view_is c.args.from c.requires.from c.index-object.ensures))
+    c.in_err-value.ensures.held c.load_field.ensures.after
+
+pub index_mut-requires : goal.index_mut-requires
+index_mut-requires g c =
+    let there =
+    slot_there c.self-2.invariant c.self-2.view_is c.args.into
+    (subst (λ ns. c.args.into < length ns)
+    (sym (ap (λ (t : Table). t.slots) c.load_field.ensures.after ∙ slots_brought c.args.self.now _)) c.requires.into) in
+    omega (arith, there, c.self-2.inside.slots.ok.0)
 
 pub invariant_of-self : goal.invariant_of-self
 invariant_of-self g c =
-    slot_sound c.self-2.invariant (c.self-2.view_is ∙ c.load_field.ensures.after) c.args.into c.in_ok-value.value
-    c.in_ok-value.ensures.healed
+    slot_sound c.self-2.invariant c.self-2.view_is c.args.into c.in_ok-value.value c.in_ok-value.ensures.healed
 
 pub returns-clause-after : goal.returns-clause-after
 returns-clause-after g c =
-    field_loaded c.args.self.now c.args.into c.args.from c.args.field
-    (c.in_ok-value.ensures.held
-    ∙ ap (λ n. field_in_cell (tabled_if c.args.self.now.tabled n) c.args.field)
+    loaded c.args.self.now c.args.into c.args.from c.args.field (tabled_of c.args.self.now c.index-object.result.now)
+    (ap (tabled_if c.args.self.now.tabled)
     (slot_named c.self.invariant c.self.view_is c.args.from c.requires.from c.index-object.ensures))
-    (slot_seen c.self-2.invariant (c.self-2.view_is ∙ c.load_field.ensures.after) c.args.into c.in_ok-value.value refl)
+    c.in_ok-value.ensures.held c.load_field.ensures.after
+    (slot_seen c.self-2.invariant c.self-2.view_is c.args.into c.in_ok-value.value refl)
+
+pub returns-clause-left : goal.returns-clause-left
+returns-clause-left g c =
+    ap left_of c.self-2.view_is ∙ c.load_field.ensures.left
+    ∙ ap (λ d. without_if_any (left_of c.args.self.now) (field_held (tabled_if c.args.self.now.tabled d) c.args.field))
+    (slot_named c.self.invariant c.self.view_is c.args.from c.requires.from c.index-object.ensures)

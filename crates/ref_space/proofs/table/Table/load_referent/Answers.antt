@@ -1,9 +1,33 @@
-use Rattle.ref_space.proofs.Common.{◌∙◌, target_of}
-use Rattle.ref_space.proofs.CellChanges.{referent_again}
+use Rattle.ref_space.proofs.Common.{◌≡◌, ◌∙◌, ap, sym, subst, target_of}
+use Rattle.ref_space.specs.Naming.{IsHealed}
+use Rattle.ref_space.specs.Tables.{Table, brought, left_of, without_if_any}
+use Rattle.ref_space.proofs.BroughtLemmas.{healed_named, referent_loaded_is}
 use Rattle.ref_space.proofs.table.Table.load_referent.Goals as goal
+use Rattle.ref_space.proofs.table.Table.load_referent.Given.{Over}
+
+-- the table is that in which the object has moved
+moved : (g : Over) (c : goal.After-set_referent g) → c.set_referent.new.self ≡ c.bring.new.self
+moved g c =
+    referent_loaded_is c.args.self.now c.bring.new.self c.referent-value.result c.args.object c.bring.ensures.after
+    c.bring.ensures.kept c.referent-value.ensures.led c.requires c.healed-healed.result c.healed-healed.ensures.named
+    c.referent-value.ensures.named c.set_referent.ensures
+
+pub returns-clause-named : goal.returns-clause-named
+returns-clause-named g c =
+    ap (λ (t : Table). target_of t c.healed-healed.result) (moved g c)
+    ∙ healed_named c.args.self.now c.bring.new.self c.referent-value.result c.args.object c.bring.ensures.after
+    c.bring.ensures.kept c.referent-value.ensures.led c.requires c.healed-healed.result c.healed-healed.ensures.named
+    ∙ c.referent-value.ensures.named
+
+pub returns-clause-healed : goal.returns-clause-healed
+returns-clause-healed g c =
+    subst (λ (t : Table). IsHealed t c.healed-healed.result) (sym (moved g c)) c.healed-healed.ensures.healed
 
 pub returns-clause-after : goal.returns-clause-after
 returns-clause-after g c =
-    c.set_referent.ensures
-    ∙ referent_again c.args.self.now c.args.object (target_of c.args.self.now c.healed-healed.result)
-    (c.healed-healed.ensures.named ∙ c.referent-value.ensures.named)
+    moved g c ∙ c.bring.ensures.after ∙ ap (brought c.args.self.now) c.referent-value.ensures.named
+
+pub returns-clause-left : goal.returns-clause-left
+returns-clause-left g c =
+    ap left_of (moved g c) ∙ c.bring.ensures.left
+    ∙ ap (without_if_any (left_of c.args.self.now)) c.referent-value.ensures.named

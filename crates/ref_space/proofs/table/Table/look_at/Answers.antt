@@ -1,3 +1,4 @@
+use Rattle.ref_space.specs.Moves.{ways_of}
 use Rattle.ref_space.proofs.Common.{refl, arith, leads_by, occupants_of, change_of, ClearIn}
 use Rattle.ref_space.proofs.PlaceLemmas.{IsPlaceOf-lent, IsMissing-lent}
 use Rattle.ref_space.proofs.CellChanges.{look_nowhere, uncleared_nowhere, sound_there, look_told, cleared_there}
@@ -20,6 +21,11 @@ returns-in_default-clause-after g c =
     (IsMissing-lent c.args.no c.deref.ensures.value c.deref-2.ensures.value c.in_default.ensures)
     c.self.view_is c.args.cycle
 
+pub index_mut-requires : goal.index_mut-requires
+index_mut-requires g c =
+    let place = IsPlaceOf-lent c.args.no c.deref.ensures.value c.deref-2.ensures.value c.in-Some.ensures in
+    omega (arith, c.self.inside.cells.ok.0, place.within)
+
 pub invariant_of-self : goal.invariant_of-self
 invariant_of-self g c =
     sound_there c.self.invariant
@@ -27,6 +33,7 @@ invariant_of-self g c =
     (change_of (ClearIn c.args.cycle)) (change_of (ClearIn c.args.cycle)) (change_keeps (ClearIn c.args.cycle))
     c.index_mut.ensures.value c.change.ensures
     (change_leads c.self.inside.round.number (leads_by c.self.inside.round.good
+    (ways_of c.self.inside.pages c.self.inside.forwards.items c.self.inside.last_good c.self.inside.is_tuned)
     (occupants_of c.self.inside.cells.items)) (λ b. refl)
     (ClearIn c.args.cycle))
     (change_leaves (ClearIn c.args.cycle))
@@ -56,3 +63,13 @@ returns-clause-after g c =
           c.refers_to_unmarked-is_cleared.ensures c.args.cycle
           w.if-is_cleared.false)
     ]
+
+pub index-requires : goal.index-requires
+index-requires g c =
+    let place = IsPlaceOf-lent c.args.no c.deref.ensures.value c.deref-2.ensures.value c.in-Some.ensures in
+    omega (arith, c.self.inside.cells.ok.0, place.within)
+
+pub index-requires-2 : goal.index-requires-2
+index-requires-2 g c =
+    let place = IsPlaceOf-lent c.args.no c.deref.ensures.value c.deref-2.ensures.value c.in-Some.ensures in
+    omega (arith, c.self.inside.cells.ok.0, place.within)

@@ -57,3 +57,8 @@ returns-in-None-clause-after g c =
     (IsMissing-lent c.args.no c.deref.ensures.value c.deref-2.ensures.value c.in-None.ensures) c.self.view_is
     (with_marked c.self.inside.round.number)
     ∙ ap (λ r. changed c.args.self.now c.args.no (with_marked r)) (sym (round_seen c.self.invariant c.self.view_is))
+
+pub index_mut-requires : goal.index_mut-requires
+index_mut-requires g c =
+    let place = IsPlaceOf-lent c.args.no c.deref.ensures.value c.deref-2.ensures.value c.in-Some.ensures in
+    omega (arith, c.self.inside.cells.ok.0, place.within)

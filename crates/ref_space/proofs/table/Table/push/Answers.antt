@@ -1,5 +1,6 @@
+use Rattle.ref_space.specs.Moves.{ways_of}
 use Rattle.ref_space.proofs.Common.{with_tabled}
-use Rattle.ref_space.proofs.Common.{◌∙◌, ◌+◌, ◌*◌, arith, made_entry}
+use Rattle.ref_space.proofs.Common.{◌∙◌, arith, made_entry}
 use Rattle.ref_space.proofs.PushLemmas.{has_cell, can_make, CanMake, seen_made, sound_made}
 use Rattle.ref_space.proofs.CellChanges.{marks_fit}
 use Rattle.ref_space.proofs.Common.{ap, refl, Table, leads_by, target_of, occupants_of, option_map, referent_of}
@@ -11,17 +12,22 @@ use Rattle.ref_space.proofs.Common.{sym, from_bool}
 use Rattle.ref_space.proofs.CellChanges.{round_seen}
 use Rattle.ref_space.proofs.table.Table.push.Given.{Over}
 use Rattle.ref_space.proofs.table.Table.push.Goals.{After-unwrap-page}
+use Rattle.ref_space.specs.Tables.{left_of}
+use Rattle.ref_space.proofs.BroughtLemmas.{left_made}
 use Rattle.ref_space.proofs.table.Table.push.Goals as goal
 
 -- an object may be made once its place was taken
 can : (g : Over) (c : After-unwrap-page g)
     → CanMake c.self.inside.cells.items c.self.inside.index.items c.make_room.new.index.items
-    c.self.inside.pages c.place.new.self c.self.inside.last c.self.inside.room
-    (64 * c.unwrap-page.result.0 + c.unwrap-page.result.1)
+    (ways_of c.self.inside.pages c.self.inside.forwards.items c.self.inside.last_good c.self.inside.is_tuned)
+    (ways_of c.place.new.self c.self.inside.forwards.items c.self.inside.last_good c.self.inside.is_tuned)
+    c.self.inside.last c.self.inside.room c.unwrap-page.result
 can g c =
     can_make c.self.invariant c.self.view_is c.requires.room c.deref.ensures.value
     (c.len.ensures ∙ c.self.inside.cells.ok.0) c.make_room.ensures.entries c.place.ensures.answer
-    c.place.ensures.after c.unwrap-page.ensures
+    (ap (λ ps. ways_of ps c.self.inside.forwards.items c.self.inside.last_good c.self.inside.is_tuned)
+    c.place.ensures.after)
+    c.unwrap-page.ensures
 
 pub unwrap-page-requires : goal.unwrap-page-requires
 unwrap-page-requires g c = grind (arith, has_cell c.self.invariant c.self.view_is c.requires.room)
@@ -55,20 +61,17 @@ push_reserved-requires g c =
 pub overflow_add-self-2 : goal.overflow_add-self-2
 overflow_add-self-2 g c = omega (arith, marks_fit c.self.invariant.0 c.args.marked c.from.ensures)
 
-pub of_place-requires : goal.of_place-requires
-of_place-requires g c =
-    let within = (can g (goal.at.of_place-requires g c).After-unwrap-page).taken.within in
-    omega (arith, within, c.self.invariant.0.placed.small)
-
 -- what the new cell holds leads to objects, and is by number what it is made of
 holds : (g : Over) (c : After-unwrap-page g)
     → IsHeldIn c.self.inside.round.number
-    (leads_by c.self.inside.round.good (occupants_of c.self.inside.cells.items))
+    (leads_by c.self.inside.round.good (ways_of c.self.inside.pages c.self.inside.forwards.items c.self.inside.last_good
+    c.self.inside.is_tuned) (occupants_of c.self.inside.cells.items))
     (made_entry c.self.inside.round.number c.args.no c.args.count c.kept_of_new-kept.result c.args.marked)
 holds g c =
     made_held c.self.inside.round.number c.self.inside.round.good
+    (ways_of c.self.inside.pages c.self.inside.forwards.items c.self.inside.last_good c.self.inside.is_tuned)
     (occupants_of c.self.inside.cells.items) c.args.no c.args.count c.kept_of_new-kept.result c.args.marked
-    (ap (λ (t : Table). leads_by t.round.good t.occupants true (referent_of c.kept_of_new-kept.result))
+    (ap (λ (t : Table). leads_by t.round.good t.ways t.occupants true (referent_of c.kept_of_new-kept.result))
     c.self.view_is
     ∙ c.kept_of_new-kept.ensures.healed)
 
@@ -86,6 +89,7 @@ invariant_of-self g c =
 
 pub returns : goal.returns
 returns g c =
+    let made =
     seen_made c.self.invariant c.self.view_is (can g (goal.at.returns g c).After-unwrap-page)
     (made_entry c.self.inside.round.number c.args.no c.args.count c.kept_of_new-kept.result c.args.marked)
     c.requires.rises c.occupy.ensures
@@ -97,3 +101,13 @@ returns g c =
     ∙ ap (λ r. with_tabled c.args.self.now c.args.into (made_entry r c.args.no c.args.count
     (option_map (made_of c.args.self.now.slots) c.args.reference) c.args.marked)) (sym
     (round_seen c.self.invariant c.self.view_is))
+    in
+    record {
+      after = made;
+      left = ap left_of made
+          ∙ left_made c.self.invariant c.self.view_is c.args.into
+          (made_entry c.args.self.now.round.number c.args.no c.args.count
+          (option_map (made_of c.args.self.now.slots) c.args.reference) c.args.marked)
+          c.unwrap-page.result
+          (can g (goal.at.returns g c).After-unwrap-page).next;
+    }

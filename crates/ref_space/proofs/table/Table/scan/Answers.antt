@@ -1,7 +1,8 @@
 use Rattle.ref_space.proofs.Common.{◌∙◌, sym, ap, is_some, tabled_at, tabled_fields, tabled_reference}
 use Rattle.ref_base.specs.KeptPaths.{is_kept}
 use Rattle.ref_space.specs.Tables.{kept_value}
-use Rattle.ref_space.proofs.ScanLemmas.{lies_still, may_list-each, scanned, scanned_listed, scanned_finds, scanned_none}
+use Rattle.ref_space.proofs.ScanLemmas.{lies_still, tuned_still, may_list-each, scanned, scanned_listed, scanned_finds}
+use Rattle.ref_space.proofs.ScanLemmas.{scanned_none}
 use Rattle.ref_space.proofs.table.Table.scan.Goals as goal
 
 pub returns-in_default-clause-after : goal.returns-in_default-clause-after
@@ -17,11 +18,19 @@ grey_referent-finds-requires-clause-lies g c =
 pub grey_referent-finds-requires-clause-room : goal.grey_referent-finds-requires-clause-room
 grey_referent-finds-requires-clause-room g c =
     rw (c.grey_fields.ensures.after, c.grey_fields.ensures.listed)
-    (may_list-each c.args.self.now c.args.grey.now c.requires
+    (may_list-each c.args.self.now c.args.grey.now c.requires.room
     (tabled_fields (tabled_at c.args.self.now.tabled c.args.entry.no)))
 
-pub heal-requires : goal.heal-requires
-heal-requires g c =
+pub heal-requires-clause-tuned : goal.heal-requires-clause-tuned
+heal-requires-clause-tuned g c =
+    tuned_still c.grey_fields.new.self
+    (kept_value (is_kept c.args.policy) (tabled_reference (tabled_at c.grey_fields.new.self.tabled c.args.entry.no)))
+    c.grey_referent-finds.ensures.after
+    (tuned_still c.args.self.now (tabled_fields (tabled_at c.args.self.now.tabled c.args.entry.no))
+    c.grey_fields.ensures.after c.requires.tuned)
+
+pub heal-requires-clause-lies : goal.heal-requires-clause-lies
+heal-requires-clause-lies g c =
     lies_still c.grey_fields.new.self
     (kept_value (is_kept c.args.policy) (tabled_reference (tabled_at c.grey_fields.new.self.tabled c.args.entry.no)))
     c.args.entry.no c.in-Some.place c.grey_referent-finds.ensures.after

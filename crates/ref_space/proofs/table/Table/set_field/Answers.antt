@@ -1,3 +1,4 @@
+use Rattle.ref_space.specs.Moves.{ways_of}
 use Rattle.ref_space.proofs.Common.{refl, ◌∙◌, ap, leads_by, target_by, occupants_of}
 use Rattle.ref_space.proofs.Common.{on_object, with_field, has_field, target_of}
 use Rattle.ref_space.proofs.CellChanges.{sound_there, left_there, left_led_nowhere, answered_there}
@@ -10,40 +11,49 @@ use Rattle.ref_space.proofs.table.Table.set_field.Goals as goal
 pub invariant_of-self : goal.invariant_of-self
 invariant_of-self g c =
     sound_there c.self.invariant
-    (led_place c.self.invariant c.args.object c.self.view_is c.deref.ensures.value c.in-Some.ensures)
+    (led_place c.self.invariant c.args.object c.self.view_is c.deref.ensures.value c.deref-2.ensures.value
+    c.in-Some.ensures)
     (on_object (with_field c.args.field c.args.value)) (on_object (with_field c.args.field c.args.value)) (λ k. refl)
     c.index_mut.ensures.value c.set_field.ensures.after
     (field_leads c.self.inside.round.number (leads_by c.self.inside.round.good
+    (ways_of c.self.inside.pages c.self.inside.forwards.items c.self.inside.last_good c.self.inside.is_tuned)
     (occupants_of c.self.inside.cells.items)) c.args.field c.args.value
     (leads_seen c.self.invariant c.args.value c.self.view_is c.requires)) (λ k. refl)
 
 pub returns-in-Some-clause-there : goal.returns-in-Some-clause-there
 returns-in-Some-clause-there g c =
     answered_there c.self.invariant
-    (led_place c.self.invariant c.args.object c.self.view_is c.deref.ensures.value c.in-Some.ensures)
+    (led_place c.self.invariant c.args.object c.self.view_is c.deref.ensures.value c.deref-2.ensures.value
+    c.in-Some.ensures)
     c.self.view_is (λ k. has_field k c.args.field) (has_field-named c.args.field) c.index_mut.ensures.value
     c.set_field.ensures.there
     ∙ ap (λ k. has_field k c.args.field)
-    (tabled_here c.self.invariant c.args.object c.self.view_is c.deref.ensures.value c.in-Some.ensures)
+    (tabled_here c.self.invariant c.args.object c.self.view_is c.deref.ensures.value c.deref-2.ensures.value
+    c.in-Some.ensures)
 
 pub returns-in-Some-clause-after : goal.returns-in-Some-clause-after
 returns-in-Some-clause-after g c =
-    let name = (target_by (occupants_of c.self.inside.cells.items)) in
+    let name = (target_by (ways_of c.self.inside.pages c.self.inside.forwards.items c.self.inside.last_good
+    c.self.inside.is_tuned) (occupants_of c.self.inside.cells.items)) in
     left_there c.self.invariant
-    (led_place c.self.invariant c.args.object c.self.view_is c.deref.ensures.value c.in-Some.ensures)
+    (led_place c.self.invariant c.args.object c.self.view_is c.deref.ensures.value c.deref-2.ensures.value
+    c.in-Some.ensures)
     (on_object (with_field c.args.field c.args.value)) (on_object (with_field c.args.field (name c.args.value)))
     (λ k. refl) c.index_mut.ensures.value c.set_field.ensures.after c.self.view_is
     (field-named name c.args.field c.args.value)
-    ∙ changed_here c.self.invariant c.args.object c.self.view_is c.deref.ensures.value c.in-Some.ensures
+    ∙ changed_here c.self.invariant c.args.object c.self.view_is c.deref.ensures.value c.deref-2.ensures.value
+    c.in-Some.ensures
     (on_object (with_field c.args.field (name c.args.value)))
     ∙ rw (named_seen c.self.invariant c.args.value c.self.view_is) refl
 
 pub returns-in-None-clause-there : goal.returns-in-None-clause-there
 returns-in-None-clause-there g c =
-    answered_led_nowhere c.self.invariant c.args.object c.self.view_is c.deref.ensures.value c.in-None.ensures
+    answered_led_nowhere c.self.invariant c.args.object c.self.view_is c.deref.ensures.value c.deref-2.ensures.value
+    c.in-None.ensures
     (λ k. has_field k c.args.field)
 
 pub returns-in-None-clause-after : goal.returns-in-None-clause-after
 returns-in-None-clause-after g c =
-    left_led_nowhere c.self.invariant c.args.object c.self.view_is c.deref.ensures.value c.in-None.ensures
+    left_led_nowhere c.self.invariant c.args.object c.self.view_is c.deref.ensures.value c.deref-2.ensures.value
+    c.in-None.ensures
     (on_object (with_field c.args.field (target_of c.args.self.now c.args.value)))

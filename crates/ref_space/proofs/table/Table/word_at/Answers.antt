@@ -19,7 +19,7 @@ returns-in-Some-field-clause-word g c =
     word_told c.self.invariant c.args.no c.self.view_is c.deref.ensures.value c.deref-2.ensures.value
     c.in-Some.ensures c.args.field
     (ap Some c.told_bits.ensures
-    ∙ ap (option_map (bits_told c.args.self.now.pages.uses)) (sym c.in-Some-field.is ∙ c.field.ensures))
+    ∙ ap (option_map (bits_told c.args.self.now.ways.pages.uses)) (sym c.in-Some-field.is ∙ c.field.ensures))
 
 pub returns-in-None-field-clause-there : goal.returns-in-None-field-clause-there
 returns-in-None-field-clause-there g c =

@@ -1,3 +1,4 @@
+use Rattle.ref_space.specs.Moves.{ways_of}
 use Rattle.ref_space.proofs.Common.{arith, refl, ap, ◌∙◌, field_held, target_of, target_by, occupants_of, sym, Table}
 use Rattle.ref_space.proofs.CellChanges.{lying_place, named_there, held-in_cell}
 use Rattle.ref_space.proofs.table.Table.word_in.Goals as goal
@@ -9,7 +10,8 @@ index-requires g c =
 
 pub returns : goal.returns
 returns g c =
-    let name = target_by (occupants_of c.self.inside.cells.items) in
+    let name = target_by (ways_of c.self.inside.pages c.self.inside.forwards.items c.self.inside.last_good
+    c.self.inside.is_tuned) (occupants_of c.self.inside.cells.items) in
     named_there c.self.invariant (lying_place c.self.invariant c.self.view_is c.requires) c.self.view_is
     (λ k. field_held k c.args.field) c.index.ensures
     (ap (λ (t : Table). target_of t c.word.result) (sym c.self.view_is) ∙ ap name c.word.ensures

@@ -10,7 +10,7 @@ settle-requires g c = (
 
 pub returns-in-Ok : goal.returns-in-Ok
 returns-in-Ok g c = (
-  c.ask-3.ensures.0 ∙ c.ask-2.ensures.0 ∙ c.ask.ensures.0,
+  c.collect.ensures.0,
   (
     c.deliver_one-answer.ensures.seats.0,
     only_seat _ _ _ c.deliver_one-answer.ensures.seats.1 c.from_ref.ensures.value
