@@ -1,5 +1,8 @@
-//! The shapes of `ref_bench` in plain Rust, to compare the compilers' code: nanoseconds, the least of nine runs.
+//! The shapes of `ref_bench` in plain Rust, to compare the compilers' code: nanoseconds, the least of nine runs. With the
+//! word `script` it runs a script of cycles and moves instead, and with `long` it prints a long one.
 
+mod long_script;
+mod script;
 mod word_runs;
 mod words;
 
@@ -131,6 +134,15 @@ fn least_of(name: &str, count: u32, mut run: impl FnMut() -> Duration) {
 }
 
 fn main() {
+    match std::env::args().nth(1).as_deref() {
+        None => measure(),
+        Some("script") if script::run().is_some() => {}
+        Some("long") => long_script::print(),
+        _ => std::process::exit(3),
+    }
+}
+
+fn measure() {
     least("rustc: queue, a put or poll", 2 * NOTICES, alone);
     least("rustc: lock, deque, set, one thread, a put or poll", 2 * NOTICES, alone_under_a_lock);
     for pairs in [1, 2, 4] {

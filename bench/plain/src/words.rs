@@ -31,6 +31,27 @@ pub enum Fault {
     MovesLeft,
 }
 
+impl Fault {
+    /// The number that a trace has of it.
+    pub fn number(self) -> u32 {
+        match self {
+            Fault::NoCell => 4,
+            Fault::EmptySlot => 6,
+            Fault::BadField => 7,
+            Fault::NotAReference => 8,
+            Fault::NoSuchActor => 9,
+            Fault::WrongPhase => 12,
+            Fault::ClockBack => 13,
+            Fault::GreyLeft => 14,
+            Fault::ClearingLeft => 15,
+            Fault::SweepLeft => 16,
+            Fault::MovesLeft => 17,
+            Fault::NoRoom => 18,
+            Fault::AddressesSpent => 19,
+        }
+    }
+}
+
 #[derive(Clone, Copy, PartialEq, Eq)]
 enum Phase {
     Idle,
@@ -117,6 +138,8 @@ impl Cell {
 #[derive(Clone)]
 struct Page {
     address: u32,
+    /// Where it stands in order of address.
+    rank: u32,
     is_chosen: bool,
     taken: u64,
     marked: u64,
@@ -131,6 +154,9 @@ impl Page {
 pub struct Heap {
     cells: Vec<Cell>,
     pages: Vec<Page>,
+    /// The pages in order of address, by their places in memory.
+    order: Vec<u32>,
+    /// No open page in front of this one has a free cell.
     first_open: usize,
     /// Place by number, in order: an object that was handed out is named by its number.
     index: Vec<(u32, u32)>,
@@ -161,10 +187,11 @@ pub struct Heap {
 impl Heap {
     pub fn new(mutators: usize, workers: usize, cells: usize, span: u64) -> Heap {
         let pages = 2 * cells.div_ceil(CELLS);
-        let page = |frame| Page { address: 1 + frame as u32, is_chosen: false, taken: 0, marked: 0 };
+        let page = |frame| Page { address: 1 + frame, rank: frame, is_chosen: false, taken: 0, marked: 0 };
         Heap {
             cells: vec![Cell::FREE; pages * CELLS],
-            pages: (0..pages).map(page).collect(),
+            pages: (0..pages as u32).map(page).collect(),
+            order: (0..pages as u32).collect(),
             first_open: 0,
             index: Vec::with_capacity(2 * cells),
             count: 0,
@@ -302,13 +329,16 @@ impl Heap {
 
     /// The lowest free cell of the first page that is open and has one: it is taken now.
     fn place(&mut self) -> Result<usize, Fault> {
-        while self.pages.get(self.first_open).is_some_and(|page| page.is_chosen || page.taken == u64::MAX) {
+        while let Some(&frame) = self.order.get(self.first_open) {
+            let page = &mut self.pages[frame as usize];
+            if !page.is_chosen && page.taken != u64::MAX {
+                let cell = page.taken.trailing_ones();
+                page.taken |= 1 << cell;
+                return Ok(frame as usize * CELLS + cell as usize);
+            }
             self.first_open += 1;
         }
-        let page = self.pages.get_mut(self.first_open).ok_or(Fault::NoCell)?;
-        let cell = page.taken.trailing_ones();
-        page.taken |= 1 << cell;
-        Ok(self.first_open * CELLS + cell as usize)
+        Err(Fault::NoCell)
     }
 
     /// One more entry of the index, whose gaps are closed where it is full.

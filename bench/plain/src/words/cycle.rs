@@ -15,7 +15,7 @@ impl Heap {
         self.clock = now;
         self.cycle += 1;
         self.phase = Phase::Marking;
-        self.good = if self.good == Colour::A { Colour::B } else { Colour::A };
+        self.good = if self.cycle % 2 == 1 { Colour::A } else { Colour::B };
         self.pages.iter_mut().for_each(|page| page.marked = 0);
         for slot in 0..self.slots.len() {
             if self.slots[slot] != Word::NULL {
@@ -91,7 +91,7 @@ impl Heap {
             self.cells[place].no = 0;
             self.count -= 1;
             self.pages[place / CELLS].taken &= !(1 << (place % CELLS));
-            self.first_open = self.first_open.min(place / CELLS);
+            self.first_open = self.first_open.min(self.pages[place / CELLS].rank as usize);
         }
         Ok((freed > 0).then_some(freed))
     }

@@ -18,10 +18,11 @@ impl Heap {
         if self.next_address + sparse as u64 > 1 << 32 {
             return Err(Fault::AddressesSpent);
         }
-        for (frame, page) in self.pages.iter_mut().enumerate() {
+        for &frame in &self.order {
+            let page = &mut self.pages[frame as usize];
             if page.is_sparse() {
                 page.is_chosen = true;
-                self.chosen.push(frame as u32);
+                self.chosen.push(frame);
             }
         }
         let mut count = 0;
@@ -69,12 +70,20 @@ impl Heap {
     /// The pages that were left are used again, at new addresses.
     pub(super) fn renumber(&mut self) {
         self.has_choice = false;
+        if self.chosen.is_empty() {
+            return;
+        }
+        self.order.retain(|frame| !self.pages[*frame as usize].is_chosen);
         for frame in self.chosen.drain(..) {
             self.pages[frame as usize].is_chosen = false;
             self.pages[frame as usize].address = self.next_address as u32;
             self.next_address += 1;
-            self.first_open = self.first_open.min(frame as usize);
+            self.order.push(frame);
         }
+        for (rank, frame) in self.order.iter().enumerate() {
+            self.pages[*frame as usize].rank = rank as u32;
+        }
+        self.first_open = 0;
     }
 
     /// Where what lay at this place lies now. Where it is still to move it moves first.
