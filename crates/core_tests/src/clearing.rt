@@ -9,7 +9,8 @@ mod workers;
 
 use crate::hand::{adopted, keep, leak, released, shown, taken};
 use crate::told::{
-    Told, began, done, doomed, expect, is_or_fault, kind, made, queue, scanned, value_or_fault,
+    Told, began, done, doomed, expect, is_or_fault, kind, made, moved, queue, scanned, selected,
+    value_or_fault,
 };
 use ref_base::{Config, Fault, MutNo, ObjNo, Parcel, QueueNo, SlotNo, Strength, Urgency, WorkerNo};
 use ref_clear::{Heap, Looked, Notice, Pending};
@@ -67,6 +68,9 @@ enum Collect {
     EndClear,
     Sweep(u32),
     EndSweep,
+    Select,
+    MoveNext(u32),
+    EndMove,
 }
 
 /// A call that gives a notice, whose hold goes into the hand.
@@ -196,6 +200,9 @@ fn collected<A: Allocator + Copy>(heap: &mut Heap<A>, call: Collect) -> Told {
         Collect::EndClear => done(heap.end_clear()),
         Collect::Sweep(worker) => swept(heap.sweep(WorkerNo(worker))),
         Collect::EndSweep => done(heap.end_sweep()),
+        Collect::Select => selected(heap.select()),
+        Collect::MoveNext(worker) => moved(heap.move_next(WorkerNo(worker))),
+        Collect::EndMove => done(heap.end_move()),
     }
 }
 

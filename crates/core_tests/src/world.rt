@@ -5,6 +5,7 @@ mod heap_steps;
 mod memory;
 mod random;
 mod rows;
+mod starts;
 mod stories;
 
 use ref_base::{Config, Reply, Row, Step};

@@ -76,7 +76,8 @@ pub record IsSoundMarker (g : Ground) (grey : Worklist) (found : List Chain) (ph
   pub condemning : g.condemning ≡ is_in phase Sweeping
 
 -- No object is still to move but while objects move; none is unhealed but in a cycle, which was the last to make a
--- colour good; a choice ends with the cycle after it; and the colour of the last cycle that began is that of its number.
+-- colour good; a choice ends with the cycle after it; and the colour of the last cycle that began is that of its
+-- number.
 pub record IsSettled (still_to_move unhealed : List ℕ) (stage : Stage) (has_choice : Bool) (last : Colour)
     (phase : Phase) (cycle : ℕ) : Type 0 where
   pub none_left : is_in phase Moving ≡ false → still_to_move ≡ []

@@ -43,8 +43,8 @@ use Rattle.ref_space.specs.declared.linked.Look.{Look}
 -- of each cell the number of its object, 64 cells to the frame of a page, from frame 0 on; the good colour, that of the
 -- last cycle that began (at first, of the count of cycles so far), and what last made a colour good; in order, the
 -- objects that the cycle hasn't healed since its begin: where that was the last to make a colour good, just these may
--- hold a word of another. Then, in the order in which they are to move, the objects that were chosen to and haven't; and
--- whether some were chosen since a cycle last ended.
+-- hold a word of another. Then, in the order in which they are to move, the objects that were chosen to and haven't;
+-- and whether some were chosen since a cycle last ended.
 pub record Space : Type 0 where
   pub ways : Ways
   pub cells : List (Option ℕ)

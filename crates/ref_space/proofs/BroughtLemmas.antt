@@ -7,7 +7,7 @@ use Rattle.ref_space.proofs.Common.{occupant_in}
 use Rattle.ref_space.proofs.Common.{seen_table, target_by, target_of, leads_by, cell_at, place_by, length-map}
 use Rattle.ref_space.proofs.Common.{IsSoundTable, IsSoundNaming, false≢true, if◌then◌else◌}
 use Rattle.std.proofs.lemmas.Bool.{true≢false, and_parts}
-use Rattle.std.proofs.lemmas.Option.{none-some}
+use Rattle.std.proofs.lemmas.Option.{none-some, same_Some}
 use Rattle.std.proofs.lemmas.List.{get_or-set_other}
 use Rattle.std.proofs.Math.ListN.{get_or-map}
 use Rattle.ref_base.specs.Members.{has}
@@ -46,7 +46,11 @@ use Rattle.ref_space.proofs.Common.{get_or, get_or_read, eq-eqb}
 use Rattle.ref_space.proofs.LeftNumbers.{left_lies, left-given, leaves_none, none_left, number_left, numbers_without}
 use Rattle.ref_space.proofs.LeftNumbers.{without-other}
 use Rattle.ref_space.proofs.LeftPlaces.{is_left}
-use Rattle.ref_space.proofs.MovedLemmas.{its, leads_still, named_still, occupants_now}
+use Rattle.ref_space.proofs.MovedLemmas.{its, leads_still, named_still, occupants_now, within_to}
+use Rattle.ref_space.proofs.PlaceUses.{chosen_place-with}
+use Rattle.ref_space.specs.Pages.{page_at}
+use Rattle.std.proofs.Common.{◌%◌}
+use Rattle.std.proofs.lemmas.List.{get_or-set_same}
 
 module _ {round : Round} {cells : List (Option Tabled)} {es : List Entry} {ways : Ways} {slots : List (Option ℕ)}
     {last room count index_room marked : ℕ}
@@ -119,6 +123,33 @@ module _ {round : Round} {cells : List (Option Tabled)} {es : List Entry} {ways 
       brought_moved leaves =
           ap (moved_from t) (sym number_place)
           ∙ sym (ap (λ b. if b then moved_from t (place_of_number t.occupants n) else t) (left_number ∙ leaves))
+
+      -- it lies where it was to go, which needn't move
+      module _ (leaves : is_chosen_place ways.pages.uses p ≡ true) {to : ℕ} (goes : to ≡ forward_of ways.forwards p)
+          {s : Table} (new : s ≡ moved_from t p) where
+        pub moved_lies : slice_index_or s.occupants to None ≡ Some n
+        moved_lies =
+            ap (λ q. slice_index_or s.occupants q None) goes
+            ∙ ap (λ (r : Table). slice_index_or r.occupants (forward_of ways.forwards p) None) new
+            ∙ ap (λ (r : Table). slice_index_or (moved_from r p).occupants (forward_of ways.forwards p) None) (sym view)
+            ∙ get_or-set_other (set os (forward_of ways.forwards p) (slice_index_or os p None)) p
+            (forward_of ways.forwards p) None None
+            (λ same.
+            true≢false (sym leaves ∙ ap (is_chosen_place ways.pages.uses) (sym same)
+            ∙ (its sound.0.placed place leaves).stays))
+            ∙ get_or-set_same os (forward_of ways.forwards p) (slice_index_or os p None) None
+            (let within = within_to sound.0.placed place leaves in
+            omega (arith, within, length-map cells occupant_in))
+            ∙ own_lies
+
+        pub moved_stays : is_chosen_place s.ways.pages.uses to ≡ false
+        moved_stays =
+            ap (is_chosen_place s.ways.pages.uses) goes
+            ∙ ap (λ (r : Table). is_chosen_place r.ways.pages.uses (forward_of ways.forwards p)) new
+            ∙ ap (λ (r : Table). is_chosen_place (moved_from r p).ways.pages.uses (forward_of ways.forwards p))
+            (sym view)
+            ∙ chosen_place-with ways.pages.uses (page_at ways.pages.uses p) (p % 64) true (forward_of ways.forwards p)
+            ∙ (its sound.0.placed place leaves).stays
 
       -- it is left no more
       pub left_moved : is_chosen_place ways.pages.uses p ≡ true
@@ -248,14 +279,7 @@ module _ {round : Round} {cells : List (Option Tabled)} {es : List Entry} {ways 
     first_there : (places : List ℕ) (p : ℕ) → first_in places ≡ Some p → has places p ≡ true
     first_there [] p is = absurd (none-some p is)
     first_there (q ∷ places) p is =
-        let same : (q == p) ≡ true = eq-eqb q p (some_same q p is) in simp same refl
-      where
-        some_same : (a b : ℕ) → (let l : Option ℕ = Some a in l) ≡ Some b → a ≡ b
-        some_same a b is = ap (λ (o : Option ℕ). or_else a o) is
-          where
-            or_else : ℕ → Option ℕ → ℕ
-            or_else a None = a
-            or_else a (Some b) = b
+        let same : (q == p) ≡ true = eq-eqb q p (same_Some q p is) in simp same refl
 
     first_number : (places : List ℕ) (p n : ℕ) → first_in places ≡ Some p → slice_index_or os p None ≡ Some n
         → first_in (numbers_at os places) ≡ Some n

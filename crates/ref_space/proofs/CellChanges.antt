@@ -80,8 +80,16 @@ use Rattle.ref_space.proofs.PlaceLemmas.{taken-way}
 use Rattle.ref_space.specs.Naming.{IsSettled, healed_word, word_there}
 use Rattle.ref_space.specs.declared.colour.Colour.{Colour}
 use Rattle.ref_space.proofs.ChangeLemmas.{seen_changed_at}
-use Rattle.ref_space.specs.Naming.{with_words, IsHeldIn}
-use Rattle.ref_space.proofs.HealLemmas.{healed_by}
+use Rattle.ref_space.specs.Naming.{with_referent_healed, IsHeldIn}
+use Rattle.ref_space.specs.Places.{with_fields_by, with_fields_healed}
+use Rattle.ref_space.proofs.HealCells.{at_own, own_read, fields_alike, map_alike, place_same, read_at, referent_stays}
+use Rattle.ref_space.proofs.HealCells.{set_twice, some_fields}
+use Rattle.std.proofs.lemmas.List.{with_items_is}
+use Rattle.ref_space.proofs.HealLemmas.{healed_by, heal_leads, heal-named, none_is_chosen, object-recoloured}
+use Rattle.ref_space.specs.Tables.{table_healed, with_healed}
+use Rattle.ref_space.proofs.ChangeLemmas.{found_at}
+use Rattle.ref_space.proofs.PlaceLemmas.{is_of-some}
+use Rattle.ref_space.specs.ColouredWords.{recoloured}
 use Rattle.ref_space.proofs.EachLemmas.{items_mapped}
 use Rattle.std.proofs.Common.{Vec}
 use Rattle.std.specs.Prelude.{Vec}
@@ -296,19 +304,15 @@ held-named r name if_marked k = grind arith
 pub held_values : (r : ℕ) (p : Bool → Option ℕ → Bool) (if_marked : Bool) → Keeps r p (more_held_if r if_marked)
 held_values r p if_marked k each = grind arith
 
-map_alike : (f g : Option ℕ → Option ℕ) → ((v : Option ℕ) → f v ≡ g v) → (vs : List (Option ℕ)) → map f vs ≡ map g vs
-map_alike f g alike [] = refl
-map_alike f g alike (v ∷ vs) = ap (λ w. w ∷ map f vs) (alike v) ∙ ap (λ ws. g v ∷ ws) (map_alike f g alike vs)
-
--- the words of a cell's object, each healed, make it healed
+-- the fields of a cell's object and its referent, each healed, make it healed
 pub healed_cell : (heal : Option ℕ → Option ℕ) (n : ℕ) (c : Option Tabled)
-    → option_map (with_words (map heal (tabled_fields c)) (heal (referent_of (tabled_reference c))) n) c
+    → option_map (with_referent_healed (heal (referent_of (tabled_reference c))) n) (option_map (with_fields_by heal) c)
     ≡ option_map (healed_by heal n) c
 healed_cell heal n None = refl
 healed_cell heal n (Some k) = ap Some (by k.object.reference refl)
   where
     by : (r : Option Reference) → k.object.reference ≡ r
-        → with_words (map heal k.object.fields) (heal (referent_of k.object.reference)) n k ≡ healed_by heal n k
+        → with_referent_healed (heal (referent_of k.object.reference)) n (with_fields_by heal k) ≡ healed_by heal n k
     by None is = grind arith
     by (Some r) is = grind arith
 
@@ -691,10 +695,6 @@ module _ {round : Round} {cells : List (Option Tabled)} {es : List Entry} {ways 
   pub settled : ways.tuned ≡ true → IsSettled ways (occupants_of cells)
   settled is_tuned = settled-none cells ways.pages.uses (sound.0.placed.settled is_tuned)
 
-  pub settled_seen : {t : Table} → seen_table round ways cells es slots last room ≡ t → IsSettled t.ways t.occupants
-      → IsSettled ways (occupants_of cells)
-  settled_seen view settled_now = subst (λ (s : Table). IsSettled s.ways s.occupants) (sym view) settled_now
-
   pub tuned_seen : {t : Table} → seen_table round ways cells es slots last room ≡ t → t.ways.tuned ≡ true
       → ways.tuned ≡ true
   tuned_seen view is = ap (λ (s : Table). s.ways.tuned) view ∙ is
@@ -759,40 +759,96 @@ module _ {round : Round} {cells : List (Option Tabled)} {es : List Entry} {ways 
       ∙ map_alike (λ w. word_there colour (place_of_word borrowed lent w))
       (healed_word colour ways (occupants_of cells)) (heals same_cells same_forwards colour) v.items
 
-  -- an object that is written with these words in the place of those that were read is healed
-  pub healed_here : {n p : ℕ} → IsPlaceOf cells es n p → {read again old new : Option Tabled}
-      → read ≡ get_or cells p read → again ≡ get_or cells p again → old ≡ get_or cells p old
-      → {some others : List (Option Tabled)} {lent given : List ℕ} → some ≡ cells → lent ≡ ways.forwards
-      → others ≡ cells → given ≡ ways.forwards → (colour : Colour) {words fields : List (Option ℕ)}
-      {held referent : Option ℕ} → words ≡ tabled_fields read
-      → fields ≡ map (λ v. word_there colour (place_of_word some lent v)) words
-      → held ≡ referent_of (tabled_reference again)
-      → referent ≡ word_there colour (place_of_word others given held) → (number : ℕ)
-      → new ≡ option_map (with_words fields referent number) old
-      → new ≡ option_map (healed_by (healed_word colour ways (occupants_of cells)) number) old
-  healed_here place {read} {again} {old} {new} was_read was_again was {some} {others} {lent} {given} same_some
-      same_lent same_others same_given colour {words} {fields} {held} {referent} words_are fields_are held_is
-      referent_is
-      number is =
-      let heal : Option ℕ → Option ℕ = healed_word colour ways (occupants_of cells) in
-      let all : fields ≡ map heal (tabled_fields old) =
-      fields_are
-      ∙ map_alike (λ v. word_there colour (place_of_word some lent v)) heal (heals same_some same_lent colour) words
-      ∙ ap (map heal)
-      (words_are ∙ told_of sound.0.placed place tabled_fields was_read
-      ∙ sym (told_of sound.0.placed place tabled_fields was)) in
-      let own : referent ≡ heal (referent_of (tabled_reference old)) =
-      referent_is ∙ heals same_others same_given colour held
-      ∙ ap heal
-      (held_is ∙ told_of sound.0.placed place (λ c. referent_of (tabled_reference c)) was_again
-      ∙ sym (told_of sound.0.placed place (λ c. referent_of (tabled_reference c)) was)) in
-      is ∙ ap (λ fs. option_map (with_words fs referent number) old) all
-      ∙ ap (λ r. option_map (with_words (map heal (tabled_fields old)) r number) old) own
-      ∙ healed_cell heal number old
-
   -- what holds of the object of a number
   pub held_of : (n : ℕ) (k : Tabled) → tabled_at (tabled_by cells es) n ≡ Some k → IsHeldIn round.number leads k
   held_of n k at = each_held round.number leads (tabled_by cells es) n k at sound.1.led
+
+  -- the object in a cell was healed there: first its fields, then its referent
+  pub record IsHealedThere (p : ℕ) (colour : Colour) (number : ℕ) (items : List (Option Tabled)) (new : Option Tabled)
+      : Type 0 where
+    pub whole : set items p new ≡ set cells p new
+    pub cell : new ≡ option_map (healed_by (healed_word colour ways (occupants_of cells)) number) (cell_at cells p)
+
+  pub healed_there : {p : ℕ} → p < length cells → (colour : Colour) (number : ℕ) {Z : Type 0}
+      (v : Vec (Option Tabled) Z) → length v.items ≡ v.len → v.items ≡ cells → {borrowed now : List (Option Tabled)}
+      {lent : List ℕ} → borrowed ≡ cells → lent ≡ ways.forwards → now ≡ with_fields_healed colour lent borrowed p
+      → {read again new : Option Tabled} → read ≡ get_or (with_items v now).items p read
+      → again ≡ get_or (with_items v now).items p again → {others : List (Option Tabled)} {given : List ℕ}
+      → others ≡ (with_items v now).items → given ≡ ways.forwards → {held referent : Option ℕ}
+      → held ≡ referent_of (tabled_reference read) → referent ≡ word_there colour (place_of_word others given held)
+      → new ≡ option_map (with_referent_healed referent number) again
+      → IsHealedThere p colour number (with_items v now).items new
+  healed_there {p} within colour number v size own {borrowed} {now} {lent} same_cells same_forwards fields_are {read}
+      {again}
+      {new} was_read was_again {others} {given} same_others same_given {held} {referent} held_is referent_is is =
+      let heal : Option ℕ → Option ℕ = healed_word colour ways (occupants_of cells) in
+      let old : Option Tabled = cell_at cells p in
+      let half : Option Tabled = option_map (with_fields_by heal) old in
+      let told : now ≡ set cells p half =
+      fields_are ∙ ap (λ cs. with_fields_healed colour lent cs p) same_cells
+      ∙ ap (set cells p) (fields_alike (λ v. word_there colour (place_of_word cells lent v)) heal
+      (heals refl same_forwards colour) old) in
+      let items : (with_items v now).items ≡ set cells p half =
+      with_items_is v now (ap length told ∙ length-set cells p half ∙ ap length (sym own) ∙ size) ∙ told in
+      let count : length (with_items v now).items ≡ length cells = ap length items ∙ length-set cells p half in
+      let there : cell_at (with_items v now).items p ≡ half =
+      ap (λ cs. cell_at cs p) items ∙ at_own cells p half within in
+      let first : read ≡ half =
+      read_at (with_items v now).items p read (omega (arith, count, within)) was_read ∙ there in
+      let second : again ≡ half =
+      read_at (with_items v now).items p again (omega (arith, count, within)) was_again ∙ there in
+      let own_referent : held ≡ referent_of (tabled_reference old) =
+      held_is ∙ ap (λ c. referent_of (tabled_reference c)) first ∙ referent_stays heal old in
+      let healed : referent ≡ heal (referent_of (tabled_reference old)) =
+      referent_is ∙ ap (λ cs. word_there colour (place_of_word cs given held)) (same_others ∙ items)
+      ∙ ap (word_there colour) (place_same cells p half given (some_fields heal old) held)
+      ∙ heals refl same_given colour held ∙ ap heal own_referent in
+      record {
+        whole = ap (λ cs. set cs p new) items ∙ set_twice cells p half new;
+        cell = is ∙ ap (λ r. option_map (with_referent_healed r number) again) healed
+            ∙ ap (option_map (with_referent_healed (heal (referent_of (tabled_reference old))) number)) second
+            ∙ healed_cell heal number old;
+      }
+
+  -- or each of its words got the good colour, where no pages are chosen
+  pub recoloured_there : {n p : ℕ} → IsPlaceOf cells es n p → has_chosen ways.pages.uses ≡ false
+      → {read new : Option Tabled} → read ≡ get_or cells p read
+      → new ≡ option_map (healed_by (recoloured round.good) round.number) read
+      → new ≡ option_map (healed_by (healed_word round.good ways (occupants_of cells)) round.number) (cell_at cells p)
+  recoloured_there {n} {p} place none {read} {new} was is =
+      let k = is_of-some (cell_at cells p) n place.own in
+      is
+      ∙ ap (option_map (healed_by (recoloured round.good) round.number))
+      (read_at cells p read place.within was ∙ k.1)
+      ∙ ap Some (object-recoloured round.good round.good ways (occupants_of cells) none round.number round.number k.0
+      (held_of n k.0 (found_at sound.0.placed place k.0 k.1)))
+      ∙ ap (option_map (healed_by (healed_word round.good ways (occupants_of cells)) round.number)) (sym k.1)
+
+  -- so the object there is healed
+  module _ {n p : ℕ} (place : IsPlaceOf cells es n p) (nothing_leaves : IsSettled ways (occupants_of cells))
+      {new : Option Tabled}
+      (healed : new ≡ option_map (healed_by (healed_word round.good ways (occupants_of cells)) round.number)
+      (cell_at cells p)) where
+    abbrev healing : Tabled → Tabled
+    healing = healed_by (healed_word round.good ways (occupants_of cells)) round.number
+
+    pub sound_healed : IsSoundTable round (set cells p new) es ways last room count index_room marked
+        × IsSoundNaming round ways (set cells p new) es slots
+    sound_healed =
+        sound_there place healing (with_healed round.number) (λ k. refl) (own_read cells p place.within) healed
+        (heal_leads round.good ways (occupants_of cells) nothing_leaves few_places round.number) (λ k. refl)
+
+    pub seen_healed : {t : Table} → seen_table round ways cells es slots last room ≡ t
+        → seen_table round ways (set cells p new) es slots last room ≡ table_healed t n
+    seen_healed {t} view =
+        left_there_at place healing (with_healed round.number) (λ k. refl) (own_read cells p place.within) healed view
+        (λ k at. heal-named round.good ways (occupants_of cells) nothing_leaves few_places round.number k
+        (held_of n k at))
+        ∙ ap (λ r. changed t n (with_healed r)) (sym (round_seen view))
+
+  pub nothing_left : has_chosen ways.pages.uses ≡ false → IsSettled ways (occupants_of cells)
+  nothing_left none p chosen =
+      absurd (false≢true (sym (none_is_chosen round.good round.good ways (occupants_of cells) none p) ∙ chosen))
 
   pub addressed : AreAddressed ways (occupants_of cells)
   addressed = record { address = address; inside = inside }

@@ -109,7 +109,7 @@ module _ {cells : List (Option Tabled)} {es : List Entry} {ways : Ways} {last : 
   found_tabled = is_of-some (cell_at cells p) n place.own
 
   -- which is that of the number
-  found_at : (k : Tabled) → cell_at cells p ≡ Some k → tabled_at (tabled_by cells es) n ≡ Some k
+  pub found_at : (k : Tabled) → cell_at cells p ≡ Some k → tabled_at (tabled_by cells es) n ≡ Some k
   found_at k is = tabled_at-place cells es n placed.rises ∙ ap (at_place cells) (IsPlaceOf-live place) ∙ is
 
   -- what is said of its cell is said of it

@@ -324,10 +324,6 @@ module _ {bs : List Bool} {fs : List ℕ} {ps : List Use} (are : AreFree bs fs p
   pub open_now : (place : ℕ) → is_chosen_place us place ≡ false
   open_now place = none_there us (chosen-renumbered next ps) place
 
-  vacant_chosen : (place : ℕ) → is_chosen_place ps place ≡ false → is_free_place ps place ≡ true
-      → is_vacant bs place ≡ true
-  vacant_chosen = are.free
-
   pub free_renumbered : AreFree bs fs us
   free_renumbered = record {
     whole = whole-renumbered next ps are.whole;

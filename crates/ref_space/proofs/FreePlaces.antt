@@ -34,6 +34,17 @@ module _ {bs : List Bool} {fs : List ℕ} {ps : List Use} (are : AreFree bs fs p
   pub leaves_within : (place : ℕ) → Leaves bs ps place → place < length bs
   leaves_within place leaves = within_vacant bs place leaves.1
 
+  -- a free place of an open page is vacant, as it was, but for the one that changes
+  free_elsewhere : (place other : ℕ) (b : Bool) → (other ≡ place → ⊥) → is_chosen_place ps other ≡ false
+      → (now : List Use) → (other < length bs → is_free_place now other ≡ is_free_place ps other)
+      → is_free_place now other ≡ true → is_vacant (set bs place b) other ≡ true
+  free_elsewhere place other b apart open_page now as_before is_free =
+      vacant-other bs place other b apart
+      ∙ elim (cases_Bool (nat_lt other (length bs))) [
+        | inl there ↦ are.free other open_page (sym (as_before (ltb-true other (length bs) there)) ∙ is_free)
+        | inr past ↦ get_or_past bs other true (ltb-false other (length bs) past)
+      ]
+
   -- ---- an object is placed
 
   module _ (place : ℕ) (within : place < length bs) (stays : is_chosen_place ps place ≡ false)
@@ -109,13 +120,8 @@ module _ {bs : List Bool} {fs : List ℕ} {ps : List Use} (are : AreFree bs fs p
                   ∙ free_then))
               | inr differs ↦
                   let apart = eqb-false other place differs in
-                  vacant-other bs place other false apart
-                  ∙ elim (cases_Bool (nat_lt other (length bs))) [
-                    | inl there ↦
-                        are.free other open_page
-                        (sym (free_other other (ltb-true other (length bs) there) apart) ∙ free_then)
-                    | inr past ↦ get_or_past bs other true (ltb-false other (length bs) past)
-                  ]
+                  free_elsewhere place other false apart open_page placed
+                  (λ there. free_other other there apart) free_then
             ]
 
         taken_before : (other : ℕ) → other < length bs → is_chosen_place ps other ≡ false
@@ -200,13 +206,8 @@ module _ {bs : List Bool} {fs : List ℕ} {ps : List Use} (are : AreFree bs fs p
               | inl same ↦ ap (is_vacant fewer) (eqb-true other place same) ∙ vacant-same bs place true there_own
               | inr differs ↦
                   let apart = eqb-false other place differs in
-                  vacant-other bs place other true apart
-                  ∙ elim (cases_Bool (nat_lt other (length bs))) [
-                    | inl there ↦
-                        are.free other open_page
-                        (sym (other_free other (ltb-true other (length bs) there) apart) ∙ free_then)
-                    | inr past ↦ get_or_past bs other true (ltb-false other (length bs) past)
-                  ]
+                  free_elsewhere place other true apart open_page after
+                  (λ there. other_free other there apart) free_then
             ]
 
         lies_still : (other : ℕ) → other < length bs → is_chosen_place ps other ≡ false

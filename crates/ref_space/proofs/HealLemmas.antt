@@ -30,8 +30,11 @@ use Rattle.ref_space.proofs.WordLemmas.{word_is_good}
 use Rattle.ref_space.proofs.TableLemmas.{has_word, word_place}
 use Rattle.std.proofs.lemmas.Bool.{and_parts}
 use Rattle.ref_space.specs.ColouredWords.{has_colour, is_word, word_of_place}
-use Rattle.ref_space.specs.Pages.{is_chosen_place}
-use Rattle.ref_space.proofs.WayLemmas.{there_way, gone_way, old_reached, reaches}
+use Rattle.ref_space.specs.Pages.{is_chosen_place, has_chosen, page_at}
+use Rattle.ref_space.specs.ColouredWords.{recoloured}
+use Rattle.std.proofs.lemmas.Bool.{leb-true}
+use Rattle.ref_space.proofs.MoveLemmas.{some_chosen}
+use Rattle.ref_space.proofs.WayLemmas.{there_way, gone_way, old_place, old_reached, reaches}
 use Rattle.ref_space.specs.Naming.{IsSettled, healed_word, word_there, taken_way, stays_at, leads_from, way_from}
 use Rattle.ref_space.specs.Naming.{way_of, IsHeldIn}
 use Rattle.ref_space.proofs.Common.{cases_Bool}
@@ -167,6 +170,72 @@ module _ (good : Colour) (ways : Ways) (os : List (Option ℕ)) (settled : IsSet
           reference = reference-healed good (is_healed n k) k.object.reference held.2.0 i;
         };
         healed_in = n;
+      }
+
+-- ---- where no page is chosen
+
+-- there each word leads to the cell that it names: healed it is the same word in the good colour
+module _ (good old : Colour) (ways : Ways) (os : List (Option ℕ)) (none : has_chosen ways.pages.uses ≡ false) where
+  pub none_is_chosen : (q : ℕ) → is_chosen_place ways.pages.uses q ≡ false
+  none_is_chosen q =
+      elim (cases_Bool (is_chosen_place ways.pages.uses q)) [
+        | inl chosen ↦
+            absurd (false≢true (sym none ∙ some_chosen ways.pages.uses (page_at ways.pages.uses q) chosen))
+        | inr stays ↦ stays
+      ]
+
+  named_there : (is_last : Bool) (q : ℕ) → leads_from ways os is_last (Some q) ≡ true
+      → taken_way ways os (Some q) ≡ Some q
+  named_there is_last q leads =
+      elim (cases_Bool (is_some (slice_index_or os q None))) [
+        | inl there ↦ simp there refl
+        | inr gone ↦
+            absurd (false≢true (sym (none_is_chosen q) ∙ old_place ways os is_last q leads gone))
+      ]
+
+  pub recoloured-healed : (b : Bool) (v : Option ℕ) → leads_by old ways os b v ≡ true
+      → recoloured good v ≡ healed_word good ways os v
+  recoloured-healed b None leads = refl
+  recoloured-healed b (Some w) leads =
+      let from = from_led old ways os b w leads in
+      elim (cases_Bool (nat_le 64 (w % 2 ^ 62))) [
+        | inl behind ↦
+            let q : ℕ = w % 2 ^ 62 - 64 in
+            let at : place_by (Some w) ≡ Some q = simp behind refl in
+            let rest : colour_number good * 2 ^ 62 + w % 2 ^ 62 ≡ coloured_word good (1 + q / 64) (q % 64) =
+            omega (arith, leb-true 64 (w % 2 ^ 62) behind) in
+            ap Some rest
+            ∙ sym (ap (word_there good) (ap (taken_way ways os) at
+            ∙ named_there (has_colour ways.last (Some w)) q
+            (ap (leads_from ways os (has_colour ways.last (Some w))) (sym at) ∙ from)))
+        | inr before ↦
+            let at : place_by (Some w) ≡ None = simp before refl in
+            absurd (false≢true (ap (leads_from ways os (has_colour ways.last (Some w))) (sym at) ∙ from))
+      ]
+
+  each-recoloured : (b : Bool) (vs : List (Option ℕ)) → Each (leads_by old ways os b) vs
+      → map (recoloured good) vs ≡ map (healed_word good ways os) vs
+  each-recoloured b [] each = refl
+  each-recoloured b (v ∷ vs) each =
+      ap (λ w. w ∷ map (recoloured good) vs) (recoloured-healed b v each.0)
+      ∙ ap (λ ws. healed_word good ways os v ∷ ws) (each-recoloured b vs each.1)
+
+  reference-recoloured : (b : Bool) (r : Option Reference) → leads_by old ways os b (referent_of r) ≡ true
+      → option_map (reference_by_number (recoloured good)) r
+      ≡ option_map (reference_by_number (healed_word good ways os)) r
+  reference-recoloured b None leads = refl
+  reference-recoloured b (Some r) leads =
+      ap (λ (n : Option ℕ). Some (record r { referent = n })) (recoloured-healed b r.referent leads)
+
+  pub object-recoloured : (n m : ℕ) (k : Tabled) → IsHeldIn n (leads_by old ways os) k
+      → healed_by (recoloured good) m k ≡ healed_by (healed_word good ways os) m k
+  object-recoloured n m k held =
+      λ i. record k {
+        object = record k.object {
+          fields = each-recoloured (is_healed n k) k.object.fields held.2.1 i;
+          reference = reference-recoloured (is_healed n k) k.object.reference held.2.0 i;
+        };
+        healed_in = m;
       }
 
 -- ---- the bits of what is held

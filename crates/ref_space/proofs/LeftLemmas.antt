@@ -5,7 +5,7 @@ use Rattle.std.proofs.Common.{List, [], ◌∷◌, ◌++◌, length, get_or, nat
 use Rattle.std.proofs.Common.{inr}
 use Rattle.std.proofs.lemmas.Bool.{cases_Bool, false≢true}
 use Rattle.std.specs.Option.{is_some, option_map}
-use Rattle.std.proofs.lemmas.Option.{none-some}
+use Rattle.std.proofs.lemmas.Option.{none-some, same_Some}
 use Rattle.ref_space.specs.Bits.{first_clear, count_clear}
 use Rattle.ref_space.specs.Pages.{Use, use_at, use_of, place_of, with_cell, AreFramed, chosen_frames}
 use Rattle.ref_space.specs.Pages.{taken_places, taken_in, taken_cells}
@@ -14,13 +14,6 @@ use Rattle.ref_space.proofs.RoomLemmas.{count_given_most}
 use Rattle.ref_space.proofs.PlaceUses.{place-with}
 use Rattle.ref_space.specs.PageViews.{NoneTaken}
 use Rattle.ref_space.specs.Worklists.{first_in}
-
-some_same : (a b : ℕ) → (let l : Option ℕ = Some a in l) ≡ Some b → a ≡ b
-some_same a b is = ap (λ (o : Option ℕ). or_else a o) is
-  where
-    or_else : ℕ → Option ℕ → ℕ
-    or_else a None = a
-    or_else a (Some b) = b
 
 -- ---- the taken cells of a page
 
@@ -35,12 +28,12 @@ record IsNext (at : Option ℕ) (r : ℕ) : Type 0 where
 
 one_later : (at : Option ℕ) (r : ℕ) → option_map suc at ≡ Some r → IsNext at r
 one_later None r is = absurd (none-some r is)
-one_later (Some q) r is = record { before = q; there = refl; is = some_same (suc q) r is }
+one_later (Some q) r is = record { before = q; there = refl; is = same_Some (suc q) r is }
 
 first_taken : (place : ℕ) (bs : List Bool) (r : ℕ) → first_clear bs ≡ Some r
     → (rest : List ℕ) → first_in (taken_places place bs ++ rest) ≡ Some (place + r)
 first_taken place [] r is rest = absurd (none-some r is)
-first_taken place (false ∷ bs) r is rest = ap Some (let same = some_same 0 r is in omega (arith, same))
+first_taken place (false ∷ bs) r is rest = ap Some (let same = same_Some 0 r is in omega (arith, same))
 first_taken place (true ∷ bs) r is rest =
     let next = one_later (first_clear bs) r is in
     first_taken (suc place) bs next.before next.there rest

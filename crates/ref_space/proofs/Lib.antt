@@ -41,6 +41,7 @@ pub mod MarkCounts
 pub mod NamingLemmas
 pub mod TableSlots
 pub mod HealLemmas
+pub mod HealCells
 pub mod TableMarks
 pub mod FieldLemmas
 mod WordExamples

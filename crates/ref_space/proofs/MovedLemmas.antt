@@ -9,7 +9,7 @@ use Rattle.ref_space.proofs.Common.{leads_by}
 use Rattle.ref_space.proofs.Common.{target_by, cases_Bool, eqb-true, eq-eqb, false≢true, if◌then◌else◌, EachHeld}
 use Rattle.ref_space.proofs.Common.{place_by, slice_index_or, suc}
 use Rattle.std.proofs.lemmas.Bool.{true≢false, eqb-false, ne_eqb, ltb-true}
-use Rattle.std.proofs.lemmas.Option.{none-some}
+use Rattle.std.proofs.lemmas.Option.{none-some, same_Some}
 use Rattle.std.proofs.lemmas.List.{set_comm, map-set, length-set, length-map, get_or-set_same, get_or-set_other}
 use Rattle.std.proofs.Math.ListN.{get_or-map}
 use Rattle.ref_space.specs.Places.{with_place_of, is_of}
@@ -35,13 +35,6 @@ use Rattle.ref_space.proofs.FreeLemmas.{vacant-cell, holds_nothing}
 use Rattle.ref_space.proofs.FreePlaces.{free_moved}
 use Rattle.ref_space.proofs.WayLemmas.{AreSame, target-same, leads-same, moved_kept, held_named, held_leads, IsKept}
 use Rattle.ref_space.proofs.NamingLemmas.{each_to, held_to, map_same, named_same}
-
-some_same : (a b : ℕ) → (let l : Option ℕ = Some a in l) ≡ Some b → a ≡ b
-some_same a b is = ap (λ (o : Option ℕ). or_else a o) is
-  where
-    or_else : ℕ → Option ℕ → ℕ
-    or_else a None = a
-    or_else a (Some b) = b
 
 -- ---- an entry names another place
 
@@ -143,7 +136,7 @@ module _ (cells now : List (Option Tabled)) (n from to : ℕ) (own : is_of (cell
       elim (cases_Bool (e.no == n)) [
         | inl own ↦
             let place : e.place ≡ from =
-            some_same e.place from (sym (ap (λ b. if b then Some e.place else place_in es n) own) ∙ listed) in
+            same_Some e.place from (sym (ap (λ b. if b then Some e.place else place_in es n) own) ∙ listed) in
             let number = eqb-true e.no n own in
             let none = place_in-none es n e.no (omega (arith, number)) rises.0 in
             ap (λ b. before (cell_at now (if b then to else e.place)) e.no (tabled_by now (with_place_of es n to))) own
@@ -185,7 +178,7 @@ module _ (cells now : List (Option Tabled)) (n from to : ℕ) (own : is_of (cell
       other q k place not_from =
           elim (cases_Bool (k.object.no == n)) [
             | inl is ↦
-                let same = some_same q from
+                let same = same_Some q from
                 (sym place ∙ ap (place_in es) (eqb-true k.object.no n is) ∙ its) in
                 absurd (true≢false (sym (eq-eqb q from same) ∙ not_from))
             | inr differs ↦ differs
@@ -403,65 +396,65 @@ module _ {round : Round} {cells : List (Option Tabled)} {es : List Entry} {ways 
 
 -- ---- the entry that a search finds
 
-none-with_place : (es : List Entry) (n to : ℕ) → place_in es n ≡ None → with_place_of es n to ≡ es
-none-with_place [] n to none = refl
-none-with_place (e ∷ es) n to none =
+none-with_place : (es : List Entry) (n q : ℕ) → place_in es n ≡ None → with_place_of es n q ≡ es
+none-with_place [] n q none = refl
+none-with_place (e ∷ es) n q none =
     elim (cases_Bool (e.no == n)) [
       | inl own ↦
           absurd (none-some e.place
           (sym (sym (ap (λ b. if b then Some e.place else place_in es n) own) ∙ none)))
       | inr other ↦
-          ap (λ b. record e { place = if b then to else e.place } ∷ with_place_of es n to) other
-          ∙ ap (λ fs. e ∷ fs) (none-with_place es n to
+          ap (λ b. record e { place = if b then q else e.place } ∷ with_place_of es n q) other
+          ∙ ap (λ fs. e ∷ fs) (none-with_place es n q
           (sym (ap (λ b. if b then Some e.place else place_in es n) other) ∙ none))
     ]
 
-pub found-with_place : (es : List Entry) (n to : ℕ) (e : Entry) → Rises es → count_below es n < length es
+pub found-with_place : (es : List Entry) (n q : ℕ) (e : Entry) → Rises es → count_below es n < length es
     → e ≡ get_or es (count_below es n) e → (e.no == n) ≡ true
-    → set es (count_below es n) (record { no = n; place = to }) ≡ with_place_of es n to
-found-with_place [] n to e rises h at own = absurd (omega arith)
-found-with_place (x ∷ xs) n to e rises h at own =
+    → set es (count_below es n) (record { no = n; place = q }) ≡ with_place_of es n q
+found-with_place [] n q e rises h at own = absurd (omega arith)
+found-with_place (x ∷ xs) n q e rises h at own =
     elim (cases_Bool (nat_lt x.no n)) [
       | inl below ↦
           let count : count_below (x ∷ xs) n ≡ suc (count_below xs n) = simp below refl in
           let other : (x.no == n) ≡ false =
           ne_eqb x.no n (λ same. let less = ltb-true x.no n below in omega (arith, less, same)) in
-          ap (λ i. set (x ∷ xs) i (record { no = n; place = to })) count
-          ∙ ap (λ b. record x { place = if b then to else x.place }
-          ∷ set xs (count_below xs n) (record { no = n; place = to })) (sym other)
-          ∙ ap (λ fs. record x { place = if x.no == n then to else x.place } ∷ fs)
-          (found-with_place xs n to e rises.1
+          ap (λ i. set (x ∷ xs) i (record { no = n; place = q })) count
+          ∙ ap (λ b. record x { place = if b then q else x.place }
+          ∷ set xs (count_below xs n) (record { no = n; place = q })) (sym other)
+          ∙ ap (λ fs. record x { place = if x.no == n then q else x.place } ∷ fs)
+          (found-with_place xs n q e rises.1
           (omega (arith, h, count)) (at ∙ ap (λ i. get_or (x ∷ xs) i e) count) own)
       | inr least ↦
           let count : count_below (x ∷ xs) n ≡ 0 = simp least refl in
           let same : e ≡ x = at ∙ ap (λ i. get_or (x ∷ xs) i e) count in
           let its : (x.no == n) ≡ true = ap (λ (d : Entry). d.no == n) (sym same) ∙ own in
           let number : x.no ≡ n = eqb-true x.no n its in
-          let rest = none-with_place xs n to (place_in-none xs n x.no (omega (arith, number)) rises.0) in
-          ap (λ i. set (x ∷ xs) i (record { no = n; place = to })) count
-          ∙ ap (λ m. record { no = m; place = to } ∷ xs) (sym number)
-          ∙ ap (λ b. record x { place = if b then to else x.place } ∷ xs) (sym its)
-          ∙ ap (λ fs. record x { place = if x.no == n then to else x.place } ∷ fs) (sym rest)
+          let rest = none-with_place xs n q (place_in-none xs n x.no (omega (arith, number)) rises.0) in
+          ap (λ i. set (x ∷ xs) i (record { no = n; place = q })) count
+          ∙ ap (λ m. record { no = m; place = q } ∷ xs) (sym number)
+          ∙ ap (λ b. record x { place = if b then q else x.place } ∷ xs) (sym its)
+          ∙ ap (λ fs. record x { place = if x.no == n then q else x.place } ∷ fs) (sym rest)
     ]
 
-pub other-with_place : (es : List Entry) (n to : ℕ) (e : Entry) → Rises es → count_below es n < length es
-    → e ≡ get_or es (count_below es n) e → (e.no == n) ≡ false → es ≡ with_place_of es n to
-other-with_place es n to e rises h at other =
-    sym (none-with_place es n to
+pub other-with_place : (es : List Entry) (n q : ℕ) (e : Entry) → Rises es → count_below es n < length es
+    → e ≡ get_or es (count_below es n) e → (e.no == n) ≡ false → es ≡ with_place_of es n q
+other-with_place es n q e rises h at other =
+    sym (none-with_place es n q
     (place_in-at es n e rises h at ∙ ap (λ b. if b then Some e.place else None) other))
 
-pub past-with_place : (es : List Entry) (n to : ℕ) → length es ≤ count_below es n → es ≡ with_place_of es n to
-past-with_place es n to past = sym (none-with_place es n to (place_in-past es n past))
+pub past-with_place : (es : List Entry) (n q : ℕ) → length es ≤ count_below es n → es ≡ with_place_of es n q
+past-with_place es n q past = sym (none-with_place es n q (place_in-past es n past))
 
-module _ (es : List Entry) (n to i : ℕ) (e : Entry) (rises : Rises es) (count : i ≡ count_below es n) where
+module _ (es : List Entry) (n q i : ℕ) (e : Entry) (rises : Rises es) (count : i ≡ count_below es n) where
   pub found-at : i < length es → e ≡ get_or es i e → ((get_or es i e).no == n) ≡ true
-      → set es i (record { no = n; place = to }) ≡ with_place_of es n to
+      → set es i (record { no = n; place = q }) ≡ with_place_of es n q
   found-at h at own =
-      ap (λ j. set es j (record { no = n; place = to })) count
-      ∙ found-with_place es n to e rises (omega (arith, h, count)) (at ∙ ap (λ j. get_or es j e) count)
+      ap (λ j. set es j (record { no = n; place = q })) count
+      ∙ found-with_place es n q e rises (omega (arith, h, count)) (at ∙ ap (λ j. get_or es j e) count)
       (ap (λ (d : Entry). d.no == n) at ∙ own)
 
-  pub other-at : i < length es → e ≡ get_or es i e → ((get_or es i e).no == n) ≡ false → es ≡ with_place_of es n to
+  pub other-at : i < length es → e ≡ get_or es i e → ((get_or es i e).no == n) ≡ false → es ≡ with_place_of es n q
   other-at h at other =
-      other-with_place es n to e rises (omega (arith, h, count)) (at ∙ ap (λ j. get_or es j e) count)
+      other-with_place es n q e rises (omega (arith, h, count)) (at ∙ ap (λ j. get_or es j e) count)
       (ap (λ (d : Entry). d.no == n) at ∙ other)

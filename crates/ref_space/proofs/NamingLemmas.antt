@@ -56,11 +56,6 @@ module _ (name : Option ℕ → Option ℕ) where
             (changed-named_at f h keeps ks n (λ l at. same l (simp other at))))
       ]
 
-  pub changed-named : (f h : Tabled → Tabled) → ((k : Tabled) → (f k).object.no ≡ k.object.no)
-      → ((k : Tabled) → by_number name (f k) ≡ h (by_number name k)) → (ks : List Tabled) (n : ℕ)
-      → map (by_number name) (changed_tabled ks n f) ≡ changed_tabled (map (by_number name) ks) n h
-  changed-named f h keeps same ks n = changed-named_at f h keeps ks n (λ k at. same k)
-
   pub without-named : (ks : List Tabled) (n : ℕ)
       → map (by_number name) (without_tabled ks n) ≡ without_tabled (map (by_number name) ks) n
   without-named [] n = refl
@@ -174,10 +169,6 @@ module _ (good : Colour) (ways : Ways) (os : List (Option ℕ)) where
       → leads_by good ways os true v ≡ true
   coloured_leads None leads colour = refl
   coloured_leads (Some w) leads colour = grind arith
-
-  pub null_leads : (v : Option ℕ) → OnTrue (is_none v) (leads_by good ways os true v ≡ true)
-  null_leads None = refl
-  null_leads (Some w) = tt
 
   -- a word of the good colour of a place at which an object lies that needn't move
   pub good_word : (p : ℕ) (v : Option ℕ) → place_by v ≡ Some p → stays_at ways os p ≡ true → IsGood good v

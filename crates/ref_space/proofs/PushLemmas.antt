@@ -160,9 +160,6 @@ abbrev number_or_0 : Option Tabled → ℕ
 number_or_0 None = 0
 number_or_0 (Some k) = k.object.no
 
-abbrev occupant_at_place : ℕ → List (Option ℕ) → Option ℕ
-occupant_at_place p os = occupant_at os (Some p)
-
 -- ---- a new object
 
 -- a new cell's object, by number

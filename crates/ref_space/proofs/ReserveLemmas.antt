@@ -127,10 +127,6 @@ module _ (start now : Pages × List ℕ) (frame c : ℕ) (chosen : (use_of start
   kept : KeepsChosen start.0.uses now.0.uses
   kept = kept_by start now (taken_places (64 * frame) (take c free)) so_far
 
-  pub read_still : (is_free : Bool) → is_free ≡ is_free_at now.0.uses (place_of now.0.uses frame) c
-      → get_or free c false ≡ is_free
-  read_still is_free read = ap (λ (p : Use). get_or p.free c false) (sym (kept.same frame chosen)) ∙ sym read
-
   pub passed_over : get_or free c false ≡ true
       → now ≡ reserving start (taken_places (64 * frame) (take (c + 1) free))
   passed_over is_free =

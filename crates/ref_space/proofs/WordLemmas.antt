@@ -46,10 +46,6 @@ word_is_good colour page cell at = record {
       ∙ eq-eqb (colour_number colour) (colour_number colour) refl;
 }
 
-both : (a b : Bool) → a ≡ true → b ≡ true → (a && b) ≡ true
-both true b a_is b_is = b_is
-both false b a_is b_is = a_is
-
 some_parts : (word : ℕ) (parts : Option (Colour × ℕ × ℕ)) → parts_of word ≡ parts → is_some parts ≡ true
     → (own : Colour × ℕ × ℕ) × (parts_of word ≡ Some own)
 some_parts word None is some = absurd (false≢true some)

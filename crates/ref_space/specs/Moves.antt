@@ -6,8 +6,9 @@ use Rattle.ref_space.specs.declared.colour.Colour.TheVariants.{A}
 use Rattle.ref_space.specs.Pages.{Pages, Use, new_pages, AreWhole, AreFramed, is_chosen_place, is_free_place}
 use Rattle.ref_space.specs.Pages.{reserving, with_chosen, choosing, left_in, with_given, renumbered}
 
--- How words lead to places: the pages; of each place, where what lay there as pages were chosen moves; the colour of the
--- words from before that; and whether none was chosen since a round last began, so that what slots hold has its colour
+-- How words lead to places: the pages; of each place, where what lay there as pages were chosen moves; the colour of
+-- the words from before that; and whether none was chosen since a round last began, so that what slots hold has its
+-- colour
 pub record Ways : Type 0 where
   pub pages : Pages
   pub forwards : List ℕ
@@ -40,9 +41,9 @@ pub record IsTarget (bs : List Bool) (ps : List Use) (place : ℕ) : Type 0 wher
   pub kept : is_free_place ps place ≡ false
   pub vacant : is_vacant bs place ≡ true
 
--- Each page has 64 cells, of its own frame. Of an open page those are free in which nothing lies, and which are reserved
--- for nothing, and of a chosen one those in which nothing lies any more. What is still to move has a place, and no two
--- have the same.
+-- Each page has 64 cells, of its own frame. Of an open page those are free in which nothing lies, and which are
+-- reserved for nothing, and of a chosen one those in which nothing lies any more. What is still to move has a place,
+-- and no two have the same.
 pub record AreFree (bs : List Bool) (fs : List ℕ) (ps : List Use) : Type 0 where
   pub whole : AreWhole ps
   pub framed : AreFramed ps

@@ -56,8 +56,8 @@ moves_from ways os place =
     is_chosen_place ways.pages.uses place
     && (is_some (slice_index_or os place None) || stays_at ways os (forward_of ways.forwards place))
 
--- a word of a place leads to an object: one that has another colour than those from before pages were chosen leads to it
--- where it lies
+-- a word of a place leads to an object: one that has another colour than those from before pages were chosen leads to
+-- it where it lies
 abbrev pub leads_from : Ways → List (Option ℕ) → Bool → Option ℕ → Bool
 leads_from ways os is_last None = false
 leads_from ways os is_last (Some place) = stays_at ways os place || (is_last && moves_from ways os place)
@@ -102,8 +102,8 @@ HasTarget t value = leads_by t.round.good t.ways t.occupants false value ≡ tru
 abbrev pub IsHealed : Table → Option ℕ → Type 0
 IsHealed t value = leads_by t.round.good t.ways t.occupants true value ≡ true
 
--- these are the bits of a word of an object, of the cell in which it lies or of that from which it moved, 64 to the frame
--- of each page: with the address of that page, and of the good colour where it has to be
+-- these are the bits of a word of an object, of the cell in which it lies or of that from which it moved, 64 to the
+-- frame of each page: with the address of that page, and of the good colour where it has to be
 pub record IsWordOfObject (good : Colour) (ways : Ways) (os : List (Option ℕ)) (has_to : Bool) (n bits : ℕ)
     : Type 0 where
   pub colour : Colour
@@ -140,10 +140,10 @@ reference_by_number name r = record r { referent = name r.referent }
 abbrev pub with_referent : Option ℕ → Reference → Reference
 with_referent value r = record r { referent = value }
 
--- the object with these words in place of its own, healed in this round
-abbrev pub with_words : List (Option ℕ) → Option ℕ → ℕ → Tabled → Tabled
-with_words fields referent round k = record k {
-  object = record k.object { fields = fields; reference = option_map (with_referent referent) k.object.reference };
+-- the object with this referent, where it is a reference, healed in this round
+abbrev pub with_referent_healed : Option ℕ → ℕ → Tabled → Tabled
+with_referent_healed referent round k = record k {
+  object = record k.object { reference = option_map (with_referent referent) k.object.reference };
   healed_in = round;
 }
 

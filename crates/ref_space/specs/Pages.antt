@@ -203,8 +203,8 @@ taken_in ps (f ∷ fs) = taken_places (64 * f) (use_of ps f).free ++ taken_in ps
 abbrev pub left_in : List Use → List ℕ
 left_in ps = taken_in ps (chosen_frames ps)
 
--- what lies at a place is to move to the next free cell, if there is one: of pages, and of a list that has of each place
--- where what lay there moves
+-- what lies at a place is to move to the next free cell, if there is one: of pages, and of a list that has of each
+-- place where what lay there moves
 abbrev pub reserved_to : Option (ℕ × ℕ) → ℕ → Pages × List ℕ → Pages × List ℕ
 reserved_to None from state = state
 reserved_to (Some at) from state = (with_placed state.0, slice_set state.1 from (place_in_frame at))

@@ -8,10 +8,12 @@ use Rattle.ref_base.specs.Graphs.{Reference}
 use Rattle.ref_space.specs.Pages.{taken_of, opened, AreBetween, Packed, is_chosen_place}
 use Rattle.ref_space.specs.Moves.{Ways, AreFree, NoneLeaves, forward_of}
 use Rattle.std.specs.Option.{option_map, is_none, is_some}
+use Rattle.ref_space.specs.declared.colour.Colour.{Colour}
 use Rattle.ref_space.specs.ColouredWords.{place_by}
 use Rattle.ref_space.specs.Tables.{Tabled, Table, is_marked, marked_of, with_nothing_done, blanked_unless_marked}
+use Rattle.ref_space.specs.Tables.{on_object}
 use Rattle.ref_space.specs.declared.round.Round.{Round}
-use Rattle.ref_space.specs.Naming.{occupants_of, target_by, leads_by, by_number, Each, EachHeld}
+use Rattle.ref_space.specs.Naming.{occupants_of, target_by, leads_by, by_number, word_there, Each, EachHeld}
 use Rattle.ref_space.specs.declared.index.Entry.{Entry}
 
 -- what a cell holds: an object, or nothing where it has no number
@@ -100,6 +102,16 @@ place_if_taken cells (Some place) = if is_some (cell_at cells place) then Some p
 -- the place of the cell of a word, if an object lies there
 abbrev pub place_of_word : List (Option Tabled) → List ℕ → Option ℕ → Option ℕ
 place_of_word cells forwards value = place_if_taken cells (moved_place cells forwards (place_by value))
+
+-- an object with its fields so
+abbrev pub with_fields_by : (Option ℕ → Option ℕ) → Tabled → Tabled
+with_fields_by f k = on_object (λ o. record o { fields = map f o.fields }) k
+
+-- the fields of the object at a place are healed
+abbrev pub with_fields_healed : Colour → List ℕ → List (Option Tabled) → ℕ → List (Option Tabled)
+with_fields_healed colour forwards cells place =
+    slice_set cells place (option_map
+    (with_fields_by (λ v. word_there colour (place_of_word cells forwards v))) (cell_at cells place))
 
 -- the entry of number n names another place
 abbrev pub with_place_of : List Entry → ℕ → ℕ → List Entry

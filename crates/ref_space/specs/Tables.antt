@@ -51,8 +51,8 @@ pub record Table : Type 0 where
   pub occupants : List (Option ℕ)
   pub round : Round
 
--- a table of no objects, with so many slots, each empty, in pages of 64 cells from this address on: twice as many as the
--- objects fill, so that there is room for what moves
+-- a table of no objects, with so many slots, each empty, in pages of 64 cells from this address on: twice as many as
+-- the objects fill, so that there is room for what moves
 abbrev pub empty_table : ℕ → ℕ → ℕ → Table
 empty_table room slots first = record {
   tabled = [];

@@ -4,17 +4,19 @@ ghost use Rattle.std.specs.Prelude.{◌≡◌, ◌-◌, ◌^◌, ◌<◌, ◌≤
 ghost use Rattle.std.specs.Option.{option_map};
 ghost use Rattle.ref_base.specs.Heaps.{with_field, with_reference, with_stamp, cleared};
 ghost use Rattle.ref_space.specs.Places.{is_of, is_held_as, is_unmarked_as, begun_cell, condemned_cell};
-ghost use Rattle.ref_space.specs.Naming.{with_referent, with_words};
+ghost use Rattle.ref_space.specs.ColouredWords.{recoloured};
+ghost use Rattle.ref_space.specs.Naming.{by_number, with_referent, with_referent_healed};
 ghost use Rattle.ref_space.specs.Tables.{made_entry, tabled_fields, has_field, holds_in};
 ghost use Rattle.ref_space.specs.Tables.{on_object, may_hold, more_held_if, less_held};
 ghost use Rattle.ref_space.specs.Tables.{is_marked_in, is_unmarked_in, with_marked};
 ghost use Rattle.ref_base.specs.CollectorRows.{referent_of};
 ghost use Rattle.ref_space.specs.Tables.{tabled_reference, tabled_link, tabled_cleared_in, change_of};
 ghost use Rattle.ref_space.specs.Naming.{occupant_in};
-ghost use Rattle.ref_space.specs.Tables.{field_in_cell, field_held, anew_in};
+ghost use Rattle.ref_space.specs.Tables.{field_in_cell, field_held, anew_in, with_healed};
 
 use crate::field_words::Words;
 use crate::kept::Kept;
+use crate::round::Round;
 use crate::word::Word;
 use ref_base::ObjNo;
 use std::marker::Model;
@@ -65,6 +67,7 @@ impl Model for Cell {
 
 impl Cell {
     /// A cell that has no object.
+    #[inline(always)]
     pub(crate) fn vacant() -> Self
         ensures { result ≡ None }
     {
@@ -105,6 +108,7 @@ impl Cell {
     }
 
     /// Whether this is the cell of the object of this number.
+    #[inline(always)]
     pub(crate) fn is_of(&self, no: ObjNo) -> bool
         ensures { result ≡ is_of self.now no }
     {
@@ -125,6 +129,7 @@ impl Cell {
     }
 
     /// The fields of the object: none where the cell is free.
+    #[inline(always)]
     pub(crate) fn fields(&self) -> Words
         ensures { result ≡ tabled_fields self.now }
     {
@@ -157,6 +162,7 @@ impl Cell {
     }
 
     /// Whether the object is held.
+    #[inline(always)]
     pub(crate) fn is_held(&self) -> bool
         ensures { result ≡ nat_lt 0 (holds_in self.now) }
     {
@@ -167,6 +173,7 @@ impl Cell {
     }
 
     /// Writes a field of the object. False where there is no such field: then nothing changes.
+    #[inline(always)]
     pub(crate) fn set_field(&mut self, field: usize, value: Word) -> bool
         ensures there { result ≡ has_field self.old field }
         ensures after { self.new ≡ option_map (on_object (with_field field value)) self.old }
@@ -181,11 +188,8 @@ impl Cell {
     fn cut(&mut self)
         ensures { self.new ≡ option_map (on_object (with_reference cleared)) self.old }
     {
-        if let Some(reference) = self.reference {
-            self.reference = Some(Kept {
-                referent: Word::null(),
-                ..reference
-            });
+        if let Some(reference) = &mut self.reference {
+            reference.referent = Word::null();
         }
     }
 
@@ -193,8 +197,8 @@ impl Cell {
     fn set_stamp(&mut self, stamp: u64)
         ensures { self.new ≡ option_map (on_object (with_reference (with_stamp stamp))) self.old }
     {
-        if let Some(reference) = self.reference {
-            self.reference = Some(Kept { stamp, ..reference });
+        if let Some(reference) = &mut self.reference {
+            reference.stamp = stamp;
         }
     }
 
@@ -242,6 +246,7 @@ impl Cell {
     }
 
     /// The number of the object, if there is one.
+    #[inline(always)]
     pub(crate) fn number(&self) -> Option<ObjNo>
         ensures { result ≡ occupant_in self.now }
     {
@@ -249,6 +254,7 @@ impl Cell {
     }
 
     /// What a field of the object holds: none where there is no such field.
+    #[inline(always)]
     pub(crate) fn field(&self, field: usize) -> Option<Word>
         ensures { result ≡ field_in_cell self.now field }
     {
@@ -311,6 +317,7 @@ impl Cell {
     }
 
     /// Whether there is an object, and it is marked.
+    #[inline(always)]
     pub(crate) fn is_marked(&self, round: u64) -> bool
         ensures { result ≡ is_marked_in round self.now }
     {
@@ -321,6 +328,7 @@ impl Cell {
     }
 
     /// Whether there is an object, and it isn't marked.
+    #[inline(always)]
     pub(crate) fn is_unmarked(&self, round: u64) -> bool
         ensures { result ≡ is_unmarked_in round self.now }
     {
@@ -366,25 +374,35 @@ impl Cell {
         is_condemned
     }
 
-    /// The object has these words in the place of its own: it is healed in this round.
+    /// Each word of the object gets the good colour: it is healed in this round.
     #[inline(always)]
-    pub(crate) fn put_healed(&mut self, fields: Words, referent: Word, round: u64)
-        ensures { self.new ≡ option_map (with_words fields referent round) self.old }
+    pub(crate) fn recolour(&mut self, round: Round)
+        ensures { self.new ≡
+            option_map (λ k. with_healed round.number (by_number (recoloured round.good) k)) self.old }
     {
-        self.fields = fields;
+        self.fields.recolour(round.good);
+        if let Some(reference) = &mut self.reference {
+            reference.referent = reference.referent.in_colour(round.good);
+        }
+        self.healed_in = round.number;
+    }
+
+    /// The object has this referent, where it is a reference: it is healed in this round.
+    #[inline(always)]
+    pub(crate) fn put_healed(&mut self, referent: Word, round: u64)
+        ensures { self.new ≡ option_map (with_referent_healed referent round) self.old }
+    {
         self.set_referent(referent);
         self.healed_in = round;
     }
 
     /// Writes the referent of the object, where it is a reference.
+    #[inline(always)]
     pub(crate) fn set_referent(&mut self, referent: Word)
         ensures { self.new ≡ option_map (on_object (with_reference (with_referent referent))) self.old }
     {
-        if let Some(reference) = self.reference {
-            self.reference = Some(Kept {
-                referent,
-                ..reference
-            });
+        if let Some(reference) = &mut self.reference {
+            reference.referent = referent;
         }
     }
 

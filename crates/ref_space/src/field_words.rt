@@ -1,7 +1,9 @@
 //! An object's fields, as its cell has them.
 
-ghost use Rattle.std.specs.Prelude.{◌≡◌, ◌≤◌, nat_lt, length, replicate, None, slice_index_or, slice_set};
+ghost use Rattle.std.specs.Prelude.{◌≡◌, ◌≤◌, nat_lt, length, map, replicate, None, slice_index_or, slice_set};
+ghost use Rattle.ref_space.specs.ColouredWords.{recoloured};
 
+use crate::colour::Colour;
 use crate::word::Word;
 use ref_base::MOST_FIELDS;
 use std::marker::Model;
@@ -25,6 +27,7 @@ impl Model for Words {
 
 impl Words {
     /// So many fields, each null.
+    #[inline(always)]
     pub(crate) fn nulls(count: usize) -> Self
         requires { count ≤ 8 }
         ensures { result ≡ replicate count None }
@@ -36,6 +39,7 @@ impl Words {
     }
 
     /// The same fields.
+    #[inline(always)]
     pub(crate) fn copied(&self) -> Self
         ensures { result ≡ self.now }
     {
@@ -48,6 +52,7 @@ impl Words {
     }
 
     /// How many fields there are, at most 8.
+    #[inline(always)]
     pub(crate) fn len(&self) -> usize
         ensures count { result ≡ length self.now }
         ensures few { result ≤ 8 }
@@ -56,6 +61,7 @@ impl Words {
     }
 
     /// What a field holds: null also where there is no such field.
+    #[inline(always)]
     pub(crate) fn get(&self, field: usize) -> Word
         ensures { result ≡ slice_index_or self.now field None }
     {
@@ -67,7 +73,18 @@ impl Words {
         }
     }
 
+    /// Each field gets this colour.
+    #[inline(always)]
+    pub(crate) fn recolour(&mut self, colour: Colour)
+        ensures { self.new ≡ map (recoloured colour) self.old }
+    {
+        for field in 0..self.len() {
+            self.held[field] = self.held[field].in_colour(colour);
+        }
+    }
+
     /// Writes a field. False where there is no such field: then nothing changes.
+    #[inline(always)]
     pub(crate) fn set(&mut self, field: usize, value: Word) -> bool
         ensures there { result ≡ nat_lt field (length self.old) }
         ensures after { self.new ≡ slice_set self.old field value }

@@ -34,6 +34,7 @@ impl Entry {
 }
 
 // Whether the entry's object is still there.
+#[inline(always)]
 fn is_live(cells: &[Cell], entry: Entry) -> bool
     ensures { result ≡ is_live cells.now entry }
 {
@@ -55,6 +56,7 @@ fn is_held(cells: &[Cell], entry: Entry) -> bool
 
 // Where the entry of this number stands if each number from it on has one. So it is of every
 // object that was made since gaps were closed last, and where no gap behind it was closed.
+#[inline(always)]
 fn likely_place(index: &[Entry], no: ObjNo) -> usize {
     match index.last() {
         Some(last) => {
@@ -99,11 +101,21 @@ pub(crate) fn place_near(cells: &[Cell], index: &[Entry], no: ObjNo, place: usiz
 {
     match cells.get(place) {
         Some(cell) if cell.is_of(no) => Some(place),
-        _ => place_of(cells, index, no),
+        _ => place_searched(cells, index, no),
     }
 }
 
+// The same by a search. It is never compiled into its caller, whose code for what lies where it lay stays short so.
+#[inline(never)]
+fn place_searched(cells: &[Cell], index: &[Entry], no: ObjNo) -> Option<usize>
+    requires { Rises index.now }
+    ensures { result ≡ place_if_live cells.now (place_in index.now no) no }
+{
+    place_of(cells, index, no)
+}
+
 /// The object of this number lies at this place now, if there is one. In time as for `count_below`.
+#[inline(always)]
 pub(crate) fn set_place(index: &mut [Entry], no: ObjNo, place: u32)
     requires { Rises index.old }
     ensures { index.new ≡ with_place_of index.old no place }

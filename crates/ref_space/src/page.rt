@@ -1,7 +1,7 @@
 //! A page of 64 cells.
 
 ghost use Rattle.std.specs.Prelude.{◌≡◌, ◌<◌, Some, true, false, slice_index_or};
-ghost use Rattle.ref_space.specs.Bits.{first_set, first_clear, any_set};
+ghost use Rattle.ref_space.specs.Bits.{bits_of, first_set, first_clear, any_set};
 ghost use Rattle.ref_space.specs.Pages.{fresh_page, with_free, taken_cells, has_open_cell, is_sparse};
 ghost use Rattle.ref_space.specs.Pages.{chosen_if_sparse};
 
@@ -47,6 +47,7 @@ impl Page {
     }
 
     /// Its address.
+    #[inline(always)]
     pub(crate) fn address(&self) -> u32
         ensures { result ≡ self.now.address }
     {
@@ -54,6 +55,7 @@ impl Page {
     }
 
     /// Its frame.
+    #[inline(always)]
     pub(crate) fn frame(&self) -> u32
         ensures { result ≡ self.now.frame }
     {
@@ -61,6 +63,7 @@ impl Page {
     }
 
     /// Whether its objects are to move.
+    #[inline(always)]
     pub(crate) fn is_chosen(&self) -> bool
         ensures { result ≡ self.now.chosen }
     {
@@ -80,6 +83,7 @@ impl Page {
     }
 
     /// Whether it is open and has a free cell.
+    #[inline(always)]
     pub(crate) fn has_room(&self) -> bool
         ensures { result ≡ has_open_cell self.now }
     {
@@ -95,6 +99,7 @@ impl Page {
     }
 
     /// Its lowest free cell.
+    #[inline(always)]
     pub(crate) fn lowest_free(&self) -> u32
         requires { any_set self.now.free ≡ true }
         ensures first { first_set self.now.free ≡ Some result }
@@ -104,6 +109,7 @@ impl Page {
     }
 
     /// Its lowest taken cell.
+    #[inline(always)]
     pub(crate) fn lowest_taken(&self) -> u32
         requires { 0 < taken_cells self.now }
         ensures first { first_clear self.now.free ≡ Some result }
@@ -113,14 +119,24 @@ impl Page {
     }
 
     /// Whether a cell is free.
+    #[inline(always)]
     pub(crate) fn is_free(&self, cell: u32) -> bool
         requires { cell < 64 }
         ensures { result ≡ slice_index_or self.now.free cell false }
     {
-        self.free >> cell & 1 == 1
+        is_set(self.free, cell)
+    }
+
+    /// Which of its cells are free: bit n is set where cell n is.
+    #[inline(always)]
+    pub(crate) fn free_cells(&self) -> u64
+        ensures { bits_of result ≡ self.now.free }
+    {
+        self.free
     }
 
     /// How many of its cells are taken.
+    #[inline(always)]
     pub(crate) fn taken(&self) -> u32
         ensures { result ≡ taken_cells self.now }
     {
@@ -128,6 +144,7 @@ impl Page {
     }
 
     /// Takes a cell.
+    #[inline(always)]
     pub(crate) fn take(&mut self, cell: u32)
         requires { cell < 64 }
         ensures { self.new ≡ with_free cell false self.old }
@@ -136,10 +153,20 @@ impl Page {
     }
 
     /// Gives a cell back.
+    #[inline(always)]
     pub(crate) fn give(&mut self, cell: u32)
         requires { cell < 64 }
         ensures { self.new ≡ with_free cell true self.old }
     {
         self.free |= 1u64 << cell;
     }
+}
+
+/// Whether a bit is set.
+#[inline(always)]
+pub(crate) fn is_set(bits: u64, place: u32) -> bool
+    requires { place < 64 }
+    ensures { result ≡ slice_index_or (bits_of bits) place false }
+{
+    bits >> place & 1 == 1
 }

@@ -4,6 +4,7 @@ ghost use Rattle.std.specs.Prelude.{◌≡◌, ◌+◌, ◌*◌, ◌^◌, ◌<�
 ghost use Rattle.std.specs.Prelude.{is_some, IfOk};
 ghost use Rattle.std.specs.Vec.{vec_capacity};
 ghost use Rattle.std.specs.Option.{IfSome};
+ghost use Rattle.ref_space.specs.Bits.{bits_of};
 ghost use Rattle.ref_space.specs.Pages.{fresh_pages, new_pages, NoneHasRoom, use_at, place_of, has_open_cell};
 ghost use Rattle.ref_space.specs.Pages.{sparse_count, sparse_cells, choosing, chosen_frames, empty_pages, AreFramed};
 ghost use Rattle.ref_space.specs.Pages.{opened};
@@ -11,7 +12,7 @@ ghost use Rattle.ref_space.specs.Pages.{left_in, taken_places, taken_cells, use_
 ghost use Rattle.ref_space.specs.PageViews.{AreMapped, NoneTaken};
 ghost use Rattle.ref_space.specs.Worklists.{first_in};
 
-use crate::page::Page;
+use crate::page::{Page, is_set};
 use ref_base::Fault;
 use std::alloc::{AllocError, Allocator, Global};
 use std::marker::Model;
@@ -84,6 +85,7 @@ impl<A: Allocator> Pages<A> {
     }
 
     // Where the page of this frame stands in the order.
+    #[inline(always)]
     fn place_of(&self, frame: usize) -> usize
         requires { frame < length self.now.uses }
         ensures place { result ≡ place_of self.now.uses frame }
@@ -93,6 +95,7 @@ impl<A: Allocator> Pages<A> {
     }
 
     /// The address of the page of this frame. Takes no memory, in constant time.
+    #[inline(always)]
     pub fn address(&self, frame: usize) -> u32
         requires { frame < length self.now.uses }
         ensures { result ≡ (use_of self.now.uses frame).address }
@@ -103,6 +106,7 @@ impl<A: Allocator> Pages<A> {
     /// Takes the lowest free cell of the first open page that has one: that page's frame, and the cell. None where no
     /// open page has a free cell: then nothing changes. Takes no memory. In constant time, but for the pages without
     /// room that it passes over: each once, and again once a cell in front of it was given back or addresses changed.
+    #[inline(always)]
     pub fn place(&mut self) -> Option<(usize, u32)>
         ensures answer { result ≡ next_cell self.old.uses }
         ensures within { IfSome result (λ at. place_in_frame at < 64 * length self.old.uses) }
@@ -120,6 +124,7 @@ impl<A: Allocator> Pages<A> {
     }
 
     /// Gives a cell of this frame back: it is free then. Takes no memory, in constant time.
+    #[inline(always)]
     pub fn give(&mut self, frame: usize, cell: u32)
         requires frame { frame < length self.old.uses }
         requires cell { cell < 64 }
@@ -131,6 +136,7 @@ impl<A: Allocator> Pages<A> {
     }
 
     /// Whether a cell of this frame is free. Takes no memory, in constant time.
+    #[inline(always)]
     pub fn is_free(&self, frame: usize, cell: u32) -> bool
         requires frame { frame < length self.now.uses }
         requires cell { cell < 64 }
@@ -140,6 +146,7 @@ impl<A: Allocator> Pages<A> {
     }
 
     /// How many cells of this frame are taken, 0 to 64. Takes no memory, in constant time.
+    #[inline(always)]
     pub fn taken(&self, frame: usize) -> u32
         requires { frame < length self.now.uses }
         ensures { result ≡ taken_cells (use_of self.now.uses frame) }
@@ -148,6 +155,7 @@ impl<A: Allocator> Pages<A> {
     }
 
     /// Whether the page of this frame is chosen. Takes no memory, in constant time.
+    #[inline(always)]
     pub fn is_chosen(&self, frame: usize) -> bool
         requires { frame < length self.now.uses }
         ensures { result ≡ (use_of self.now.uses frame).chosen }
@@ -156,6 +164,7 @@ impl<A: Allocator> Pages<A> {
     }
 
     /// Whether pages are chosen. Takes no memory, in constant time.
+    #[inline(always)]
     pub fn has_chosen(&self) -> bool
         ensures { result ≡ has_chosen self.now.uses }
     {
@@ -185,8 +194,9 @@ impl<A: Allocator> Pages<A> {
     }
 
     /// The first taken cell of the chosen pages, by place: cell c of frame f is place 64 * f + c. None where nothing is
-    /// left there. Takes no memory. In constant time, but for the chosen pages without a taken cell that it passes over,
-    /// each once.
+    /// left there. Takes no memory. In constant time, but for the chosen pages without a taken cell that it passes
+    /// over, each once.
+    #[inline(always)]
     pub fn first_left(&mut self) -> Option<usize>
         ensures answer { result ≡ first_in (left_in self.old.uses) }
         ensures after { self.new ≡ self.old }
@@ -203,6 +213,7 @@ impl<A: Allocator> Pages<A> {
 
     /// Whether something is left there. Takes no memory, in time as for `first_left`, but that the pages it passes over
     /// are passed over again by the next call.
+    #[inline(always)]
     pub fn has_left(&self) -> bool
         ensures { result ≡ is_some (first_in (left_in self.now.uses)) }
     {
@@ -210,6 +221,7 @@ impl<A: Allocator> Pages<A> {
     }
 
     // Where the first chosen page that has a taken cell stands in their list, or how many they are.
+    #[inline(always)]
     fn first_with_left(&self) -> usize
         ensures within { result ≤ length (chosen_frames self.now.uses) }
         ensures none { NoneTaken self.now.uses (chosen_frames self.now.uses) result }
@@ -225,6 +237,7 @@ impl<A: Allocator> Pages<A> {
     }
 
     // How many pages are chosen.
+    #[inline(always)]
     fn chosen_count(&self) -> usize
         ensures { result ≡ length (chosen_frames self.now.uses) }
     {
@@ -232,6 +245,7 @@ impl<A: Allocator> Pages<A> {
     }
 
     // The frame of the chosen page at this place in their list.
+    #[inline(always)]
     fn chosen_frame(&self, at: usize) -> usize
         requires { at < length (chosen_frames self.now.uses) }
         ensures frame { result ≡ slice_index_or (chosen_frames self.now.uses) at 0 }
@@ -257,6 +271,7 @@ impl<A: Allocator> Pages<A> {
     }
 
     // The same for each taken cell of this frame, whose page is chosen.
+    #[inline(always)]
     fn reserve_frame(&mut self, frame: usize, forwards: &mut [u32])
         requires frame { frame < length self.old.uses }
         requires chosen { (use_of self.old.uses frame).chosen ≡ true }
@@ -266,14 +281,26 @@ impl<A: Allocator> Pages<A> {
         ensures { (self.new, forwards.new) ≡ reserving (self.old, forwards.old)
             (taken_places (64 * frame) (use_of self.old.uses frame).free) }
     {
+        // Nothing is placed in a chosen page, so these stay the free ones.
+        let free = self.free_cells(frame);
         for cell in 0..64 {
-            if !self.is_free(frame, cell) {
+            if !is_set(free, cell) {
                 self.reserve_place(64 * frame + cell as usize, forwards);
             }
         }
     }
 
+    // Which cells of this frame are free: bit n is set where cell n is.
+    #[inline(always)]
+    fn free_cells(&self, frame: usize) -> u64
+        requires { frame < length self.now.uses }
+        ensures { bits_of result ≡ (use_of self.now.uses frame).free }
+    {
+        self.pages[self.place_of(frame)].free_cells()
+    }
+
     // The same for what lies at this place.
+    #[inline(always)]
     fn reserve_place(&mut self, from: usize, forwards: &mut [u32])
         requires from { from < length forwards.old }
         requires each { length forwards.old ≡ 64 * length self.old.uses }

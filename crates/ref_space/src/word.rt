@@ -8,8 +8,8 @@ use crate::colour::Colour;
 use crate::words::{has_colour, word_of};
 use std::marker::Model;
 
-/// What a slot or a field holds: null, or the coloured word of a cell. It has the cell's frame, counted from 1 on, where
-/// the format has the address of the frame's page. In a clause it is that word, if there is one.
+/// What a slot or a field holds: null, or the coloured word of a cell. It has the cell's frame, counted from 1 on,
+/// where the format has the address of the frame's page. In a clause it is that word, if there is one.
 #[derive(Clone, Copy)]
 pub struct Word {
     // 0 is null.
@@ -31,6 +31,7 @@ impl Model for Word {
 
 impl Word {
     /// Null. Takes no memory, in constant time, as all that words do.
+    #[inline(always)]
     pub fn null() -> Self
         ensures { result ≡ None }
     {

@@ -81,7 +81,9 @@ impl<A: Allocator> Worklist<A> {
         }
     }
 
-    // The same where the end is reached: what was taken out makes room.
+    // The same where the end is reached: what was taken out makes room. It is never compiled into its caller, since the
+    // end is seldom reached.
+    #[inline(never)]
     fn push_closed_up(&mut self, entry: Entry)
         requires { length self.old.stands < self.old.room }
         ensures { self.new ≡ with_last self.old entry.no }

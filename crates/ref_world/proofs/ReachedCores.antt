@@ -1,15 +1,17 @@
--- What holds of every world to which a legal trace leads.
+-- What holds of every world to which a run from a new one leads.
 use Rattle.ref_world.proofs.Common.{◌≡◌, ◌<◌, true, List, [], ◌∷◌, ◌++◌, length, ap, sym, subst, ◌∙◌, slice_index_or}
-use Rattle.ref_world.proofs.Common.{has, Lists, Notice, hand_of, is_actor, State, first_state, Actor, Mutator, Worker}
+use Rattle.ref_world.proofs.Common.{has, Lists, Notice, hand_of, is_actor, State, Config, IsRow, Actor, Mutator, Worker}
 use Rattle.ref_world.proofs.Common.{Reply, Step, Core, has_hand, hand_in, Stands, IsRowOf, IsReached, model_heap}
 use Rattle.ref_base.specs.Heaps.{Heap}
 use Rattle.ref_base.specs.CountedHolds.{AreCounted}
-use Rattle.ref_base.proofs.CountedTraces.{legal_counted}
-use Rattle.ref_base.proofs.CountedWorlds.{counted_hand}
+use Rattle.ref_base.proofs.CountedTraces.{row_counted}
+use Rattle.ref_base.proofs.CountedWorlds.{counted_hand, first_counted}
 use Rattle.ref_base.proofs.LegalQueues.{run_sound}
 use Rattle.ref_base.proofs.RowLaws.{actor_has}
-use Rattle.ref_base.proofs.RunLaws.{run_more}
+use Rattle.ref_base.proofs.RunLaws.{holds_after, run_more}
 use Rattle.ref_base.proofs.SoundWorlds.{IsSound, NoticesBelow, first_sound}
+use Rattle.ref_mark.specs.MarkRows.{starting_state}
+use Rattle.ref_objects.specs.declared.start.Start.{Start}
 
 -- the heap as the state has it has the core's configuration and holds
 pub same_config : (c : Core) (a : State) → Stands c a → a.world.heap.config ≡ (model_heap c.heap).config
@@ -22,6 +24,32 @@ pub same_hand : (c : Core) (a : State) → Stands c a → (who : Actor) → hand
 same_hand c a stands (Mutator m) = ap (λ (hs : List (List Notice)). slice_index_or hs m []) stands.mutator_hands
 same_hand c a stands (Worker k) = ap (λ (hs : List (List Notice)). slice_index_or hs k []) stands.worker_hands
 
+-- ---- the state of a new world, whose numbers begin as they are told
+
+abbrev state_at : Config → Start → State
+state_at config start = starting_state config 0 start.obj start.cycle
+
+start_hands : (config : Config) (start : Start) (who : Actor)
+    → NoticesBelow config.queues (hand_of (state_at config start).world who)
+start_hands config start (Mutator m) = (first_sound config).hands_below (Mutator m)
+start_hands config start (Worker k) = (first_sound config).hands_below (Worker k)
+
+-- it is sound, whatever its cycle
+start_sound : (config : Config) (start : Start) → IsSound (state_at config start).world
+start_sound config start =
+    let sound = first_sound config in
+    record {
+      mutator_hands = sound.mutator_hands;
+      worker_hands = sound.worker_hands;
+      queues = sound.queues;
+      objects_below = sound.objects_below;
+      hands_below = start_hands config start;
+      pending_below = sound.pending_below;
+      own = sound.own;
+    }
+
+-- ---- rows
+
 -- one more row leads further
 pub reached_after : (old new : Core) (step : Step) (reply : Reply) → IsReached old → IsRowOf old step reply new
     → IsReached new
@@ -29,19 +57,28 @@ reached_after old new step reply reached row =
     let next = row reached.state reached.stands in
     record {
       config = reached.config;
+      start = reached.start;
       rows = reached.rows ++ record { step = step; reply = reply } ∷ [];
       state = next.0;
-      run = run_more (first_state reached.config) reached.rows reached.state next.0 _ reached.run next.1;
+      run = run_more (state_at reached.config reached.start) reached.rows reached.state next.0 _ reached.run next.1;
       stands = next.2;
     }
 
 module _ (c : Core) (reached : IsReached c) where
+  abbrev first : State
+  first = state_at reached.config reached.start
+
+  first_is : IsSound first.world
+  first_is = start_sound reached.config reached.start
+
   sound : IsSound reached.state.world
-  sound =
-      run_sound (first_state reached.config) reached.rows reached.state (first_sound reached.config) reached.run
+  sound = run_sound first reached.rows reached.state first_is reached.run
 
   counted : AreCounted reached.state.world
-  counted = legal_counted reached.config reached.rows reached.state reached.run
+  counted =
+      holds_after IsRow first (λ past a. AreCounted a.world)
+      (λ past a row b before is h. row_counted a row b (run_sound first past a first_is before) is h)
+      (first_counted reached.config) reached.rows reached.state reached.run
 
   config : reached.state.world.heap.config ≡ (model_heap c.heap).config
   config = same_config c reached.state reached.stands

@@ -10,6 +10,7 @@ use Rattle.ref_base.specs.declared.config.Config.{Config}
 use Rattle.ref_base.specs.declared.fault.Fault.{Fault}
 use Rattle.ref_base.specs.declared.fault.Fault.TheVariants.{NoSuchActor, BadQueue}
 use Rattle.ref_base.specs.Refusals.{unless, unless_full, empty_hand_refusal, is_mutator, is_queue}
+use Rattle.ref_objects.specs.declared.start.Start.{Start}
 use Rattle.ref_clear.specs.ClearHeaps.{HeldNotice, first_clear_heap}
 use Rattle.ref_world.specs.WorldHeaps.{WorldHeap, model_heap}
 
@@ -33,13 +34,17 @@ as_notice held = record { object = held.hold.object; queue = held.queue; cause =
 abbrev pub first_hands : Config → Hands
 first_hands config = record { mutators = replicate config.mutators []; workers = replicate config.workers [] }
 
--- the heap has number 0
-abbrev pub first_core : Config → Core
-first_core config = record {
-  heap = first_clear_heap config 0 (record { obj = 1; cycle = 0; page = 1 });
+-- the heap has number 0, and its numbers begin as they are told
+abbrev pub starting_core : Config → Start → Core
+starting_core config start = record {
+  heap = first_clear_heap config 0 start;
   hands = first_hands config;
   queues = new_queues 0 config.queues;
 }
+
+-- where nothing is told, the first object has number 1, no cycle was before, and the first page has address 1
+abbrev pub first_core : Config → Core
+first_core config = starting_core config (record { obj = 1; cycle = 0; page = 1 })
 
 -- ---- hands and queues
 

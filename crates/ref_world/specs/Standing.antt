@@ -1,6 +1,6 @@
 -- Which states of the abstract collector a world stands for, and its rows (this project's profile).
 use Rattle.std.specs.Prelude.{◌≡◌, ℕ, List, Result, Ok, Err}
-use Rattle.ref_base.specs.Collectors.{State, first_state}
+use Rattle.ref_base.specs.Collectors.{State}
 use Rattle.ref_base.specs.CollectorRows.{IsRow, IsRun}
 use Rattle.ref_base.specs.declared.config.Config.{Config}
 use Rattle.ref_base.specs.declared.fault.Fault.{Fault}
@@ -8,6 +8,8 @@ use Rattle.ref_base.specs.declared.reply.Reply.{Reply}
 use Rattle.ref_base.specs.declared.reply.Reply.TheVariants.{Refused}
 use Rattle.ref_base.specs.declared.row.Row.{Row}
 use Rattle.ref_base.specs.declared.step.Step.{Step}
+use Rattle.ref_objects.specs.declared.start.Start.{Start}
+use Rattle.ref_mark.specs.MarkRows.{starting_state}
 use Rattle.ref_clear.specs.Standing.{HeapStands}
 use Rattle.ref_world.specs.Cores.{Core, core_queue_at}
 use Rattle.ref_world.specs.WorldHeaps.{heap_no_of}
@@ -36,12 +38,13 @@ abbrev pub answered : Result Reply Fault → Reply
 answered (Ok reply) = reply
 answered (Err fault) = Refused fault
 
--- a legal trace leads to a state for which the world stands
+-- a run from the state of a new world, whose numbers began at any start, leads to one for which the world stands
 pub record IsReached (c : Core) : Type 0 where
   pub config : Config
+  pub start : Start
   pub rows : List Row
   pub state : State
-  pub run : IsRun (first_state config) rows state
+  pub run : IsRun (starting_state config 0 start.obj start.cycle) rows state
   pub stands : Stands c state
 
 -- and each queue knows its number

@@ -6,7 +6,8 @@ ghost use Rattle.ref_base.specs.Heaps.{slot_at, reference_at};
 ghost use Rattle.ref_base.specs.Refusals.{clear_refusal, has_slot, is_actor, is_mutator, is_queue};
 ghost use Rattle.ref_objects.specs.Grounds.{starting_refusal, IsMade, IsRefused};
 ghost use Rattle.ref_base.specs.QueueLists.{new_queues};
-ghost use Rattle.ref_world.specs.Cores.{first_core, core_queue_at, queue_refusal};
+ghost use Rattle.ref_mark.specs.MarkRows.{starting_state};
+ghost use Rattle.ref_world.specs.Cores.{first_core, starting_core, core_queue_at, queue_refusal};
 ghost use Rattle.ref_world.specs.Standing.{Stands, IsRowOf};
 ghost use Rattle.ref_world.specs.WorldHeaps.{model_heap};
 
@@ -16,7 +17,7 @@ mod steps;
 use crate::hands::Hands;
 use crate::{WorldHeap, WorldNotice};
 use ref_base::{Actor, Config, Fault, MutNo, ObjNo, QueueNo, SlotNo};
-use ref_objects::Kind;
+use ref_objects::{Kind, Start};
 use ref_queue::Queue;
 use std::alloc::{AllocError, Allocator, Global};
 use std::marker::Model;
@@ -50,7 +51,15 @@ impl<A: Allocator + Copy> World<A> {
             (first_core config) result }
         ensures stands { IfOk result (λ world. Stands world (first_state config)) }
     {
-        let heap = WorldHeap::new(alloc, config, 0)?;
+        Self::starting(alloc, config, Start::FIRST)
+    }
+
+    /// The same, where numbers begin as they are told. `BadConfig` also where they can't begin so.
+    pub fn starting(alloc: A, config: Config, start: Start) -> Result<Self, Fault>
+        ensures made { IsMade (starting_refusal config start) (starting_core config start) result }
+        ensures stands { IfOk result (λ world. Stands world (starting_state config 0 start.obj start.cycle)) }
+    {
+        let heap = WorldHeap::starting(alloc, config, 0, start)?;
         let Ok(hands) = Hands::new(alloc, config) else {
             return Err(Fault::NoMemory);
         };

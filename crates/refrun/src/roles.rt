@@ -214,7 +214,9 @@ impl<'a> Station<'a> {
         let _ = self.ask(rt, PlainStep::Scan { worker });
         let _ = self.ask(rt, PlainStep::ClearNext { worker });
         let _ = self.ask(rt, PlainStep::Sweep { worker });
-        let _ = self.ask(rt, PlainStep::MoveNext { worker });
+        if let Ok(Reply::Moved(_)) = self.ask(rt, PlainStep::MoveNext { worker }) {
+            self.shared.tally.count_move();
+        }
     }
 
     /// One step of each kind of work, and one notice on its way.

@@ -9,9 +9,10 @@ pub struct Tally {
     rounds: AtomicU64,
     cycles: AtomicU64,
     notices: AtomicU64,
+    moves: AtomicU64,
 }
 
-/// What a tally showed. It prints as `7 rounds, 1 cycles, 3 notices`.
+/// What a tally showed. It prints as `7 rounds, 1 cycles, 3 notices, 2 moves`.
 #[derive(Clone, Copy, Debug, PartialEq, Eq)]
 pub struct Counts {
     /// Rounds of mutators that have ended.
@@ -20,6 +21,8 @@ pub struct Counts {
     pub cycles: u64,
     /// Notices that pollers have taken.
     pub notices: u64,
+    /// Objects that workers have moved, but for those that a load or a get moved.
+    pub moves: u64,
 }
 
 impl fmt::Display for Counts {
@@ -28,8 +31,12 @@ impl fmt::Display for Counts {
             rounds,
             cycles,
             notices,
+            moves,
         } = *self;
-        write!(f, "{rounds} rounds, {cycles} cycles, {notices} notices")
+        write!(
+            f,
+            "{rounds} rounds, {cycles} cycles, {notices} notices, {moves} moves"
+        )
     }
 }
 
@@ -40,6 +47,7 @@ impl Tally {
             rounds: AtomicU64::new(0),
             cycles: AtomicU64::new(0),
             notices: AtomicU64::new(0),
+            moves: AtomicU64::new(0),
         }
     }
 
@@ -49,6 +57,7 @@ impl Tally {
             rounds: self.rounds.load(Ordering::SeqCst),
             cycles: self.cycles.load(Ordering::SeqCst),
             notices: self.notices.load(Ordering::SeqCst),
+            moves: self.moves.load(Ordering::SeqCst),
         }
     }
 
@@ -62,5 +71,9 @@ impl Tally {
 
     pub(crate) fn count_notice(&self) {
         self.notices.fetch_add(1, Ordering::SeqCst);
+    }
+
+    pub(crate) fn count_move(&self) {
+        self.moves.fetch_add(1, Ordering::SeqCst);
     }
 }

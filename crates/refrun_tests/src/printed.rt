@@ -4,6 +4,7 @@ use ref_base::{
     Actor, Cause, Fault, MutNo, ObjNo, PlainStep, QueueNo, Reach, Reply, Row, SlotNo, Step,
     Strength, Urgency, WorkerNo,
 };
+use refrun::Counts;
 use std::alloc::Global;
 use std::fmt;
 use std::process::Abort;
@@ -36,6 +37,18 @@ fn each_strength_prints_as_its_name(rt: HostRuntime) -> Result<(), Fail> {
         (Reach::Phantom, "phantom"),
         (Reach::Unreachable, "unreachable"),
     ];
+    agree(&rt, rt.alloc(), &table)
+}
+
+#[test]
+fn the_counts_of_a_stress_run_print_in_one_line(rt: HostRuntime) -> Result<(), Fail> {
+    let counts = Counts {
+        rounds: 7,
+        cycles: 1,
+        notices: 3,
+        moves: 2,
+    };
+    let table = [(counts, "7 rounds, 1 cycles, 3 notices, 2 moves")];
     agree(&rt, rt.alloc(), &table)
 }
 

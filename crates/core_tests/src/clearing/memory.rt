@@ -5,10 +5,12 @@ use super::Ask::{
     SlotOf,
 };
 use super::Call::{Ask, Collect, Give, Keep, Mutate};
-use super::Collect::{Begin, ClearNext, EndClear, EndMark, EndSweep, Scan, Sweep};
+use super::Collect::{
+    Begin, ClearNext, EndClear, EndMark, EndMove, EndSweep, MoveNext, Scan, Select, Sweep,
+};
 use super::Give::{Hand, Unhook};
 use super::Keep::{Adopt, Hold, Release};
-use super::Mutate::{Clear, CopySlot, DropSlot, Get, Load, New, Refer, RefersTo, Store};
+use super::Mutate::{Clear, CopySlot, DropSlot, Get, Load, New, NewMany, Refer, RefersTo, Store};
 use super::{Call, make_calls};
 use crate::arena::{all_but, all_that_is_left, limited};
 use crate::told::Told;
@@ -34,7 +36,16 @@ const SMALL: Config = Config {
 /// each worker, and 128 for the slots of its mutator.
 const SMALL_HEAP: usize = 2 * 11_040 + 4 * 16 + 2 * 16 + 128;
 
-/// Each call once.
+/// The same, with cells that fill two pages: so there are four.
+const TWO_PAGES: Config = Config {
+    cells: 128,
+    ..SMALL
+};
+
+/// How many bytes a heap of this size takes.
+const TWO_PAGES_HEAP: usize = 4 * 11_040 + 128 * 16 + 2 * 16 + 128;
+
+/// Each call once, but for those of moves.
 const EACH_CALL: [(Call, Told); 41] = [
     (Ask(Size), Told::Size(SMALL)),
     (Ask(HeapNo), Told::Heap(1)),
@@ -87,10 +98,44 @@ const EACH_CALL: [(Call, Told); 41] = [
     (Ask(InPhase), Told::In(Phase::Idle)),
 ];
 
+/// The calls of moves. Of objects 1 to 65, which fill a page and one cell of the next, the first and the last live.
+const EACH_MOVE: [(Call, Told); 23] = [
+    (Mutate(New(0, 1)), Told::Object(1)),
+    (Mutate(NewMany(1, 64)), Told::Object(65)),
+    (Mutate(Store(0, 0, 1)), Told::Done),
+    // There is no other page but one with few objects.
+    (Collect(Select), Told::Refused(Fault::NoRoom)),
+    (Collect(Begin(9, Urgency::Normal)), Told::Began(1)),
+    (Collect(Scan(0)), Told::Scanned(1)),
+    (Collect(Scan(0)), Told::Scanned(65)),
+    (Collect(EndMark), Told::Doomed(63)),
+    (Collect(EndClear), Told::Done),
+    (Collect(Sweep(0)), Told::Swept(63)),
+    (Collect(EndSweep), Told::Done),
+    (Collect(Select), Told::Selected(2)),
+    (Ask(InPhase), Told::In(Phase::Moving)),
+    // This moves what it loads.
+    (Mutate(Load(2, 0, 0)), Told::Object(65)),
+    (Collect(EndMove), Told::Refused(Fault::MovesLeft)),
+    (Collect(MoveNext(1)), Told::Moved(1)),
+    (Collect(MoveNext(0)), Told::Nothing),
+    (Collect(EndMove), Told::Done),
+    (Ask(InPhase), Told::In(Phase::Idle)),
+    (Collect(Select), Told::Refused(Fault::WrongPhase)),
+    (Collect(MoveNext(0)), Told::Refused(Fault::WrongPhase)),
+    (Collect(EndMove), Told::Refused(Fault::WrongPhase)),
+    (Ask(ObjectCount), Told::Count(2)),
+];
+
 /// Makes these calls, where nothing is left of the arena behind the two heaps.
-fn make_without_memory(rt: &impl Abort, memory: &Bump, calls: &[(Call, Told)]) -> Result<(), Fail> {
-    let heap = Heap::new(memory, SMALL, 1)?;
-    let other = Heap::new(memory, SMALL, 2)?;
+fn make_without_memory(
+    rt: &impl Abort,
+    memory: &Bump,
+    config: Config,
+    calls: &[(Call, Told)],
+) -> Result<(), Fail> {
+    let heap = Heap::new(memory, config, 1)?;
+    let other = Heap::new(memory, config, 2)?;
     let _rest = all_that_is_left(rt, memory)?;
     make_calls(rt, heap, other, calls);
     Ok(())
@@ -99,7 +144,13 @@ fn make_without_memory(rt: &impl Abort, memory: &Bump, calls: &[(Call, Told)]) -
 #[test]
 fn after_new_no_call_takes_memory(rt: HostRuntime) -> Result<(), Fail> {
     let memory = limited(rt.alloc(), 2 * SMALL_HEAP)?;
-    make_without_memory(&rt, &memory, &EACH_CALL)
+    make_without_memory(&rt, &memory, SMALL, &EACH_CALL)
+}
+
+#[test]
+fn no_call_of_moves_takes_memory(rt: HostRuntime) -> Result<(), Fail> {
+    let memory = limited(rt.alloc(), 2 * TWO_PAGES_HEAP)?;
+    make_without_memory(&rt, &memory, TWO_PAGES, &EACH_MOVE)
 }
 
 #[test]

@@ -1,9 +1,9 @@
 //! Worlds whose memory runs out.
 
 use super::rows::{
-    PUT, RELEASE, adopt, begin, clear, clear_next, cleared, close, copy, drop_slot, get, hand,
-    load, new, object, own, poll, refers_to, refused, scan, scanned, store, sweep, took, unhook,
-    weak, worker_puts, worker_releases,
+    END_MOVE, PUT, RELEASE, SELECT, adopt, begin, clear, clear_next, cleared, close, copy,
+    drop_slot, get, hand, load, move_next, moved, new, object, own, poll, refers_to, refused, scan,
+    scanned, store, sweep, took, unhook, weak, worker_puts, worker_releases,
 };
 use super::{CONFIG, are_rows, do_steps, steps_of};
 use crate::arena::{all_but, all_that_is_left, limited};
@@ -220,6 +220,69 @@ fn each_step() -> [(Step, Reply); 32] {
         (worker_puts(0), NO_MEMORY),
         (worker_releases(0), Reply::Done),
     ]
+}
+
+/// Cells that fill two pages: so there are four.
+const TWO_PAGES: Config = Config {
+    cells: 128,
+    ..CONFIG
+};
+
+/// Objects move twice, in a world with object 1 in slot 0 and 65, the first of the second page, in slot 1, where the 63
+/// between are garbage.
+fn moves() -> [(Step, Reply); 32] {
+    [
+        (weak(2, 1, 0), object(66)),
+        (store(0, 0, 2), Reply::Done),
+        // There is no other page but one with few objects.
+        (SELECT, refused(Fault::NoRoom)),
+        (begin(0), Reply::Cycle(1)),
+        (scan(0), scanned(1)),
+        (scan(0), scanned(65)),
+        (scan(0), scanned(66)),
+        (Step::Plain(PlainStep::EndMark), Reply::Doomed(63)),
+        (Step::Plain(PlainStep::EndClear), Reply::Done),
+        (sweep(0), Reply::Swept(63)),
+        (Step::Plain(PlainStep::EndSweep), Reply::Done),
+        (SELECT, Reply::Selected(3)),
+        // These two move what they answer.
+        (get(3, 2), object(65)),
+        (load(4, 0, 0), object(66)),
+        (END_MOVE, refused(Fault::MovesLeft)),
+        (move_next(0), moved(1)),
+        (move_next(0), Reply::Nothing),
+        (END_MOVE, Reply::Done),
+        (SELECT, refused(Fault::WrongPhase)),
+        // The next cycle heals all words, and opens the pages that were left.
+        (begin(0), Reply::Cycle(2)),
+        (scan(0), scanned(1)),
+        (scan(0), scanned(65)),
+        (scan(0), scanned(66)),
+        (Step::Plain(PlainStep::EndMark), Reply::Doomed(0)),
+        (Step::Plain(PlainStep::EndClear), Reply::Done),
+        (Step::Plain(PlainStep::EndSweep), Reply::Done),
+        (SELECT, refused(Fault::NoRoom)),
+        (move_next(0), refused(Fault::WrongPhase)),
+        (END_MOVE, refused(Fault::WrongPhase)),
+        (new(5, 0), object(67)),
+        (load(6, 0, 0), object(66)),
+        (get(7, 6), object(65)),
+    ]
+}
+
+#[test]
+fn no_step_takes_memory_while_objects_move(rt: HostRuntime) -> Result<(), Fail> {
+    let memory = limited(rt.alloc(), 65_536)?;
+    let mut world = World::new(&memory, TWO_PAGES)?;
+    let rest = all_that_is_left(&rt, &memory);
+    assert!(rt; rest.is_ok());
+    do_steps(&rt, &mut world, &[(new(0, 1), object(1))]);
+    for no in 2..=65 {
+        do_steps(&rt, &mut world, &[(new(1, 0), object(no))]);
+    }
+    do_steps(&rt, &mut world, &moves());
+    world.end();
+    Ok(())
 }
 
 #[test]

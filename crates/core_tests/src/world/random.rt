@@ -3,11 +3,10 @@
 mod draws;
 mod ways;
 
-use crate::hand::leak;
 use draws::Draws;
-use ref_base::{Config, HeapStep, Reply, Step};
+use ref_base::{Config, Step};
 use ref_objects::Start;
-use ref_world::{HeapReply, World, WorldHeap, apply_heap};
+use ref_world::World;
 use std::alloc::Global;
 use std::process::Abort;
 use std::test::Fail;
@@ -94,25 +93,43 @@ const SIZES: [(Config, u64); 9] = [
     (Config { cells: 65, ..SMALL }, 9),
 ];
 
+/// Where a world of 128 cells starts whose four pages take the last addresses.
+const LATE: Start = Start {
+    page: 4_294_967_292,
+    ..Start::FIRST
+};
+
+/// Worlds that start there, and the seed of their draws.
+const LATE_SIZE: (Config, Start, u64) = (
+    Config {
+        cells: 128,
+        ..SMALL
+    },
+    LATE,
+    12,
+);
+
 /// How many worlds of each size there are, one after the other.
 const WORLDS: u32 = 10;
 
-/// How many steps each does: 100,000 in all large ones, and 108,000 in all others.
+/// How many steps each does: 100,000 in all large ones, 108,000 in all others, and 10,000 in those that start late.
 const LARGE_STEPS: u32 = 5_000;
 
 const STEPS: u32 = 1_200;
 
-/// Does so many steps in each world of this size, and counts how they are answered.
+const LATE_STEPS: u32 = 1_000;
+
+/// Does so many steps in each world of this size, whose numbers begin so, and counts how they are answered.
 fn do_worlds(
     rt: &impl Abort,
     alloc: Global,
-    (config, seed): (Config, u64),
+    (config, start, seed): (Config, Start, u64),
     steps: u32,
     counts: &mut Counts,
 ) -> Result<(), Fail> {
     let mut draws = Draws::new(config, seed);
     for nth in 0..WORLDS {
-        let mut world = World::new(alloc, config)?;
+        let mut world = World::starting(alloc, config, start)?;
         for place in 0..steps {
             let step = draws.step();
             let reply = world.step(step);
@@ -124,52 +141,6 @@ fn do_worlds(
             count(counts, step, way);
         }
         world.end();
-    }
-    Ok(())
-}
-
-/// Where a heap of 128 cells starts whose four pages take the last addresses.
-const LATE: Start = Start {
-    page: 4_294_967_292,
-    ..Start::FIRST
-};
-
-/// What a heap answers to a step that hands nothing over: none to another.
-fn plain_reply(heap: &mut WorldHeap, step: Step) -> Option<Reply> {
-    let Step::Plain(step) = step else {
-        return None;
-    };
-    match apply_heap(heap, HeapStep::Plain(step)) {
-        HeapReply::Told(reply) => Some(reply),
-        HeapReply::Notice(notice) => {
-            leak(Some(notice.into_hold()));
-            None
-        }
-        HeapReply::Held(hold) | HeapReply::Back(_, hold) => {
-            leak(Some(hold));
-            None
-        }
-    }
-}
-
-/// Draws 10,000 steps for heaps whose addresses are spent as soon as objects are to move.
-fn do_late(rt: &impl Abort, alloc: Global, counts: &mut Counts) -> Result<(), Fail> {
-    let config = Config {
-        cells: 128,
-        ..SMALL
-    };
-    let mut draws = Draws::new(config, 12);
-    for nth in 0..WORLDS {
-        let mut heap = WorldHeap::starting(alloc, config, 0, LATE)?;
-        for place in 0..1_000 {
-            let step = draws.step();
-            if let Some(reply) = plain_reply(&mut heap, step) {
-                let way = way_of(reply);
-                assert!(rt; has_way(step, way), "heap {nth}, {place}: {step} : {reply}");
-                count(counts, step, way);
-            }
-        }
-        heap.end();
     }
     Ok(())
 }
@@ -189,13 +160,16 @@ fn are_met(rt: &impl Abort, counts: &Counts, from: usize) {
 #[test]
 fn each_step_is_answered_in_each_of_its_ways(rt: HostRuntime) -> Result<(), Fail> {
     let mut counts: Counts = [[0; WAYS]; 26];
-    for &size in &LARGE_SIZES {
+    for &(config, seed) in &LARGE_SIZES {
+        let size = (config, Start::FIRST, seed);
         do_worlds(&rt, rt.alloc(), size, LARGE_STEPS, &mut counts)?;
     }
-    do_late(&rt, rt.alloc(), &mut counts)?;
+    // Addresses are spent there as soon as objects are to move.
+    do_worlds(&rt, rt.alloc(), LATE_SIZE, LATE_STEPS, &mut counts)?;
     // The last three kinds are those of moves.
     are_met(&rt, &counts, 23);
-    for &size in &SIZES {
+    for &(config, seed) in &SIZES {
+        let size = (config, Start::FIRST, seed);
         do_worlds(&rt, rt.alloc(), size, STEPS, &mut counts)?;
     }
     are_met(&rt, &counts, 0);

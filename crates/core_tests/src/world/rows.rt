@@ -19,6 +19,11 @@ pub const RELEASE: Step = Step::Release {
     actor: Actor::Mutator(M),
 };
 
+/// Objects are chosen to move.
+pub const SELECT: Step = Step::Plain(PlainStep::Select);
+
+pub const END_MOVE: Step = Step::Plain(PlainStep::EndMove);
+
 pub const fn new(slot: u32, fields: u32) -> Step {
     Step::Plain(PlainStep::New {
         mutator: M,
@@ -159,6 +164,12 @@ pub const fn sweep(worker: u32) -> Step {
     })
 }
 
+pub const fn move_next(worker: u32) -> Step {
+    Step::Plain(PlainStep::MoveNext {
+        worker: WorkerNo(worker),
+    })
+}
+
 pub const fn worker_puts(worker: u32) -> Step {
     Step::Put {
         actor: Actor::Worker(WorkerNo(worker)),
@@ -185,6 +196,10 @@ pub const fn scanned(no: u32) -> Reply {
 
 pub const fn cleared(no: u32) -> Reply {
     Reply::Cleared(ObjNo(no))
+}
+
+pub const fn moved(no: u32) -> Reply {
+    Reply::Moved(ObjNo(no))
 }
 
 /// The program's own notice of this reference, for this queue.

@@ -151,6 +151,7 @@ impl<A: Allocator + Copy> Marker<A> {
     }
 
     // The worker finds a reference whose referent is still white, which lies at this place.
+    #[inline(always)]
     fn list_found(&mut self, worker: WorkerNo, no: ObjNo, place: u32)
         requires white { refers_into (is_white self.old) (reference_at self.old.heap no) ≡ true }
         requires may { MayFind self.old worker no }

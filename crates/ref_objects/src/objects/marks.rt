@@ -94,8 +94,8 @@ impl<A: Allocator + Copy> Objects<A> {
     }
 
     /// Takes every mark away, and nothing is condemned any more; this colour is good, and no object is healed. It isn't
-    /// the colour of the last cycle that began, nor that of moves; no object is still to move, and a choice that a cycle
-    /// outlived has ended. In time of the slots.
+    /// the colour of the last cycle that began, nor that of moves; no object is still to move, and a choice that a
+    /// cycle outlived has ended. In time of the slots.
     pub fn begin_marks(&mut self, good: Colour)
         requires other { self.old.space.last ≡ good → ⊥ }
         requires cycle { good ≡ Colour.R → ⊥ }

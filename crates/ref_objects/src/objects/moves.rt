@@ -67,8 +67,8 @@ impl<A: Allocator + Copy> Objects<A> {
         self.has_choice
     }
 
-    /// Whether an object is still to move. In constant time, but for the chosen pages that were left since the last call
-    /// of `move_next`.
+    /// Whether an object is still to move. In constant time, but for the chosen pages that were left since the last
+    /// call of `move_next`.
     pub fn has_left(&self) -> bool
         ensures { result ≡ not (is_empty self.now.space.still_to_move) }
     {

@@ -11,7 +11,7 @@ ghost use Rattle.ref_space.specs.Tables.{brought, left_of, without_if_any};
 ghost use Rattle.ref_space.specs.Naming.{target_of, HasTarget, IsHealed, tabled_of, changed_of};
 ghost use Rattle.ref_space.specs.Naming.{reference_by_number, with_referent};
 ghost use Rattle.ref_space.specs.Worklists.{entry_number};
-ghost use Rattle.ref_space.specs.Places.{lent, cell_of_word, place_of_word};
+ghost use Rattle.ref_space.specs.Places.{lent, cell_of_word, place_of_word, with_fields_healed};
 ghost use Rattle.ref_space.specs.Naming.{word_there};
 
 use super::Table;
@@ -52,8 +52,7 @@ impl<A: Allocator + Copy> Table<A> {
         if self.is_good(value) {
             return Some(value);
         }
-        self.bring(value);
-        let healed = self.healed(value);
+        let healed = self.bring(value);
         self.set_field(object, field, healed);
         Some(healed)
     }
@@ -73,8 +72,7 @@ impl<A: Allocator + Copy> Table<A> {
         if self.is_good(value) {
             return value;
         }
-        self.bring(value);
-        let healed = self.healed(value);
+        let healed = self.bring(value);
         self.set_referent(object, healed);
         healed
     }
@@ -89,18 +87,6 @@ impl<A: Allocator + Copy> Table<A> {
             (without_if_any (left_of self.now) (target_of self.now value) ≡ left_of self.now) }
     {
         value.has_colour(self.round.good) || value.is_null()
-    }
-
-    // The word of the same object in the good colour, but in that from before where it is still to move.
-    fn healed(&self, value: Word) -> Word
-        requires { HasTarget self.now value }
-        ensures named { target_of self.now result ≡ target_of self.now value }
-        ensures healed { IsHealed self.now result }
-    {
-        match place_by(&self.cells, &self.forwards, value) {
-            Some(place) => self.word_to(place),
-            None => Word::null(),
-        }
     }
 
     // What a field of the object that a word leads to holds: none where there is no such object or field.
@@ -275,17 +261,17 @@ pub(super) fn healed_word(cells: &[Cell], forwards: &[u32], value: Word, colour:
     }
 }
 
-// The healed words of these.
+// The fields of the object at this place get this colour, one after the other.
 #[inline(always)]
-pub(super) fn healed_words(cells: &[Cell], forwards: &[u32], words: Words, colour: Colour) -> Words
-    requires few { length cells.now ≤ 2 ^ 17 }
-    requires each { length forwards.now ≡ length cells.now }
-    ensures { result ≡ map (λ v. word_there colour (place_of_word cells.now forwards.now v)) words }
+pub(super) fn heal_fields(cells: &mut [Cell], forwards: &[u32], place: usize, colour: Colour)
+    requires few { length cells.old ≤ 2 ^ 17 }
+    requires each { length forwards.now ≡ length cells.old }
+    requires within { place < length cells.old }
+    ensures { cells.new ≡ with_fields_healed colour forwards.now cells.old place }
 {
-    let mut healed = words;
-    for field in 0..healed.len() {
-        let word = healed_word(cells, forwards, healed.get(field), colour);
-        healed.set(field, word);
+    for field in 0..cells[place].field_count() {
+        let word = cells[place].word(field);
+        let healed = healed_word(cells, forwards, word, colour);
+        cells[place].set_field(field, healed);
     }
-    healed
 }

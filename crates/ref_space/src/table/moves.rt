@@ -1,11 +1,11 @@
 //! Moves: which objects are to move, how they do, and how the pages that they left are used again.
 
-ghost use Rattle.std.specs.Prelude.{◌≡◌, ◌<◌, ◌≤◌, [], true, false, IfOk, Some, ℕ, Option, length, is_some};
+ghost use Rattle.std.specs.Prelude.{◌≡◌, ◌<◌, ◌≤◌, [], true, false, IfOk, None, Some, ℕ, Option, length, is_some};
 ghost use Rattle.std.specs.Prelude.{slice_index_or};
 ghost use Rattle.ref_space.specs.Worklists.{first_in};
 ghost use Rattle.std.specs.Option.{IfSome};
 ghost use Rattle.ref_space.specs.Pages.{is_chosen_place, has_chosen, choice, choosing, left_in};
-ghost use Rattle.ref_space.specs.Naming.{target_of, HasTarget};
+ghost use Rattle.ref_space.specs.Naming.{target_of, HasTarget, IsHealed};
 ghost use Rattle.ref_space.specs.Tables.{LiesAt, numbers_at, tabled_at, brought, left_of, moved_from, unhealed_of};
 ghost use Rattle.ref_space.specs.Tables.{without_if_any, without_number};
 ghost use Rattle.ref_space.specs.Tables.{table_selected, table_renumbered};
@@ -57,6 +57,7 @@ impl<A: Allocator + Copy> Table<A> {
 
     /// Moves the next object that is to move, and answers its number: none where none is left. In time of a search of
     /// its number, and of the chosen pages that were left since the call before.
+    #[inline(always)]
     pub fn move_next(&mut self) -> Option<ObjNo>
         ensures answer { result ≡ first_in (left_of self.old) }
         ensures after { self.new ≡ brought self.old result }
@@ -69,36 +70,61 @@ impl<A: Allocator + Copy> Table<A> {
         Some(no)
     }
 
-    /// Whether an object is still to move. In constant time, but for the chosen pages that were left since the last call
-    /// of `move_next`.
+    /// Whether an object is still to move. In constant time, but for the chosen pages that were left since the last
+    /// call of `move_next`.
+    #[inline(always)]
     pub fn has_left(&self) -> bool
         ensures { result ≡ is_some (first_in (left_of self.now)) }
     {
         self.pages.has_left()
     }
 
-    /// What a word leads to moves where it was to go, if it is still to move. In time of a search of its number then,
-    /// and else in constant time.
-    pub(super) fn bring(&mut self, value: Word)
+    /// What a word leads to moves where it was to go, if it is still to move. Answers the word of it in the good
+    /// colour: null of null. In time of a search of its number where it moves, and else in constant time.
+    pub(super) fn bring(&mut self, value: Word) -> Word
         requires { HasTarget self.old value }
+        ensures named { target_of self.new result ≡ target_of self.new value }
+        ensures healed { IsHealed self.new result }
         ensures after { self.new ≡ brought self.old (target_of self.old value) }
         ensures left { left_of self.new ≡ without_if_any (left_of self.old) (target_of self.old value) }
         ensures kept { (v : Option ℕ) → HasTarget self.old v
             → (target_of self.new v ≡ target_of self.old v) × HasTarget self.new v }
     {
-        if let Some(place) = place_by(&self.cells, &self.forwards, value) {
-            if self.pages.is_chosen(place / 64) {
-                if let Some(no) = self.cells[place].number() {
-                    self.move_at(no, place);
-                }
+        match place_by(&self.cells, &self.forwards, value) {
+            Some(place) => {
+                let place = self.leave(place);
+                Word::of_place(self.round.good, place as u32)
             }
+            None => Word::null(),
         }
     }
 
-    // What lies at this place of a chosen page moves to where it was to go. In time of a search of its number.
-    fn move_at(&mut self, no: ObjNo, from: usize)
+    // What lies at this place moves where it was to go, if it is still to move. Answers where it lies.
+    #[inline(always)]
+    fn leave(&mut self, place: usize) -> usize
+        requires { is_some (slice_index_or self.old.occupants place None) ≡ true }
+        ensures lies { slice_index_or self.new.occupants result None ≡ slice_index_or self.old.occupants place None }
+        ensures stays { is_chosen_place self.new.ways.pages.uses result ≡ false }
+        ensures after { self.new ≡ brought self.old (slice_index_or self.old.occupants place None) }
+        ensures left { left_of self.new
+            ≡ without_if_any (left_of self.old) (slice_index_or self.old.occupants place None) }
+        ensures kept { (v : Option ℕ) → HasTarget self.old v
+            → (target_of self.new v ≡ target_of self.old v) × HasTarget self.new v }
+    {
+        match self.cells[place].number() {
+            Some(no) if self.pages.is_chosen(place / 64) => self.move_at(no, place),
+            _ => place,
+        }
+    }
+
+    // What lies at this place of a chosen page moves to where it was to go. Answers where. In time of a search of its
+    // number.
+    #[inline(always)]
+    fn move_at(&mut self, no: ObjNo, from: usize) -> usize
         requires lies { LiesAt self.old no from }
         requires leaves { is_chosen_place self.old.ways.pages.uses from ≡ true }
+        ensures lies { slice_index_or self.new.occupants result None ≡ Some no }
+        ensures stays { is_chosen_place self.new.ways.pages.uses result ≡ false }
         ensures after { self.new ≡ moved_from self.old from }
         ensures brought { self.new ≡ brought self.old (Some no) }
         ensures left { left_of self.new ≡ without_number (left_of self.old) no }
@@ -110,5 +136,6 @@ impl<A: Allocator + Copy> Table<A> {
         self.cells[to as usize] = cell;
         set_place(&mut self.index, no, to);
         self.pages.give(from / 64, (from % 64) as u32);
+        to as usize
     }
 }

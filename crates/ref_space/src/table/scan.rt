@@ -1,16 +1,18 @@
-//! The parts of a scan: what the cell of an object holds is read there, and not once more by a word.
+//! A scan: what the cell of an object holds is read there, and not once more by a word.
 
-ghost use Rattle.std.specs.Prelude.{◌≡◌, is_some, length, true};
+ghost use Rattle.std.specs.Prelude.{◌≡◌, is_some, length, true, false};
 ghost use Rattle.std.specs.Option.{option_map, IfSome};
 ghost use Rattle.ref_base.specs.KeptPaths.{is_kept};
 ghost use Rattle.ref_base.specs.DoomedSets.{refers_into};
 ghost use Rattle.ref_space.specs.Worklists.{with_more};
 ghost use Rattle.ref_space.specs.Tables.{LiesAt, MayList, marked_each, anew_each, kept_value, field_held, table_healed};
+ghost use Rattle.ref_space.specs.Tables.{table_scanned, scanned_values, object_in};
 ghost use Rattle.ref_space.specs.Tables.{tabled_at, tabled_fields, tabled_reference, is_unmarked_at};
 ghost use Rattle.ref_space.specs.Naming.{target_of, reference_by_number};
+ghost use Rattle.ref_space.specs.Pages.{has_chosen};
 
 use super::Table;
-use super::by_word::{healed_word, healed_words};
+use super::by_word::{heal_fields, healed_word};
 use crate::index::{Entry, place_near};
 use crate::kept::Kept;
 use crate::word::Word;
@@ -19,6 +21,30 @@ use ref_base::{ObjNo, Policy, Strength, Urgency, keeps};
 use std::alloc::Allocator;
 
 impl<A: Allocator + Copy> Table<A> {
+    /// Scans the object of this entry: marks what its fields hold, and its referent where the policy keeps that, lists
+    /// what wasn't marked before, and heals it. Answers whether it is a reference to an object that isn't marked even
+    /// then. Nothing changes where there is no such object. In constant time where the object lies at the entry's
+    /// place, and else by one search.
+    #[inline(always)]
+    pub fn scan(&mut self, entry: Entry, policy: Policy, grey: &mut Worklist<A>) -> bool
+        requires tuned { self.old.ways.tuned ≡ true }
+        requires room { MayList self.old grey.old }
+        ensures finds { result ≡ refers_into (is_unmarked_at self.old.round.number self.new.tabled)
+            (tabled_reference (tabled_at self.old.tabled entry.no)) }
+        ensures listed { grey.new ≡ with_more grey.old
+            (anew_each self.old (scanned_values (is_kept policy) (object_in (tabled_at self.old.tabled entry.no)))) }
+        ensures after { self.new ≡ table_scanned (is_kept policy) self.old entry.no }
+    {
+        let no = entry.no;
+        let Some(place) = self.place_near(entry) else {
+            return false;
+        };
+        self.grey_fields(no, place, grey);
+        let finds = self.grey_referent(no, place, policy, grey);
+        self.heal(no, place);
+        finds
+    }
+
     /// The place of the object of this entry, if it is there.
     #[inline(always)]
     pub(super) fn place_near(&self, entry: Entry) -> Option<usize>
@@ -76,19 +102,41 @@ impl<A: Allocator + Copy> Table<A> {
         false
     }
 
-    /// Each of its words gets the good colour.
+    /// Each of its words gets the good colour, and leads to where its object lies.
     #[inline(always)]
     pub(super) fn heal(&mut self, no: ObjNo, place: usize)
         requires tuned { self.old.ways.tuned ≡ true }
         requires lies { LiesAt self.old no place }
         ensures { self.new ≡ table_healed self.old no }
     {
+        if self.pages.has_chosen() {
+            self.heal_each(no, place);
+        } else {
+            self.recolour(no, place);
+        }
+    }
+
+    // The same: each word is looked up, since it may lead to what has moved.
+    fn heal_each(&mut self, no: ObjNo, place: usize)
+        requires tuned { self.old.ways.tuned ≡ true }
+        requires lies { LiesAt self.old no place }
+        ensures { self.new ≡ table_healed self.old no }
+    {
         let good = self.round.good;
-        let words = self.cells[place].fields();
-        let fields = healed_words(&self.cells, &self.forwards, words, good);
+        heal_fields(&mut self.cells, &self.forwards, place, good);
         let held = self.cells[place].referent();
         let referent = healed_word(&self.cells, &self.forwards, held, good);
-        self.cells[place].put_healed(fields, referent, self.round.number);
+        self.cells[place].put_healed(referent, self.round.number);
+    }
+
+    // The same where no pages are chosen: each word names the cell in which its object lies.
+    #[inline(always)]
+    fn recolour(&mut self, no: ObjNo, place: usize)
+        requires settled { has_chosen self.old.ways.pages.uses ≡ false }
+        requires lies { LiesAt self.old no place }
+        ensures { self.new ≡ table_healed self.old no }
+    {
+        self.cells[place].recolour(self.round);
     }
 
     // How many fields it has.

@@ -6,28 +6,29 @@ use Rattle.ref_space.proofs.table.Table.load_referent.Goals as goal
 use Rattle.ref_space.proofs.table.Table.load_referent.Given.{Over}
 
 -- the table is that in which the object has moved
-moved : (g : Over) (c : goal.After-set_referent g) → c.set_referent.new.self ≡ c.bring.new.self
+moved : (g : Over) (c : goal.After-set_referent g) → c.set_referent.new.self ≡ c.bring-healed.new.self
 moved g c =
-    referent_loaded_is c.args.self.now c.bring.new.self c.referent-value.result c.args.object c.bring.ensures.after
-    c.bring.ensures.kept c.referent-value.ensures.led c.requires c.healed-healed.result c.healed-healed.ensures.named
-    c.referent-value.ensures.named c.set_referent.ensures
+    referent_loaded_is c.args.self.now c.bring-healed.new.self c.referent-value.result c.args.object
+    c.bring-healed.ensures.after c.bring-healed.ensures.kept c.referent-value.ensures.led c.requires
+    c.bring-healed.result c.bring-healed.ensures.named c.referent-value.ensures.named c.set_referent.ensures
 
 pub returns-clause-named : goal.returns-clause-named
 returns-clause-named g c =
-    ap (λ (t : Table). target_of t c.healed-healed.result) (moved g c)
-    ∙ healed_named c.args.self.now c.bring.new.self c.referent-value.result c.args.object c.bring.ensures.after
-    c.bring.ensures.kept c.referent-value.ensures.led c.requires c.healed-healed.result c.healed-healed.ensures.named
+    ap (λ (t : Table). target_of t c.bring-healed.result) (moved g c)
+    ∙ healed_named c.args.self.now c.bring-healed.new.self c.referent-value.result c.args.object
+    c.bring-healed.ensures.after c.bring-healed.ensures.kept c.referent-value.ensures.led c.requires
+    c.bring-healed.result c.bring-healed.ensures.named
     ∙ c.referent-value.ensures.named
 
 pub returns-clause-healed : goal.returns-clause-healed
 returns-clause-healed g c =
-    subst (λ (t : Table). IsHealed t c.healed-healed.result) (sym (moved g c)) c.healed-healed.ensures.healed
+    subst (λ (t : Table). IsHealed t c.bring-healed.result) (sym (moved g c)) c.bring-healed.ensures.healed
 
 pub returns-clause-after : goal.returns-clause-after
 returns-clause-after g c =
-    moved g c ∙ c.bring.ensures.after ∙ ap (brought c.args.self.now) c.referent-value.ensures.named
+    moved g c ∙ c.bring-healed.ensures.after ∙ ap (brought c.args.self.now) c.referent-value.ensures.named
 
 pub returns-clause-left : goal.returns-clause-left
 returns-clause-left g c =
-    ap left_of (moved g c) ∙ c.bring.ensures.left
+    ap left_of (moved g c) ∙ c.bring-healed.ensures.left
     ∙ ap (without_if_any (left_of c.args.self.now)) c.referent-value.ensures.named

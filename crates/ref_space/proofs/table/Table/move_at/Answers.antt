@@ -10,7 +10,7 @@ use Rattle.ref_space.proofs.CellChanges.{lying_place}
 use Rattle.ref_space.proofs.MovedLemmas.{within_to, sound_moved, table_moved, length-with_place}
 use Rattle.ref_space.proofs.Common.{set, seen_table}
 use Rattle.ref_space.specs.Tables.{left_of, moved_from}
-use Rattle.ref_space.proofs.BroughtLemmas.{brought_moved, kept_moved, left_moved}
+use Rattle.ref_space.proofs.BroughtLemmas.{brought_moved, kept_moved, left_moved, moved_lies, moved_stays}
 use Rattle.ref_space.proofs.table.Table.move_at.Goals as goal
 use Rattle.ref_space.proofs.table.Table.move_at.Given.{Over}
 
@@ -90,6 +90,8 @@ pub returns : goal.returns
 returns g c =
     let place = lying_place c.self.invariant c.self.view_is c.requires.lies in
     record {
+      lies = moved_lies c.self.invariant c.self.view_is place (leaves g c) (goes g c) (moved g c);
+      stays = moved_stays c.self.invariant c.self.view_is place (leaves g c) (goes g c) (moved g c);
       after = moved g c;
       brought = moved g c ∙ brought_moved c.self.invariant c.self.view_is place (leaves g c);
       left = ap left_of (moved g c) ∙ left_moved c.self.invariant c.self.view_is place (leaves g c);

@@ -1,7 +1,7 @@
 use Rattle.std.proofs.Common.{arith}
 use Rattle.std.proofs.lemmas.Nat.Bits.{shr_and_one}
 use Rattle.ref_space.proofs.BitLemmas.{get_or-bits_of}
-use Rattle.ref_space.proofs.page.Page.is_free.Goals as goal
+use Rattle.ref_space.proofs.page.is_set.Goals as goal
 
 pub returns : goal.returns
 returns c = grind (arith, shr_and_one, get_or-bits_of)

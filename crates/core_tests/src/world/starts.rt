@@ -1,0 +1,87 @@
+//! Worlds whose numbers begin elsewhere than at one.
+
+use super::rows::{
+    begin, clear_next, cleared, drop_slot, hand, new, object, of_cycle, poll, refused, scan,
+    scanned, took, weak, worker_puts,
+};
+use super::{CONFIG, do_steps};
+use crate::arena::{all_that_is_left, limited};
+use ref_base::{Config, Fault, PlainStep, Reply, Step};
+use ref_objects::Start;
+use ref_world::World;
+use std::alloc::Allocator;
+use std::test::Fail;
+
+/// Where a world starts, by its first object and its first page.
+const fn start(obj: u32, page: u32) -> Start {
+    Start {
+        obj,
+        page,
+        ..Start::FIRST
+    }
+}
+
+/// Why a world of so many cells can't start so.
+fn refusal<A: Allocator + Copy>(alloc: A, cells: u32, start: Start) -> Option<Fault> {
+    match World::starting(alloc, Config { cells, ..CONFIG }, start) {
+        Ok(world) => {
+            world.end();
+            None
+        }
+        Err(fault) => Some(fault),
+    }
+}
+
+#[test]
+fn a_world_starts_only_where_its_numbers_can(rt: HostRuntime) {
+    // The cells, where it starts, and what it is refused. Cells 65 to 128 fill two pages, and twice as many are there.
+    let table = [
+        (128, start(0, 1), Some(Fault::BadConfig)),
+        (128, start(1, 0), Some(Fault::BadConfig)),
+        (128, start(1, 4_294_967_292), None),
+        (128, start(1, 4_294_967_293), Some(Fault::BadConfig)),
+        (129, start(1, 4_294_967_292), Some(Fault::BadConfig)),
+        (128, start(u32::MAX, 1), None),
+        (0, Start::FIRST, Some(Fault::BadConfig)),
+        (4_097, Start::FIRST, Some(Fault::BadConfig)),
+    ];
+    for (row, &(cells, start, want)) in table.iter().enumerate() {
+        assert_eq!(rt; refusal(rt.alloc(), cells, start), want, "row {row}");
+    }
+}
+
+#[test]
+fn a_start_is_refused_before_memory_is_taken(rt: HostRuntime) -> Result<(), Fail> {
+    let none = limited(rt.alloc(), 0)?;
+    let _rest = all_that_is_left(&rt, &none)?;
+    assert_eq!(rt; refusal(&none, 8, start(7, 9)), Some(Fault::NoMemory));
+    assert_eq!(rt; refusal(&none, 8, start(7, 0)), Some(Fault::BadConfig));
+    Ok(())
+}
+
+#[test]
+fn objects_and_cycles_are_numbered_from_the_start_on(rt: HostRuntime) -> Result<(), Fail> {
+    let story = [
+        (new(0, 0), object(u32::MAX - 1)),
+        (weak(1, 0, 0), object(u32::MAX)),
+        (new(2, 0), refused(Fault::NumbersSpent)),
+        (drop_slot(0), Reply::Done),
+        (begin(5), Reply::Cycle(u64::MAX)),
+        (scan(0), scanned(u32::MAX)),
+        (Step::Plain(PlainStep::EndMark), Reply::Doomed(1)),
+        (clear_next(0), cleared(u32::MAX)),
+        (Step::Plain(PlainStep::EndClear), Reply::Done),
+        (hand(0), of_cycle(u32::MAX, u64::MAX, 0)),
+        (worker_puts(0), Reply::Added(0)),
+        (poll(0), took(u32::MAX)),
+    ];
+    let start = Start {
+        obj: u32::MAX - 1,
+        cycle: u64::MAX - 1,
+        page: 9,
+    };
+    let mut world = World::starting(rt.alloc(), CONFIG, start)?;
+    do_steps(&rt, &mut world, &story);
+    world.end();
+    Ok(())
+}
