@@ -12,10 +12,10 @@ use Rattle.std.proofs.lemmas.List.{get_or-set_other}
 use Rattle.std.proofs.Math.ListN.{get_or-map}
 use Rattle.ref_base.specs.Members.{has}
 use Rattle.ref_space.specs.declared.round.Round.{Round}
-use Rattle.ref_space.specs.ColouredWords.{has_colour}
-use Rattle.ref_space.specs.Pages.{left_in, is_chosen_place}
+use Rattle.ref_space.specs.ColouredWords.{has_colour, recoloured}
+use Rattle.ref_space.specs.Pages.{left_in, is_chosen_place, has_chosen, taken_in}
 use Rattle.ref_space.specs.Moves.{Ways, AreFree, forward_of, ways_left}
-use Rattle.ref_space.specs.Naming.{HasTarget, IsSettled, stays_at, moves_from, leads_from, occupant_at, way_of}
+use Rattle.ref_space.specs.Naming.{HasTarget, IsHealed, IsSettled, stays_at, moves_from, leads_from, occupant_at, way_of}
 use Rattle.ref_space.specs.Tables.{brought, left_of, moved_from, numbers_at, without_number, without_if_any}
 use Rattle.ref_space.specs.Tables.{place_of_number}
 use Rattle.ref_space.proofs.FreeLemmas.{some-vacant}
@@ -29,7 +29,9 @@ use Rattle.ref_base.specs.Heaps.{with_field, with_reference}
 use Rattle.ref_space.specs.Naming.{tabled_of, changed_of, with_referent}
 use Rattle.std.proofs.lemmas.List.{get_or_past}
 use Rattle.std.proofs.Common.{nat_lt, ltb-false}
-use Rattle.ref_space.proofs.CellChanges.{field_again, referent_again}
+use Rattle.ref_space.proofs.CellChanges.{field_again, referent_again, few_places, nothing_left}
+use Rattle.ref_space.proofs.HealLemmas.{healed_held, recoloured-healed}
+use Rattle.ref_space.proofs.MoveLemmas.{none_chosen}
 use Rattle.ref_space.specs.Tables.{slotted, tabled_held, with_tabled, with_occupant}
 use Rattle.ref_space.specs.Pages.{next_cell, place_in_frame, placing}
 use Rattle.ref_space.proofs.PlaceUses.{next_is}
@@ -258,6 +260,35 @@ module _ {round : Round} {cells : List (Option Tabled)} {es : List Entry} {ways 
         not_true : (b : Bool) → not b ≡ true → b ≡ false
         not_true true is = absurd (false≢true is)
         not_true false is = refl
+
+    -- ---- where no page is chosen
+
+    module _ (none : has_chosen ways.pages.uses ≡ false) where
+      none_left_of : left_of t ≡ []
+      none_left_of =
+          ap left_of (sym view)
+          ∙ ap (λ frames. numbers_at os (taken_in ways.pages.uses frames)) (none_chosen ways.pages.uses none)
+
+      -- nothing moves
+      pub nothing_moves : (n : Option ℕ) → (brought t n ≡ t) × (without_if_any (left_of t) n ≡ left_of t)
+      nothing_moves None = (refl, refl)
+      nothing_moves (Some n) = (
+        ap (λ ns. if has ns n then moved_from t (place_of_number t.occupants n) else t) none_left_of,
+        ap (λ ns. without_number ns n) none_left_of ∙ sym none_left_of,
+      )
+
+      -- and a word leads where it led once it has the good colour
+      pub recoloured_held : (v : Option ℕ) → HasTarget t v
+          → (target_of t (recoloured round.good v) ≡ target_of t v) × IsHealed t (recoloured round.good v)
+      recoloured_held v has_target =
+          subst (λ (s : Table).
+          (target_of s (recoloured round.good v) ≡ target_of s v) × IsHealed s (recoloured round.good v)) view
+          (subst (λ w. (target_by ways os w ≡ target_by ways os v) × (leads_by round.good ways os true w ≡ true))
+          (sym (recoloured-healed round.good round.good ways os none false v led))
+          (healed_held round.good ways os (nothing_left sound none) (few_places sound) round.good false v led))
+        where
+          led : leads_by round.good ways os false v ≡ true
+          led = subst (λ (s : Table). HasTarget s v) (sym view) has_target
 
     -- ---- what is read of a cell
 

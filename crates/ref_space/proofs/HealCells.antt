@@ -1,9 +1,8 @@
 -- The fields of one object are healed in its cell, one after the other: meanwhile each word leads where it led.
-use Rattle.std.proofs.Common.{◌≡◌, ℕ, zero, suc, ◌+◌, ◌<◌, ◌≤◌, Bool, refl, sym, ap, ◌∙◌, arith, List, [], ◌∷◌, ◌++◌}
+use Rattle.std.proofs.Common.{◌≡◌, ℕ, zero, suc, ◌+◌, ◌<◌, ◌≤◌, refl, ap, ◌∙◌, arith, List, [], ◌∷◌, ◌++◌}
 use Rattle.std.proofs.Common.{map, take, drop}
 use Rattle.std.proofs.Common.{length, set, Option, Some, None, is_some, if◌then◌else◌, get_or}
 use Rattle.std.specs.Option.{option_map}
-use Rattle.std.specs.Prelude.{slice_index_or}
 use Rattle.ref_base.specs.Heaps.{with_field}
 use Rattle.ref_base.specs.CollectorRows.{referent_of}
 use Rattle.ref_space.specs.ColouredWords.{place_by}

@@ -15,8 +15,6 @@ use Rattle.ref_space.specs.declared.colour.Colour.{Colour}
 use Rattle.ref_space.specs.Moves.{Ways}
 use Rattle.ref_space.specs.ColouredWords.{place_by, has_colour}
 use Rattle.ref_space.specs.Naming.{stays_at, leads_from}
-use Rattle.std.specs.Bool.{OnTrue}
-use Rattle.std.specs.Option.{is_none}
 
 -- ---- what is read
 

@@ -1,6 +1,6 @@
 -- A word has the parts that it was made of, and no other number has parts.
-use Rattle.std.proofs.Common.{◌≡◌, ℕ, ◌==◌, ◌+◌, ◌*◌, arith, Some, None, Option, Bool, true, false, refl}
-use Rattle.std.proofs.Common.{ap, ◌∙◌, ◌&&◌}
+use Rattle.std.proofs.Common.{◌≡◌, ℕ, ◌==◌, ◌+◌, ◌*◌, arith, Some, None, Option, true, refl}
+use Rattle.std.proofs.Common.{ap, ◌∙◌}
 use Rattle.std.proofs.lemmas.Bool.{eq-eqb, false≢true}
 use Rattle.std.specs.Option.{is_some}
 use Rattle.ref_space.specs.ColouredWords.{colour_number, IsCell, coloured_word, is_coloured, IsWordOf, parts_of}

@@ -80,8 +80,27 @@ impl<A: Allocator + Copy> Table<A> {
     }
 
     /// What a word leads to moves where it was to go, if it is still to move. Answers the word of it in the good
-    /// colour: null of null. In time of a search of its number where it moves, and else in constant time.
+    /// colour: null of null. In constant time where no page is chosen; else in time of a search of its number where it
+    /// moves, and else in constant time.
+    #[inline(always)]
     pub(super) fn bring(&mut self, value: Word) -> Word
+        requires { HasTarget self.old value }
+        ensures named { target_of self.new result ≡ target_of self.new value }
+        ensures healed { IsHealed self.new result }
+        ensures after { self.new ≡ brought self.old (target_of self.old value) }
+        ensures left { left_of self.new ≡ without_if_any (left_of self.old) (target_of self.old value) }
+        ensures kept { (v : Option ℕ) → HasTarget self.old v
+            → (target_of self.new v ≡ target_of self.old v) × HasTarget self.new v }
+    {
+        if self.pages.has_chosen() {
+            return self.bring_chosen(value);
+        }
+        value.in_colour(self.round.good)
+    }
+
+    // The same where pages are chosen. Few loads are made then, so it stands apart, and each other load stays short.
+    #[cold]
+    fn bring_chosen(&mut self, value: Word) -> Word
         requires { HasTarget self.old value }
         ensures named { target_of self.new result ≡ target_of self.new value }
         ensures healed { IsHealed self.new result }

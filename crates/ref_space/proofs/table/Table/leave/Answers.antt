@@ -1,4 +1,4 @@
-use Rattle.ref_space.proofs.Common.{◌≡◌, ◌<◌, ◌∙◌, false≢true, ap, sym, refl, arith, length, is_some, slice_index_or}
+use Rattle.ref_space.proofs.Common.{◌≡◌, ◌∙◌, false≢true, ap, sym, refl, arith, is_some, slice_index_or}
 use Rattle.ref_space.proofs.Common.{Some, None}
 use Rattle.ref_space.specs.Tables.{brought, left_of, without_if_any}
 use Rattle.ref_space.proofs.BroughtLemmas.{number_at, stays_there}
