@@ -20,8 +20,3 @@ pub fn all_that_is_left<'a>(
     assert_eq!(rt; memory.chunk_capacity(), 0, "nothing is left");
     Ok(rest)
 }
-
-/// What an arena has beyond so many bytes: just these are left then.
-pub fn all_but<'a>(memory: &'a Bump, left: usize) -> Result<Vec<u8, &'a Bump>, AllocError> {
-    Vec::with_capacity(memory, memory.chunk_capacity().saturating_sub(left))
-}

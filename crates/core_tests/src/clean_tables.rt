@@ -1,9 +1,11 @@
 //! The table of a cleaner, call by call. What is kept beside a job is a number here, and so is the job.
 
+use crate::scarce::{MOST, Trial, is_refused};
 use crate::told::{Told, expect};
+use rationed::Rationed;
 use ref_base::{Fault, ObjNo};
 use ref_queue::CleanTable;
-use std::alloc::Global;
+use std::alloc::{Allocator, Global};
 use std::process::Abort;
 
 /// A call of the table.
@@ -17,7 +19,7 @@ enum Call {
     Close,
 }
 
-fn answer(table: &mut CleanTable<u64, u64>, call: Call) -> Told {
+fn answer<A: Allocator + Copy>(table: &mut CleanTable<u64, u64, A>, call: Call) -> Told {
     match call {
         Call::Register(object, kept, job) => match table.register(ObjNo(object), kept, job) {
             Ok(()) => Told::Done,
@@ -103,4 +105,53 @@ fn a_closed_table_still_gives_out_what_it_has(rt: HostRuntime) {
         (Call::Take(8), Told::Nothing),
     ];
     agree(&rt, rt.alloc(), &story, 1);
+}
+
+/// Registers a job with each request refused in turn: each time it comes back, and there is none of this object.
+/// Answers how many requests this makes.
+fn register<'a>(
+    rt: &impl Abort,
+    memory: &'a Rationed<Global>,
+    table: &mut CleanTable<u64, u64, &'a Rationed<Global>>,
+    object: u32,
+) -> u64 {
+    let job = u64::from(object);
+    let trial = Trial {
+        call: "CleanTable::register",
+        refused: Told::NotKept(Fault::NoMemory, 70, job),
+        done: Told::Done,
+    };
+    for met in 0..MOST {
+        memory.ration(met);
+        let told = answer(table, Call::Register(object, 70, job));
+        if !is_refused(rt, memory, &trial, met, told) {
+            return met;
+        }
+        expect(rt, 0, answer(table, Call::Take(object)), Told::Nothing);
+    }
+    MOST
+}
+
+#[test]
+fn a_job_without_memory_comes_back(rt: HostRuntime) {
+    let memory = Rationed::new(rt.alloc());
+    let mut table = CleanTable::new(&memory);
+    let mut requests = 0u64;
+    for object in 0..100 {
+        requests = requests.saturating_add(register(&rt, &memory, &mut table, object));
+    }
+    assert!(rt; 1 < requests && requests < MOST, "{requests} requests");
+    for object in 0..100 {
+        let job = Told::Job(70, u64::from(object));
+        expect(
+            &rt,
+            object as usize,
+            answer(&mut table, Call::Take(object)),
+            job,
+        );
+    }
+    match table.end() {
+        Ok(()) => {}
+        Err(_table) => panic!(rt; "a job is left"),
+    }
 }

@@ -73,7 +73,7 @@ fn strength<A: Allocator + Copy, B: Allocator + Copy>(alloc: B, graph: &Graph<A>
     }
 }
 
-fn count<A: Allocator + Copy>(alloc: Global, graph: &Graph<A>) -> Told {
+fn count<A: Allocator + Copy, B: Allocator + Copy>(alloc: B, graph: &Graph<A>) -> Told {
     match strengths(alloc, graph) {
         Ok(listed) => Told::Count(listed.len() as u64),
         Err(fault) => Told::Refused(fault),

@@ -4,8 +4,14 @@ use Rattle.ref_share.proofs.Common.{◌≡◌, ℕ, List, [], ◌∷◌, length,
 use Rattle.ref_share.proofs.Common.{arith, get_or, length-append, map, zero, suc, Cycle, BadQueue, HoldName, ClearHeap}
 use Rattle.ref_share.proofs.Common.{HeldNotice, entry, Idle, GoesBack, Delivers, HeapView, HeapEntry, PutsNotice}
 use Rattle.ref_share.proofs.Common.{QueueEntry, queue_view, KeepsPace, Works, notices_put, references_of, Nothing}
-use Rattle.ref_share.proofs.Common.{Added, Dropped, Notice, QueueSeat, SharedQueue}
-use Rattle.ref_share.specs.Deliveries.{Sends}
+use Rattle.ref_share.proofs.Common.{Added, Busy, Dropped, Notice, QueueSeat, SharedQueue}
+use Rattle.ref_share.specs.Deliveries.{Sends, IsDeclinedWith, StopsWith}
+use Rattle.ref_base.specs.declared.fault.Fault.TheVariants.{WrongPhase}
+use Rattle.ref_base.specs.declared.plain_step.PlainStep.TheVariants.{Begin}
+use Rattle.ref_base.specs.declared.reply.Reply.{Reply}
+use Rattle.ref_base.specs.declared.reply.Reply.TheVariants as told
+use Rattle.ref_base.specs.declared.urgency.Urgency.TheVariants.{Normal}
+use Rattle.ref_share.specs.declared.answers.ShareFault.TheVariants.{Refused}
 use Rattle.ref_base.specs.declared.heap_step.HeapStep.TheVariants as heap
 use Rattle.ref_queue.specs.declared.queue.Put.TheVariants as puts
 use Rattle.ref_world.specs.declared.heap_machine.HeapReply.TheVariants as replies
@@ -24,6 +30,10 @@ hands n = entry 0 (heap.Hand 0) (replies.Notice (notice n))
 
 abbrev puts_in : ℕ → (position : ℕ) → QueueEntry
 puts_in n position = entry 0 (queue.Put (notice n)) (answers.Put (Ok (puts.Added position)))
+
+-- a begin at the clock 5, with this reply
+abbrev begins : Reply → HeapEntry
+begins reply = entry 0 (heap.Plain (Begin 5 Normal)) (replies.Told reply)
 
 module _ {A : Type 0} (start : Option ClearHeap) (first second : SharedQueue A) (s t u : QueueSeat) where
   -- the heap's one seat, which has made these calls
@@ -102,6 +112,51 @@ module _ {A : Type 0} (start : Option ClearHeap) (first second : SharedQueue A) 
   -- what no queue took goes back to the heap by a release
   dropped_and_never_released : ¬ (GoesBack 2 (hold 2) (seat []) (Ok (Dropped 2)) (seat []))
   dropped_and_never_released gives = let none = gives.1.2 in absurd cc
+
+  -- ---- a cycle that stops
+
+  a_cycle_is_begun_already : IsDeclinedWith (seat []) (Begin 5 Normal) (Refused WrongPhase)
+      (seat (begins (told.Refused WrongPhase) ∷ []))
+  a_cycle_is_begun_already = inl ((refl, refl, refl), ([], refl), refl)
+
+  what_was_done_is_not_declined : ¬ (IsDeclinedWith (seat []) (Begin 5 Normal) (Refused WrongPhase)
+      (seat (begins told.Done ∷ [])))
+  what_was_done_is_not_declined declined =
+      elim declined [
+        | inl called ↦ let answer = ap (λ (calls : List HeapEntry). map (λ call. call.reply) calls) called.2 in absurd cc
+        | inr spent ↦ let other = spent.0 in absurd cc
+      ]
+
+  it_stops_before_anything_is_done : StopsWith (seat []) queues (s ∷ t ∷ []) 0 5 Normal (Refused WrongPhase)
+      (seat (begins (told.Refused WrongPhase) ∷ [])) (s ∷ t ∷ [])
+  it_stops_before_anything_is_done = inl (inl a_cycle_is_begun_already, refl)
+
+  -- it waits for its turns
+  it_never_stops_as_busy : (w : HeapView) (after : List QueueSeat)
+      → ¬ (StopsWith (seat []) queues (s ∷ t ∷ []) 0 5 Normal Busy w after)
+  it_never_stops_as_busy w after stops =
+      elim stops [
+        | inl early ↦ elim early.0 [
+          | inl begin ↦ begin
+          | inr phase ↦ elim phase [
+            | inl mark ↦ elim mark.1 [
+              | inl work ↦ work
+              | inr end ↦ end.0
+            ]
+            | inr clearing ↦ elim clearing.1 [
+              | inl work ↦ work
+              | inr end ↦ end.0
+            ]
+          ]
+        ]
+        | inr late ↦ elim late [
+          | inl delivery ↦ delivery.2.3.1
+          | inr sweep ↦ elim sweep.1 [
+            | inl work ↦ work
+            | inr end ↦ end.0
+          ]
+        ]
+      ]
 
   -- ---- a worker's thread
 

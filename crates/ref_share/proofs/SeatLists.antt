@@ -30,6 +30,12 @@ at_end : {T : Type 0} (xs : List T) (x : T) → slice_get (xs ++ x ∷ []) (leng
 at_end [] x = refl
 at_end (z ∷ xs) x = at_end xs x
 
+-- a list of one is that one
+pub only_one : {T : Type 0} (xs : List T) (x : T) → length xs ≡ 1 → xs ≡ get_or xs 0 x ∷ []
+only_one [] x one = absurd (omega (arith, one))
+only_one (y ∷ []) x one = refl
+only_one (y ∷ z ∷ xs) x one = absurd (omega (arith, one))
+
 module _ {A : Type 0} where
   -- the first seat of a new queue is one of it
   pub new_seat : (queue : SharedQueue A) (number first : ℕ) (seat : QueueSeat) → IsNewQueue queue number first seat

@@ -1,15 +1,19 @@
--- From the heap to a queue: which calls `enqueue` and `deliver_one` have made, and what they answer (this project's
--- profile; Java SE 17 has `Reference.enqueue`).
+-- From the heap to a queue: which calls `enqueue` and `deliver_one` have made, and what they answer; and what stops a
+-- whole cycle (this project's profile; Java SE 17 has `Reference.enqueue`).
 use Rattle.std.specs.Prelude.{◌≡◌, ℕ, ◌<◌, ◌≤◌, ◌⊎◌, Bool, true, false, List, length, Some, None, Result, Ok}
 use Rattle.std.specs.Prelude.{Err, slice_get, slice_set}
 use Rattle.ref_base.specs.HeapSteps.{NamedStep}
 use Rattle.ref_base.specs.declared.fault.Fault.{Fault}
-use Rattle.ref_base.specs.declared.fault.Fault.TheVariants.{BadQueue}
+use Rattle.ref_base.specs.declared.fault.Fault.TheVariants.{BadQueue, GreyLeft, ClearingLeft, SweepLeft}
+use Rattle.ref_base.specs.declared.heap_step.HeapStep.TheVariants.{Hand}
 use Rattle.ref_base.specs.declared.heap_step.HoldName.{HoldName}
+use Rattle.ref_base.specs.declared.plain_step.PlainStep.{PlainStep}
+use Rattle.ref_base.specs.declared.plain_step.PlainStep.TheVariants as plain
+use Rattle.ref_base.specs.declared.urgency.Urgency.{Urgency}
 use Rattle.ref_clear.specs.ClearHeaps.{HeldNotice}
 use Rattle.ref_queue.specs.declared.queue.Put.{Put}
 use Rattle.ref_queue.specs.declared.queue.Put.TheVariants as puts
-use Rattle.ref_share.specs.HeapCalls.{GivesNotice, Releases}
+use Rattle.ref_share.specs.HeapCalls.{GivesNotice, Releases, Declined}
 use Rattle.ref_share.specs.HeapSeats.{HeapView}
 use Rattle.ref_share.specs.QueueCalls.{PutsNotice}
 use Rattle.ref_share.specs.QueueSeats.{SharedQueue, QueueSeat, queue_view, IsQueueSeat}
@@ -77,3 +81,43 @@ module _ {A : Type 0} (step : NamedStep) (v : HeapView) (queues : List (SharedQu
     Delivers result w after =
         (notice : HeldNotice) × (u : HeapView) × GivesNotice v step (Ok (Some notice)) u
         × Sends notice queues seats u result w after
+
+-- ---- what stops a cycle
+
+-- the step was declined, and the fault tells why
+abbrev pub IsDeclinedWith : HeapView → PlainStep → ShareFault → HeapView → Type 0
+IsDeclinedWith v step (Refused fault) w = Declined v step fault w
+IsDeclinedWith v step fault w = ⊥
+
+-- work is left of a phase, which has not to end yet
+abbrev pub tells_of_work : ShareFault → Bool
+tells_of_work (Refused GreyLeft) = true
+tells_of_work (Refused ClearingLeft) = true
+tells_of_work (Refused SweepLeft) = true
+tells_of_work fault = false
+
+-- of a phase its work was declined, or its end, and that not for work that is left
+abbrev pub StopsPhase : (work end : PlainStep) → ShareFault → HeapView → Type 0
+StopsPhase work end fault w =
+    (v : HeapView)
+    × (IsDeclinedWith v work fault w ⊎ (IsDeclinedWith v end fault w × (tells_of_work fault ≡ false)))
+
+module _ {A : Type 0} (v : HeapView) (queues : List (SharedQueue A)) (seats : List QueueSeat) (worker now : ℕ)
+    (urgency : Urgency) where
+  -- before its deliveries: it was not begun, or its mark or its clearing stopped
+  abbrev pub StopsEarly : ShareFault → HeapView → Type 0
+  StopsEarly fault w =
+      IsDeclinedWith v (plain.Begin now urgency) fault w
+      ⊎ (StopsPhase (plain.Scan worker) plain.EndMark fault w
+      ⊎ StopsPhase (plain.ClearNext worker) plain.EndClear fault w)
+
+  -- at a delivery
+  abbrev pub StopsDelivering : ShareFault → HeapView → List QueueSeat → Type 0
+  StopsDelivering fault w after =
+      (u : HeapView) × (between : List QueueSeat) × Delivers (Hand worker) u queues between (Err fault) w after
+
+  -- the cycle stops with this fault only where one of its steps was declined so; early, no queue has done anything
+  abbrev pub StopsWith : ShareFault → HeapView → List QueueSeat → Type 0
+  StopsWith fault w after =
+      (StopsEarly fault w × (after ≡ seats))
+      ⊎ (StopsDelivering fault w after ⊎ StopsPhase (plain.Sweep worker) plain.EndSweep fault w)

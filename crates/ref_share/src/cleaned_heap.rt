@@ -1,6 +1,6 @@
 //! All that a program of one thread uses: a heap with one queue, and the cleaner that the queue tells what is gone.
 
-ghost use Rattle.std.specs.Prelude.{◌≡◌, IfOk};
+ghost use Rattle.std.specs.Prelude.{◌≡◌, [], ◌∷◌, IfOk, IfErr};
 ghost use Rattle.ref_base.specs.declared.plain_step.PlainStep.TheVariants.{New, Refer, Drop, RefersTo};
 ghost use Rattle.ref_base.specs.declared.plain_step.PlainStep.TheVariants.{Begin, EndSweep};
 ghost use Rattle.ref_objects.specs.Grounds.{starting_refusal};
@@ -8,6 +8,7 @@ ghost use Rattle.ref_share.specs.CleanSeats.{clean_view};
 ghost use Rattle.ref_share.specs.CleanedHeaps.{HasSeats};
 ghost use Rattle.ref_share.specs.Cleanings.{RegistersJob};
 ghost use Rattle.ref_share.specs.CleanLoops.{GoesOn};
+ghost use Rattle.ref_share.specs.Deliveries.{StopsWith};
 ghost use Rattle.ref_share.specs.HeapCalls.{Performs, Accepted};
 ghost use Rattle.ref_share.specs.HeapSeats.{HeapView, heap_view};
 ghost use Rattle.ref_share.specs.QueueSeats.{queue_view};
@@ -186,6 +187,9 @@ impl CleanedHeap<Job> {
         ensures begins { IfOk result (λ _. (v : HeapView)
             × Accepted (heap_view self.old.heap_seat) (Begin now urgency) v) }
         ensures ends { IfOk result (λ _. (v : HeapView) × Accepted v EndSweep (heap_view self.new.heap_seat)) }
+        ensures stops { IfErr result (λ fault. StopsWith (heap_view self.old.heap_seat) (self.old.queue ∷ [])
+            (self.old.queue_seat ∷ []) 0 now urgency fault (heap_view self.new.heap_seat)
+            (self.new.queue_seat ∷ [])) }
     {
         let queues = slice::from_ref(&self.queue);
         let seats = slice::from_mut(&mut self.queue_seat);

@@ -1,8 +1,8 @@
 //! One whole cycle of the collector, by one worker.
 
-ghost use Rattle.std.specs.Prelude.{IfOk};
+ghost use Rattle.std.specs.Prelude.{IfOk, IfErr};
 ghost use Rattle.ref_base.specs.declared.plain_step.PlainStep.TheVariants.{Begin, EndSweep};
-ghost use Rattle.ref_share.specs.Deliveries.{AreSeats};
+ghost use Rattle.ref_share.specs.Deliveries.{AreSeats, StopsPhase, StopsWith};
 ghost use Rattle.ref_share.specs.HeapCalls.{Accepted};
 ghost use Rattle.ref_share.specs.HeapSeats.{HeapView, heap_view, IsHeapSeat};
 
@@ -36,6 +36,8 @@ pub fn cycle<R: Wait, A: Allocator + Copy>(
     ensures seats { IsHeapSeat heap.now heap_seat.new × AreSeats queues.now queue_seats.new }
     ensures begins { IfOk result (λ _. (v : HeapView) × Accepted (heap_view heap_seat.old) (Begin now urgency) v) }
     ensures ends { IfOk result (λ _. (v : HeapView) × Accepted v EndSweep (heap_view heap_seat.new)) }
+    ensures stops { IfErr result (λ fault. StopsWith (heap_view heap_seat.old) queues.now queue_seats.old worker now
+        urgency fault (heap_view heap_seat.new) queue_seats.new) }
 {
     heap.perform(rt, heap_seat, PlainStep::Begin { now, urgency })?;
     end_phase(
@@ -73,6 +75,7 @@ fn end_phase<R: Wait, A: Allocator + Copy>(
     requires { IsHeapSeat heap.now seat.old }
     ensures seat { IsHeapSeat heap.now seat.new }
     ensures ends { IfOk result (λ _. (v : HeapView) × Accepted v end (heap_view seat.new)) }
+    ensures stops { IfErr result (λ fault. StopsPhase work end fault (heap_view seat.new)) }
 {
     for _ in rt.forever() {
         if heap.perform(rt, seat, work)? == Reply::Nothing {

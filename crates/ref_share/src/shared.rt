@@ -1,7 +1,7 @@
 //! What threads share: a machine in turns, which began in a known state.
 
 ghost use Rattle.std.specs.Prelude.{◌≡◌, ◌+◌, length, IfOk, IfErr};
-ghost use Rattle.ref_turn.specs.Seats.{Longer, Begins};
+ghost use Rattle.ref_turn.specs.Seats.{Longer, Begins, IsLeftOpen};
 ghost use Rattle.ref_turn.specs.Turns.{view};
 ghost use Rattle.ref_turn.specs.declared.turn.TurnFault.TheVariants.{Spent};
 ghost use Rattle.ref_share.specs.SeatCalls.{Called, RanOut, IsTryFault, TookIn};
@@ -97,8 +97,9 @@ impl<M: Machine, A: Allocator + Copy> Shared<M, A> {
     // Ends it, and gives the machine back. Where a turn is open, what its slot held comes back.
     pub(crate) fn end(self, seat: SeatFor<M>) -> Result<M, Option<M>>
         requires { IsSeatIn M.stands_for M.steps_to M.first_state self seat }
-        ensures { IfOk result (λ machine.
+        ensures ok { IfOk result (λ machine.
             IsLeftFrom M.stands_for M.steps_to (M.first_state self.frame) (view seat.seat) machine) }
+        ensures err { IfErr result (λ _. IsLeftOpen M.stands_for M.steps_to (view seat.seat)) }
     {
         let Shared { turn, frame: _ } = self;
         turn.finish(seat.into_seat())

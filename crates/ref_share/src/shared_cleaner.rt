@@ -1,8 +1,11 @@
 //! The cleaner that threads share.
 
-ghost use Rattle.std.specs.Prelude.{◌≡◌, IfOk, OnErr, Err};
+ghost use Rattle.std.specs.Prelude.{◌≡◌, IfOk, IfErr, OnErr, Err};
 ghost use Rattle.ref_base.specs.declared.fault.Fault.TheVariants.{NoMemory};
 ghost use Rattle.ref_share.specs.CleanSeats.{clean_view, IsCleanSeat, IsFirstCleanSeat, LeavesTable};
+ghost use Rattle.ref_share.specs.CleanMachines.{IsCleanTurn};
+ghost use Rattle.ref_share.specs.Selves.{IsItself};
+ghost use Rattle.ref_turn.specs.Seats.{IsLeftOpen};
 
 use crate::endings::end_empty;
 use crate::{CleanMachine, SeatFor, Shared};
@@ -66,7 +69,8 @@ impl<A: Allocator + Copy> SharedCleaner<A> {
         seat: CleanSeat<A>,
     ) -> Result<CleanTable<Hold, Job, A>, Option<CleanTable<Hold, Job, A>>>
         requires { IsCleanSeat self seat }
-        ensures { IfOk result (λ table. LeavesTable (clean_view seat) table) }
+        ensures ok { IfOk result (λ table. LeavesTable (clean_view seat) table) }
+        ensures err { IfErr result (λ _. IsLeftOpen IsItself IsCleanTurn (clean_view seat)) }
     {
         match self.end(seat) {
             Ok(machine) => Ok(machine.into_table()),

@@ -3,8 +3,10 @@
 ghost use Rattle.std.specs.Prelude.{◌≡◌, IfOk, IfErr};
 ghost use Rattle.ref_objects.specs.Grounds.{starting_refusal};
 ghost use Rattle.ref_clear.specs.ClearHeaps.{ClearHeap};
+ghost use Rattle.ref_clear.specs.Standing.{HeapStands};
+ghost use Rattle.ref_turn.specs.Seats.{IsLeftOpen};
 ghost use Rattle.ref_turn.specs.declared.turn.TurnFault.TheVariants as faults;
-ghost use Rattle.ref_share.specs.HeapMachines.{Acts};
+ghost use Rattle.ref_share.specs.HeapMachines.{Acts, IsHeapTurn};
 ghost use Rattle.ref_share.specs.SeatCalls.{Called, RanOut, IsTryFault, MakesUnless};
 ghost use Rattle.ref_share.specs.HeapSeats.{heap_view, IsHeapSeat, IsNewHeap, LeavesHeap};
 
@@ -113,7 +115,8 @@ impl<A: Allocator + Copy> SharedHeap<A> {
     /// turn held comes back.
     pub fn finish(self, seat: HeapSeat<A>) -> Result<WorldHeap<A>, Option<WorldHeap<A>>>
         requires { IsHeapSeat self seat }
-        ensures { IfOk result (λ heap. LeavesHeap self (heap_view seat) heap) }
+        ensures ok { IfOk result (λ heap. LeavesHeap self (heap_view seat) heap) }
+        ensures err { IfErr result (λ _. IsLeftOpen HeapStands IsHeapTurn (heap_view seat)) }
     {
         match self.end(seat) {
             Ok(machine) => Ok(machine.heap),

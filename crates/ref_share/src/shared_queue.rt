@@ -6,6 +6,9 @@ ghost use Rattle.ref_share.specs.declared.answers.ShareFault.TheVariants.{Refuse
 ghost use Rattle.ref_share.specs.QueueSeats.{queue_view, IsQueueSeat, IsNewQueue, LeavesQueue};
 ghost use Rattle.ref_share.specs.QueueCalls.{PutsNotice, PollsNow, PollsWithin, PollsUntil, ClosesQueue};
 ghost use Rattle.ref_share.specs.QueueCalls.{ComesBack, IsPollAnswer, IsUnmade, PollsOnce, TellsPoll, refuses_put};
+ghost use Rattle.ref_share.specs.QueueMachines.{IsQueueTurn};
+ghost use Rattle.ref_share.specs.Selves.{IsItself};
+ghost use Rattle.ref_turn.specs.Seats.{IsLeftOpen};
 
 use crate::bell::Bell;
 use crate::{Polled, QueueMachine, QueueReply, QueueStep, SeatFor, ShareFault, Shared};
@@ -198,7 +201,8 @@ impl<A: Allocator + Copy> SharedQueue<A> {
     /// call, what the slot of the turn held comes back.
     pub fn finish(self, seat: QueueSeat<A>) -> Result<Queue<Notice, A>, Option<Queue<Notice, A>>>
         requires { IsQueueSeat self seat }
-        ensures { IfOk result (λ queue. LeavesQueue self (queue_view seat) queue) }
+        ensures ok { IfOk result (λ queue. LeavesQueue self (queue_view seat) queue) }
+        ensures err { IfErr result (λ _. IsLeftOpen IsItself IsQueueTurn (queue_view seat)) }
     {
         match self.end(seat) {
             Ok(machine) => Ok(machine.into_queue()),

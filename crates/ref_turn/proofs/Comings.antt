@@ -2,11 +2,12 @@
 use Rattle.ref_turn.proofs.Common.{◌≡◌, ◌≢◌, zero, suc, ◌^◌, ◌<◌, ◌⊎◌, inr, ⊎_elim, refl, sym, ap, ◌∙◌, [], ◌∷◌, ◌++◌}
 use Rattle.ref_turn.proofs.Common.{length, set, length-append, subst, arith, Some, some-injective, some-ne-none, State}
 use Rattle.ref_turn.proofs.Common.{opening, Idle, Spent, View, Option, calls_by, Reaches, IsOpen, Knows, SeatOk}
-use Rattle.ref_turn.proofs.Common.{first_view, EndsAs}
-use Rattle.std.proofs.Common.{ℕ, inl, List, le_refl}
+use Rattle.ref_turn.proofs.Common.{first_view, EndsAs, IsLegalLog}
+use Rattle.std.proofs.Common.{◌+◌, ℕ, inl, List, le_refl}
 use Rattle.atomic_table.specs.Table.{Splits, Joins, Final, Seen}
 use Rattle.ref_turn.specs.declared.history.Origin.{Origin}
 use Rattle.ref_turn.specs.Rule.{Turned}
+use Rattle.ref_turn.specs.Seats.{IsLeftOpen}
 use Rattle.ref_turn.specs.Steps.{split_view, taken_in, spent_view}
 use Rattle.atomic_table.proofs.Lists.{set_here, set_else, set_again, at_longer}
 use Rattle.ref_turn.proofs.Logs.{starts_self, reaches_start, reaches_legal}
@@ -185,3 +186,28 @@ module _ {M X S R : Type 0} (stands_for : M → X → Type 0) (steps_to : X → 
       → v.stage ≡ Idle → Final (Seen (Rule k) id v) ws xs → get_elem? ws 0 ≡ some a → get_elem? ws 1 ≡ some b
       → a ≡ b → get_elem? xs 0 ≡ some slot → (m : M) × (slot ≡ Some m) × EndsAs stands_for steps_to v m
   finishes k id v ws xs a b slot idle final served tickets same has = grind (arith, some-injective, final.4 0)
+
+  -- as the table ends with a turn open, a ticket that was drawn has not come yet
+  pub left_open : (k : Origin M) (id : ℕ) (v : V) (ws : List ℕ) (xs : List (Option M)) (a b : ℕ) → v.stage ≡ Idle
+      → Final (Seen (Rule k) id v) ws xs → get_elem? ws 0 ≡ some a → get_elem? ws 1 ≡ some b → a ≢ b
+      → IsLeftOpen stands_for steps_to v
+  left_open k id v ws xs a b idle final served tickets apart =
+      let r = final.1.0 in
+      let was = r.each_seat id v final.1.1 in
+      let unspent : v.stage ≢ Spent = λ is. differs Idle tt (sym idle ∙ is) in
+      let own = subst (Knows r.log r.served r.tickets final.0.views id v) idle was.knows in
+      let words = sym r.words_are ∙ final.2 in
+      let is_a : r.served ≡ a = some-injective _ _ (ap (λ l. get_elem? l 0) words ∙ served) in
+      let is_b : r.tickets ≡ b = some-injective _ _ (ap (λ l. get_elem? l 1) words ∙ tickets) in
+      let more : r.served ≢ r.tickets = λ same. apart (sym is_a ∙ same ∙ is_b) in (
+        record v { seen = r.log; drawn = r.tickets; looks = v.looks + 1 },
+        ((refl, refl, refl), was.seen, refl),
+        (
+          subst (λ s. IsLegalLog stands_for steps_to s r.log) (sym (was.start unspent)) r.legal,
+          ap (λ n. calls_by n r.log) own.0 ∙ own.1,
+        ),
+        omega arith,
+        was.drawn,
+        omega (arith, was.first unspent, r.counted, r.behind, more),
+        r.small,
+      )

@@ -3,7 +3,8 @@
 use Rattle.ref_turn.proofs.Common.{◌≡◌, ◌+◌, ◌^◌, ◌≤◌, [], ◌∷◌, Some, refl, arith, Entry, Idle, View, Leads, entry}
 use Rattle.ref_turn.proofs.Common.{Longer, Extends, IsHistory, EndsAs}
 use Rattle.std.proofs.Common.{ℕ, ◌-◌, List}
-use Rattle.ref_turn.specs.Seats.{SawBusy, Begins, IsFirst}
+use Rattle.ref_turn.proofs.Logs.{starts_length}
+use Rattle.ref_turn.specs.Seats.{SawBusy, Begins, IsFirst, IsLeftOpen}
 
 abbrev IsCount : ℕ → ℕ → Type 0
 IsCount m x = x ≡ m
@@ -113,3 +114,23 @@ grows (call ∷ log) x y run = let rest = grows log run.0 y run.2 in omega (arit
 
 it_does_not_end_with_14 : ¬ (EndsAs IsCount Counts after 14)
 it_does_not_end_with_14 ends = grind (arith, grows, ends.3 10 10)
+
+it_ends_within_a_turn : IsLeftOpen IsCount Counts after
+it_ends_within_a_turn = (
+  seat (first_call ∷ second_call ∷ []) (second_call ∷ []) 3 3,
+  ((refl, refl, refl), ([], refl), refl),
+  ((λ a x is stands. (15, led a x is stands)), refl),
+  omega arith,
+  omega arith,
+  omega arith,
+  omega arith,
+)
+
+-- it has seen the turn of each ticket that there is
+abbrev at_the_last_ticket : View ℕ ℕ ℕ
+at_the_last_ticket = record after { first = 2 ^ 64 - 3 }
+
+with_no_ticket_to_come_none_is_left_open : ¬ (IsLeftOpen IsCount Counts at_the_last_ticket)
+with_no_ticket_to_come_none_is_left_open left =
+    let more = starts_length left.0.seen at_the_last_ticket.seen left.1.1 in
+    absurd (omega (arith, left.1.0.1, more, left.5, left.6))

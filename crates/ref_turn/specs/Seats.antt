@@ -1,5 +1,5 @@
 -- What a call says of the views of seats.
-use Rattle.std.specs.Prelude.{◌≡◌, ℕ, ◌+◌, ◌-◌, ◌^◌, ◌<◌, List, [], ◌∷◌, ◌++◌, length, Some}
+use Rattle.std.specs.Prelude.{◌≡◌, ℕ, ◌+◌, ◌-◌, ◌^◌, ◌<◌, ◌≤◌, List, [], ◌∷◌, ◌++◌, length, Some}
 use Rattle.ref_turn.specs.declared.history.Entry.{Entry}
 use Rattle.ref_turn.specs.declared.history.View.{View}
 use Rattle.ref_turn.specs.History.{calls_by, StartsWith, Reaches, IsLegalLog}
@@ -40,6 +40,18 @@ module _ {M S R : Type 0} where
   -- it looked at the ended turns in this call, and more tickets were drawn than turns had ended, but not the last
   abbrev pub SawBusy : View M S R → View M S R → Type 0
   SawBusy v w = (v.looks < w.looks) × (w.first + length w.seen < w.drawn) × (w.drawn < 2 ^ 64 - 1)
+
+  -- had the seat looked once more as it all ended, it would know w: it made no further call, and a ticket that was drawn
+  -- had not come yet
+  abbrev pub IsLeftOpen : {X : Type 0} → (M → X → Type 0) → (X → S → R → X → Type 0) → View M S R → Type 0
+  IsLeftOpen stands_for steps_to v =
+      (w : View M S R)
+      × Longer v w
+      × IsHistory stands_for steps_to w
+      × (v.looks < w.looks)
+      × (v.drawn ≤ w.drawn)
+      × (w.first + length w.seen < w.drawn)
+      × (w.drawn < 2 ^ 64)
 
   -- w is of a new seat, cut off one that has seen what v has
   abbrev pub Begins : View M S R → View M S R → Type 0

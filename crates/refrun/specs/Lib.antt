@@ -24,6 +24,7 @@ pub mod Traces
 pub mod Listings
 pub mod StressChecks
 pub mod StressEvidence
+pub mod StressRuns
 pub mod StressSeats
 pub mod DeclarationViews
 pub mod GraphReading

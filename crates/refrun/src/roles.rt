@@ -76,19 +76,22 @@ impl<'a> Station<'a> {
         (heap_seat, queue_seat)
     }
 
-    /// A mutator's rounds. In each it makes an object and a weak reference to it, lets the object go, and every other
-    /// time enqueues the reference. A round for which no cell is free is left out.
+    /// A mutator's rounds, until the tally stops them. In each it makes an object and a weak reference to it, lets the
+    /// object go, and every other time enqueues the reference. A round for which no cell is free is left out.
     pub(crate) fn mutate<R: Wait>(
         &mut self,
         rt: &R,
         mutator: MutNo,
-        rounds: u32,
+        rounds: u64,
     ) -> Result<(), Fault>
         requires { IsSeated self.old }
         ensures { StaysSeated self.old self.new }
     {
         for round in 0..rounds {
-            let slot = SlotNo(1 + round % 8);
+            if self.shared.tally.is_stopped() {
+                return Ok(());
+            }
+            let slot = SlotNo(1 + (round % 8) as u32);
             let is_made = self.make(rt, mutator, slot)?;
             if is_made && round % 2 == 0 {
                 self.enqueue(rt, mutator, slot)?;

@@ -11,13 +11,19 @@ pub struct StressOptions {
     pub workers: u32,
     /// Threads that take what was enqueued, each a mutator of the heap as well: 1 to 8.
     pub pollers: u32,
-    /// Rounds of each mutator: 1 to 10,000.
-    pub rounds: u32,
+    /// Rounds of each mutator, or fewer where the run's tally stops them.
+    pub rounds: u64,
 }
 
 impl StressOptions {
+    ghost use Rattle.std.specs.Prelude.{◌≡◌};
+    ghost use Rattle.ref_base.specs.Limits.{is_within_limits};
+    ghost use Rattle.refrun.specs.StressRuns.{has_threads_in_range};
+
     // The heap of the run. It is within the limits of a heap only where there are at most 8 mutators and pollers.
-    pub(crate) fn config(&self) -> Config {
+    pub(crate) fn config(&self) -> Config
+        ensures { is_within_limits result ≡ has_threads_in_range self.now }
+    {
         Config {
             mutators: self.mutators.saturating_add(self.pollers),
             workers: self.workers,

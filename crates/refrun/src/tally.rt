@@ -1,15 +1,16 @@
-//! How far a stress run is.
+//! How far a stress run is, and whether it is to go on.
 
 use std::fmt;
-use std::sync::atomic::{AtomicU64, Ordering};
+use std::sync::atomic::{AtomicBool, AtomicU64, Ordering};
 
-/// What a stress run has done so far. The run counts, and any thread may look meanwhile.
+/// What a stress run has done so far. The run counts, and any thread may look meanwhile, or stop the mutators.
 #[derive(Drop)]
 pub struct Tally {
     rounds: AtomicU64,
     cycles: AtomicU64,
     notices: AtomicU64,
     moves: AtomicU64,
+    is_stopped: AtomicBool,
 }
 
 /// What a tally showed. It prints as `7 rounds, 1 cycles, 3 notices, 2 moves`.
@@ -48,7 +49,17 @@ impl Tally {
             cycles: AtomicU64::new(0),
             notices: AtomicU64::new(0),
             moves: AtomicU64::new(0),
+            is_stopped: AtomicBool::new(false),
         }
+    }
+
+    /// No mutator begins a round any more; the run ends as it does behind its last round. Takes no memory.
+    pub fn stop(&self) {
+        self.is_stopped.store(true, Ordering::SeqCst);
+    }
+
+    pub(crate) fn is_stopped(&self) -> bool {
+        self.is_stopped.load(Ordering::SeqCst)
     }
 
     /// What was done so far, each number as it was when it was looked at. Takes no memory.

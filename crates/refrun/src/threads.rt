@@ -1,11 +1,13 @@
 //! A stress run: threads over one heap and one queue, and the queue's lists once they have ended.
 
-ghost use Rattle.std.specs.Prelude.{◌≡◌, All, IfOk, IfSome, IfNone, OnErr, Err, map};
+ghost use Rattle.std.specs.Prelude.{◌≡◌, false, All, IfOk, IfSome, IfNone, OnErr, Err, map};
 ghost use Rattle.ref_share.specs.HeapSeats.{IsHeapSeat};
 ghost use Rattle.ref_share.specs.QueueSeats.{IsQueueSeat};
 ghost use Rattle.refrun.specs.StressChecks.{IsFirstFailure, Passes};
 ghost use Rattle.refrun.specs.StressEvidence.{IsEvidence};
 ghost use Rattle.refrun.specs.StressSeats.{IsSeated, IsSeatedAt};
+ghost use Rattle.ref_base.specs.declared.fault.Fault.TheVariants.{BadConfig};
+ghost use Rattle.refrun.specs.StressRuns.{has_threads_in_range};
 
 use crate::evidence::{Evidence, evidence_of};
 use crate::lists::{Check, check_lists};
@@ -25,7 +27,7 @@ use std::thread::Threads;
 /// What one thread is for.
 #[derive(Clone, Copy)]
 enum Role {
-    Mutate { mutator: MutNo, rounds: u32 },
+    Mutate { mutator: MutNo, rounds: u64 },
     Work(WorkerNo),
     Poll(MutNo),
 }
@@ -109,7 +111,9 @@ pub fn stress<R: Threads + Wait + Sync>(
     alloc: Global,
     options: StressOptions,
     tally: &Tally,
-) -> Result<Option<Check>, Fault> {
+) -> Result<Option<Check>, Fault>
+    ensures threads { has_threads_in_range options ≡ false → result ≡ Err BadConfig }
+{
     match stress_lists(rt, alloc, options, tally)? {
         Some(lists) => lists.check(alloc),
         None => Ok(Some(Check::Rest)),
@@ -121,7 +125,7 @@ pub fn stress<R: Threads + Wait + Sync>(
 ///
 /// Mutators make weak references and enqueue every other one; workers run the collector and hand on what it cleared;
 /// pollers take what arrives. When the mutators have ended the workers do, the queue is closed, and the pollers take
-/// what is left. The tally says meanwhile how far the run is.
+/// what is left. The tally says meanwhile how far the run is, and can stop the mutators.
 ///
 /// `BadConfig` where mutators and pollers together, or workers, are not 1 to 8. `NoMemory` where a growth is refused,
 /// or the memory for threads. All its memory is of this allocator.
@@ -130,7 +134,9 @@ pub fn stress_lists<R: Threads + Wait + Sync>(
     alloc: Global,
     options: StressOptions,
     tally: &Tally,
-) -> Result<Option<StressLists>, Fault> {
+) -> Result<Option<StressLists>, Fault>
+    ensures threads { has_threads_in_range options ≡ false → result ≡ Err BadConfig }
+{
     let (heap, mut heap_seat) = SharedHeap::new(alloc, options.config(), 0)?;
     let (queue, mut queue_seat) = SharedQueue::new(alloc, QUEUE)?;
     let running = Running {

@@ -36,6 +36,9 @@ An example:
 
   refrun stress --mutators 4 --workers 4 --pollers 4 --rounds 10000
 
+With --seconds alone the rounds go on until the time is over, and with --rounds
+as well until the one or the other ends them.
+
 Where a check fails, standard error says which poller and which numbers show it.
 
 Exit status: 0 each check passed; 2 a wrong command line; 3 writing failed;

@@ -19,6 +19,9 @@ const CHECK_FAILED: u8 = 4;
 /// After so many seconds a run tells again how far it is.
 const PACE: u64 = 1;
 
+/// The rounds of each mutator where neither they nor seconds are asked for.
+const ROUNDS: u64 = 100;
+
 /// The subcommand and its options.
 pub fn command<'a>(alloc: Global) -> Result<Command<'a>, Error> {
     let quiet = Arg::new(alloc, "quiet")
@@ -33,24 +36,54 @@ pub fn command<'a>(alloc: Global) -> Result<Command<'a>, Error> {
     let command = Command::new(alloc, "stress")
         .about("Runs threads over one heap and one queue, and checks the queue's lists")
         .after_help(help::STRESS)
-        .arg(count(alloc, "mutators", "M", 8, "2").help(
-            "Threads that make and enqueue references",
+        .arg(
+            count(alloc, "mutators", "M", 8)
+                .default_value("2")
+                .help("Threads that make and enqueue references"),
+        )?
+        .arg(
+            count(alloc, "workers", "W", 8)
+                .default_value("2")
+                .help("Threads that work for the collector"),
+        )?
+        .arg(
+            count(alloc, "pollers", "P", 8)
+                .default_value("1")
+                .help("Threads that take what was enqueued"),
+        )?
+        .arg(count(alloc, "rounds", "N", 10_000).help(
+            "Rounds of each mutator [default: 100, or any number with --seconds]",
         ))?
-        .arg(count(alloc, "workers", "W", 8, "2").help("Threads that work for the collector"))?
-        .arg(count(alloc, "pollers", "P", 8, "1").help("Threads that take what was enqueued"))?
-        .arg(count(alloc, "rounds", "N", 10_000, "100").help("Rounds of each mutator"))?
+        .arg(count(alloc, "seconds", "S", i64::from(u32::MAX)).help(
+            "Begins no round after so many seconds",
+        ))?
         .arg(keep)?
         .arg(quiet)?;
     Ok(command)
 }
 
 /// An option that is a number from 1 on.
-fn count<'a>(alloc: Global, name: &'a str, value: &'a str, most: i64, default: &'a str) -> Arg<'a> {
+fn count<'a>(alloc: Global, name: &'a str, value: &'a str, most: i64) -> Arg<'a> {
     Arg::new(alloc, name)
         .long(name)
         .value_name(value)
         .value_parser(value_parser!(u32).range(1..=most))
-        .default_value(default)
+}
+
+/// How large the run is. With seconds alone its rounds have no end of their own.
+fn options_of(matches: &ArgMatches) -> StressOptions {
+    let number = |name: &str| matches.get_one::<u32>(name);
+    let rounds = match number("rounds") {
+        Some(rounds) => u64::from(rounds),
+        None if number("seconds").is_some() => u64::MAX,
+        None => ROUNDS,
+    };
+    StressOptions {
+        mutators: number("mutators").unwrap_or(1),
+        workers: number("workers").unwrap_or(1),
+        pollers: number("pollers").unwrap_or(1),
+        rounds,
+    }
 }
 
 /// Runs the threads, keeps their lists where that is asked for, and prints what the checks say.
@@ -61,16 +94,14 @@ pub fn run<R: Threads + Wait + Clock + Files + Print + Eprint + AllocGlobal + Sy
     matches: &ArgMatches,
     can_watch: bool,
 ) -> ExitCode {
-    let number = |name: &str| matches.get_one::<u32>(name).unwrap_or(1);
-    let options = StressOptions {
-        mutators: number("mutators"),
-        workers: number("workers"),
-        pollers: number("pollers"),
-        rounds: number("rounds"),
+    let options = options_of(matches);
+    let pace = Pace {
+        tells: can_watch && !matches.get_flag("quiet"),
+        seconds: matches.get_one::<u32>("seconds"),
     };
     let tally = Tally::new();
-    let answer = if can_watch && !matches.get_flag("quiet") {
-        watched(rt, options, &tally)
+    let answer = if pace.tells || pace.seconds.is_some() {
+        watched(rt, options, &tally, pace)
     } else {
         stress_lists(rt, rt.alloc(), options, &tally)
     };
@@ -123,11 +154,19 @@ fn keep_list<R: Files>(
     fs::write(rt, path.as_str(), text.as_str())
 }
 
-/// Runs the threads, and tells on standard error about once a second how far they are.
+/// What is done at each pace of a run: whether its counts are told, and after how many seconds it is stopped.
+#[derive(Clone, Copy)]
+struct Pace {
+    tells: bool,
+    seconds: Option<u32>,
+}
+
+/// Runs the threads, and beside them one that looks on, about once a second.
 fn watched<R: Threads + Wait + Clock + Eprint + AllocGlobal + Sync>(
     rt: &R,
     options: StressOptions,
     tally: &Tally,
+    pace: Pace,
 ) -> Result<Option<StressLists>, Fault> {
     let end = End::new();
     let (answer, ()) = thread::join(
@@ -137,7 +176,7 @@ fn watched<R: Threads + Wait + Clock + Eprint + AllocGlobal + Sync>(
             end.tell(rt);
             answer
         },
-        || watch(rt, tally, &end),
+        || watch(rt, tally, &end, pace),
     );
     answer
 }
@@ -171,14 +210,24 @@ impl End {
     }
 }
 
-/// A line of counts at each pace, until the end.
-fn watch<R: Wait + Clock + Eprint>(rt: &R, tally: &Tally, end: &End) {
+/// Until the end: tells the counts on standard error where that is asked for, and stops the rounds at their time.
+fn watch<R: Wait + Clock + Eprint>(rt: &R, tally: &Tally, end: &End, pace: Pace) {
+    let mut passed: u64 = 0;
     for _ in rt.forever() {
         if end.comes_within(rt, Duration::from_secs(PACE)) {
             return;
         }
-        let counts = tally.counts();
-        let _ = rt.eprintln(format_args!("refrun: {counts}"));
+        passed = passed.saturating_add(PACE);
+        if pace
+            .seconds
+            .is_some_and(|seconds| passed >= u64::from(seconds))
+        {
+            tally.stop();
+        }
+        if pace.tells {
+            let counts = tally.counts();
+            let _ = rt.eprintln(format_args!("refrun: {counts}"));
+        }
     }
 }
 

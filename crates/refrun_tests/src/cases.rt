@@ -21,10 +21,12 @@ pub struct Case {
     pub text: &'static [u8],
     pub prints: &'static [u8],
     pub error: &'static str,
+    /// What it may print where a put or a `job` found no memory, in the order in which that comes as there is more.
+    pub scarce: &'static [&'static [u8]],
 }
 
 /// Each task, done and with a fault.
-pub static CASES: [Case; 5] = [
+pub static CASES: [Case; 6] = [
     Case {
         name: "without jobs each number is used",
         task: Task::Run,
@@ -42,6 +44,7 @@ m0 run s1
 4 m0 run s1 : gone
 ",
         error: "",
+        scarce: &[],
     },
     Case {
         name: "a death, a job and a refusal",
@@ -78,6 +81,23 @@ w0 scan
 13 w0 scan : refused 12 WrongPhase
 ",
         error: "",
+        scarce: &[
+            b"reftrace 1
+1 m0 new s0 0 : object 1
+2 m0 phantom s1 s0 q0 0 : object 2
+3 m0 job s1 3 : refused 3 NoMemory
+4 m0 drop s0 : ok
+5 begin 5 normal : cycle 1
+6 w0 scan : scanned 2
+7 w0 scan : none
+8 endmark : doomed 1
+9 m0 run s1 : gone
+10 w0 clearnext : cleared 2
+11 endclear : ok
+12 w0 hand : notice 2 q0 cycle 1 w0
+13 w0 scan : refused 12 WrongPhase
+",
+        ],
     },
     Case {
         name: "a script with a fault",
@@ -85,6 +105,7 @@ w0 scan
         text: b"refscript 1\nconfig 1 1 1 8 10\nm0 new s0\n",
         prints: b"",
         error: "refrun: line 3: missing word\n",
+        scarce: &[],
     },
     Case {
         name: "a graph text",
@@ -92,6 +113,7 @@ w0 scan
         text: GRAPH,
         prints: LISTING,
         error: "",
+        scarce: &[],
     },
     Case {
         name: "a graph text with a fault",
@@ -99,5 +121,14 @@ w0 scan
         text: b"refgraph 1\nplain 1\nplain 1\n",
         prints: b"",
         error: "refrun: line 3: double object\n",
+        scarce: &[],
+    },
+    Case {
+        name: "a graph text without an object",
+        task: Task::List,
+        text: b"refgraph 1\nroot 7\n",
+        prints: b"",
+        error: "",
+        scarce: &[],
     },
 ];

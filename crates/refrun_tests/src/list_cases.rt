@@ -1,9 +1,10 @@
 //! The checks of a queue's lists, against lists that were worked out by hand.
 
-use bumpalo::Bump;
+use rationed::Rationed;
 use ref_base::{Fault, ObjNo};
 use refrun::{Check, StressLists, check_lists};
 use std::alloc::{AllocError, Allocator, Global};
+use std::process::Abort;
 use std::test::Fail;
 
 /// What was put in, was taken and stands, what each poller took, and the first check that fails.
@@ -194,30 +195,48 @@ fn the_first_check_that_fails_is_told(rt: HostRuntime) -> Result<(), Fail> {
     Ok(())
 }
 
-#[test]
-fn a_refused_allocation_of_a_check_is_told(rt: HostRuntime) -> Result<(), Fail> {
-    let case = &CASES[4];
-    let (mut without, mut wholly) = (false, false);
-    for size in 0..64 {
-        let mut memory = Bump::try_with_capacity(rt.alloc(), 4_096)?;
-        memory.set_allocation_limit(Some(memory.allocated_bytes()));
-        let taken = memory.chunk_capacity().saturating_sub(16 * size);
-        let filler = Vec::<u8, &Bump>::with_capacity(&memory, taken)?;
-        let answer = checked(&memory, rt.alloc(), case)?;
-        drop(filler);
-        assert!(rt; memory.reset().is_ok(), "all memory was given back");
-        match answer {
-            Ok(fails) => {
-                assert_eq!(rt; fails, None);
-                wholly = true;
-            }
-            Err(fault) => {
-                assert_eq!(rt; fault, Fault::NoMemory);
-                without = true;
-            }
+/// More requests for memory than the checks make.
+const MOST: u64 = 100;
+
+/// Each request for memory of the checks of a case is refused in turn, until no one is. Answers how many they make.
+fn refuse_each(
+    rt: &impl Abort,
+    memory: &Rationed<Global>,
+    alloc: Global,
+    case: &Case,
+) -> Result<u64, AllocError> {
+    let name = case.name;
+    for met in 0..MOST {
+        memory.ration(met);
+        let answer = checked(memory, alloc, case)?;
+        let is_refused = memory.lift();
+        let want = if is_refused {
+            Err(Fault::NoMemory)
+        } else {
+            Ok(case.fails)
+        };
+        assert_eq!(rt; answer, want, "{name}: {met}");
+        if !is_refused {
+            return Ok(met);
         }
+        assert_eq!(rt;
+            checked(memory, alloc, case)?,
+            Ok(case.fails),
+            "{name}: {met}"
+        );
     }
-    assert!(rt; without && wholly);
+    let call = "check_lists";
+    assert!(rt; false, "{name}: {call} makes more requests than {MOST}");
+    Ok(MOST)
+}
+
+#[test]
+fn each_refused_request_of_a_check_is_told(rt: HostRuntime) -> Result<(), Fail> {
+    let memory = Rationed::new(rt.alloc());
+    for case in &CASES {
+        let requests = refuse_each(&rt, &memory, rt.alloc(), case)?;
+        assert!(rt; requests > 0 || case.enqueued.is_empty(), "{}", case.name);
+    }
     Ok(())
 }
 

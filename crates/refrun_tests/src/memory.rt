@@ -1,17 +1,25 @@
-//! Runs with so little memory that an allocation is refused: at one size or another, each that a run makes.
+//! Runs for which memory is rationed: each request for memory is refused in turn, and each later one with it, until a
+//! run meets no refusal.
 
-use crate::cases::Task;
-use crate::texts::{GRAPH, LISTING, printed};
-use bumpalo::Bump;
+use crate::cases::{CASES, Case, Task};
+use crate::faulty_texts::READ;
+use crate::texts::{agree, printed};
+use rationed::Rationed;
 use refrun::TextFault;
 use std::alloc::{AllocError, Global};
 use std::process::Abort;
 use std::test::Fail;
 
-/// Seven mutators unhook a reference each, and then put its notice, each into a queue of its own. The last one gives up
-/// what its hand still holds.
-const SCRIPT: &[u8] = b"refscript 1
-config 7 1 16 16 0
+/// More requests than a run makes.
+const MOST: u64 = 2_000;
+
+/// Puts and jobs that may find no memory.
+static SCARCE: [Case; 2] = [
+    Case {
+        name: "puts, each into a queue of its own",
+        task: Task::Run,
+        text: b"refscript 1
+config 3 1 3 16 0
 m0 new s0 0
 m0 weak s1 s0 q0 0
 m0 unhook s1
@@ -21,30 +29,14 @@ m1 unhook s1
 m2 new s0 0
 m2 weak s1 s0 q2 0
 m2 unhook s1
-m3 new s0 0
-m3 weak s1 s0 q3 0
-m3 unhook s1
-m4 new s0 0
-m4 weak s1 s0 q4 0
-m4 unhook s1
-m5 new s0 0
-m5 weak s1 s0 q5 0
-m5 unhook s1
-m6 new s0 0
-m6 weak s1 s0 q6 0
-m6 unhook s1
 m0 put
 m1 put
 m2 put
-m3 put
-m4 put
-m5 put
-m6 put
-m6 release
-";
-
-/// The trace up to the puts.
-const HEAD: &str = "reftrace 1
+m1 poll q1
+m0 release
+m2 adopt s2
+",
+        prints: b"reftrace 1
 1 m0 new s0 0 : object 1
 2 m0 weak s1 s0 q0 0 : object 2
 3 m0 unhook s1 : notice 2 q0 own
@@ -54,160 +46,178 @@ const HEAD: &str = "reftrace 1
 7 m2 new s0 0 : object 5
 8 m2 weak s1 s0 q2 0 : object 6
 9 m2 unhook s1 : notice 6 q2 own
-10 m3 new s0 0 : object 7
-11 m3 weak s1 s0 q3 0 : object 8
-12 m3 unhook s1 : notice 8 q3 own
-13 m4 new s0 0 : object 9
-14 m4 weak s1 s0 q4 0 : object 10
-15 m4 unhook s1 : notice 10 q4 own
-16 m5 new s0 0 : object 11
-17 m5 weak s1 s0 q5 0 : object 12
-18 m5 unhook s1 : notice 12 q5 own
-19 m6 new s0 0 : object 13
-20 m6 weak s1 s0 q6 0 : object 14
-21 m6 unhook s1 : notice 14 q6 own
-";
-
-/// The trace where so many puts, the first ones, found memory and the others found none.
-fn trace_where(alloc: Global, added: u32) -> Result<String, AllocError> {
-    let mut trace = String::from_str(alloc, HEAD)?;
-    for mutator in 0..7 {
-        let row = 22 + mutator;
-        let reply = if mutator < added {
-            "added 0"
-        } else {
-            "refused 3 NoMemory"
-        };
-        writeln!(trace, "{row} m{mutator} put : {reply}")?;
-    }
-    let reply = if added == 7 {
-        "refused 24 HandEmpty"
-    } else {
-        "ok"
-    };
-    writeln!(trace, "29 m6 release : {reply}")?;
-    Ok(trace)
-}
-
-/// How many puts found memory, where the trace is one of those that may be printed.
-fn added(alloc: Global, trace: &[u8]) -> Result<Option<u32>, AllocError> {
-    for added in 0..=7 {
-        if trace == trace_where(alloc, added)?.as_bytes() {
-            return Ok(Some(added));
-        }
-    }
-    Ok(None)
-}
-
-/// What a text answers and prints with memory of so many bytes.
-fn printed_in(
-    rt: &impl Abort,
-    alloc: Global,
-    task: Task,
-    text: &[u8],
-    room: usize,
-) -> Result<(Result<(), TextFault>, Vec<u8>), AllocError> {
-    // What is given back to the arena isn't given out again, so a call takes the sum of all that it asks for.
-    let mut memory = Bump::try_with_capacity(alloc, 114_688)?;
-    memory.set_allocation_limit(Some(memory.allocated_bytes()));
-    let taken = memory.chunk_capacity().saturating_sub(room);
-    let filler = Vec::<u8, &Bump>::with_capacity(&memory, taken)?;
-    let printed = printed(task, &memory, alloc, text);
-    drop(filler);
-    assert!(rt; memory.reset().is_ok(), "all memory was given back");
-    Ok(printed)
-}
-
-#[test]
-fn an_allocation_that_fails_is_told_of(rt: HostRuntime) -> Result<(), Fail> {
-    let alloc = rt.alloc();
-    let (mut without, mut partly, mut wholly) = (false, false, false);
-    for size in 0..1_700 {
-        let (answer, trace) = printed_in(&rt, alloc, Task::Run, SCRIPT, 64 * size)?;
-        match answer {
-            Err(fault) => {
-                assert_eq!(rt; fault, TextFault::NoMemory);
-                assert!(rt; trace.is_empty());
-                without = true;
-            }
-            Ok(()) => match added(alloc, trace.as_slice())? {
-                Some(7) => wholly = true,
-                Some(_) => partly = true,
-                None => assert!(rt; false, "{size}"),
-            },
-        }
-    }
-    assert!(rt; without && partly && wholly);
-    Ok(())
-}
-
-/// A job is registered, asked for again, and run.
-const ONE_JOB: &[u8] = b"refscript 1
+10 m0 put : added 0
+11 m1 put : added 0
+12 m2 put : added 0
+13 m1 poll q1 : took 4
+14 m0 release : refused 24 HandEmpty
+15 m2 adopt s2 : refused 24 HandEmpty
+",
+        error: "",
+        scarce: &[
+            b"reftrace 1
+1 m0 new s0 0 : object 1
+2 m0 weak s1 s0 q0 0 : object 2
+3 m0 unhook s1 : notice 2 q0 own
+4 m1 new s0 0 : object 3
+5 m1 weak s1 s0 q1 0 : object 4
+6 m1 unhook s1 : notice 4 q1 own
+7 m2 new s0 0 : object 5
+8 m2 weak s1 s0 q2 0 : object 6
+9 m2 unhook s1 : notice 6 q2 own
+10 m0 put : refused 3 NoMemory
+11 m1 put : refused 3 NoMemory
+12 m2 put : refused 3 NoMemory
+13 m1 poll q1 : refused 23 HandFull
+14 m0 release : ok
+15 m2 adopt s2 : object 6
+",
+            b"reftrace 1
+1 m0 new s0 0 : object 1
+2 m0 weak s1 s0 q0 0 : object 2
+3 m0 unhook s1 : notice 2 q0 own
+4 m1 new s0 0 : object 3
+5 m1 weak s1 s0 q1 0 : object 4
+6 m1 unhook s1 : notice 4 q1 own
+7 m2 new s0 0 : object 5
+8 m2 weak s1 s0 q2 0 : object 6
+9 m2 unhook s1 : notice 6 q2 own
+10 m0 put : added 0
+11 m1 put : refused 3 NoMemory
+12 m2 put : refused 3 NoMemory
+13 m1 poll q1 : refused 23 HandFull
+14 m0 release : refused 24 HandEmpty
+15 m2 adopt s2 : object 6
+",
+            b"reftrace 1
+1 m0 new s0 0 : object 1
+2 m0 weak s1 s0 q0 0 : object 2
+3 m0 unhook s1 : notice 2 q0 own
+4 m1 new s0 0 : object 3
+5 m1 weak s1 s0 q1 0 : object 4
+6 m1 unhook s1 : notice 4 q1 own
+7 m2 new s0 0 : object 5
+8 m2 weak s1 s0 q2 0 : object 6
+9 m2 unhook s1 : notice 6 q2 own
+10 m0 put : added 0
+11 m1 put : added 0
+12 m2 put : refused 3 NoMemory
+13 m1 poll q1 : took 4
+14 m0 release : refused 24 HandEmpty
+15 m2 adopt s2 : object 6
+",
+        ],
+    },
+    Case {
+        name: "a job that stays to be registered",
+        task: Task::RunWithJobs,
+        text: b"refscript 1
 config 1 1 1 8 0
 m0 new s0 0
 m0 weak s1 s0 - 0
 m0 job s1 0
 m0 job s1 0
 m0 run s1
-";
-
-/// What it prints where its table finds memory.
-const REGISTERED: &[u8] = b"reftrace 1
+",
+        prints: b"reftrace 1
 1 m0 new s0 0 : object 1
 2 m0 weak s1 s0 - 0 : object 2
 3 m0 job s1 0 : ok
 4 m0 job s1 0 : used
 5 m0 run s1 : ran 0 1000
-";
-
-/// And where it finds none: the job stays to be registered.
-const NOT_REGISTERED: &[u8] = b"reftrace 1
+",
+        error: "",
+        scarce: &[
+            b"reftrace 1
 1 m0 new s0 0 : object 1
 2 m0 weak s1 s0 - 0 : object 2
 3 m0 job s1 0 : refused 3 NoMemory
 4 m0 job s1 0 : refused 3 NoMemory
 5 m0 run s1 : gone
-";
+",
+        ],
+    },
+];
 
-#[test]
-fn a_job_that_finds_no_memory_stays_to_be_registered(rt: HostRuntime) -> Result<(), Fail> {
-    let (mut without, mut partly, mut wholly) = (false, false, false);
-    for size in 0..1_700 {
-        let (answer, trace) = printed_in(&rt, rt.alloc(), Task::RunWithJobs, ONE_JOB, 64 * size)?;
-        match answer {
-            Err(fault) => {
-                assert_eq!(rt; fault, TextFault::NoMemory);
-                assert!(rt; trace.is_empty());
-                without = true;
+/// What came of a run.
+enum Came {
+    /// No request was refused.
+    Whole,
+    /// Memory ran out, and nothing was printed.
+    Nothing,
+    /// Memory ran out inside a put or a `job`: the place of what was printed among what may be.
+    Partly(usize),
+}
+
+/// Runs a text with so many requests for memory met. Where one was refused the same text is answered as ever once there
+/// is memory.
+fn come(
+    rt: &impl Abort,
+    memory: &Rationed<Global>,
+    alloc: Global,
+    case: &Case,
+    met: u64,
+) -> Result<Came, AllocError> {
+    memory.ration(met);
+    let (answer, output) = printed(case.task, memory, alloc, case.text);
+    if !memory.lift() {
+        agree(rt, alloc, case, answer, output.as_slice())?;
+        return Ok(Came::Whole);
+    }
+    let (again, all) = printed(case.task, memory, alloc, case.text);
+    agree(rt, alloc, case, again, all.as_slice())?;
+    if let Err(fault) = answer {
+        assert_eq!(rt; fault, TextFault::NoMemory, "{}: {met}", case.name);
+        assert!(rt; output.is_empty(), "{}: {met}", case.name);
+        return Ok(Came::Nothing);
+    }
+    let place = case
+        .scarce
+        .iter()
+        .position(|text| *text == output.as_slice());
+    assert!(rt; place.is_some(), "{}: {met}", case.name);
+    Ok(Came::Partly(place.unwrap_or(0)))
+}
+
+/// The call that does a task.
+fn call_of(task: Task) -> &'static str {
+    match task {
+        Task::Run | Task::RunWithJobs => "run_script",
+        Task::List => "strength_text",
+    }
+}
+
+/// Each request for memory of a text is refused in turn. Of what it may then print, each comes in its turn.
+fn refuse_each(rt: &impl Abort, alloc: Global, case: &Case) -> Result<(), AllocError> {
+    let memory = Rationed::new(alloc);
+    let name = case.name;
+    let mut stage = 0;
+    for met in 0..MOST {
+        match come(rt, &memory, alloc, case, met)? {
+            Came::Nothing => {}
+            Came::Partly(place) => {
+                let next = place.saturating_add(1);
+                assert!(rt; stage == place || stage == next, "{name}: {met}");
+                stage = next;
             }
-            Ok(()) if trace.as_slice() == NOT_REGISTERED => partly = true,
-            Ok(()) => {
-                assert_eq!(rt; trace.as_slice(), REGISTERED);
-                wholly = true;
+            Came::Whole => {
+                assert_eq!(rt; stage, case.scarce.len(), "{name}: {met}");
+                assert!(rt; met > 0, "{name}: a run takes memory");
+                return Ok(());
             }
         }
     }
-    assert!(rt; without && partly && wholly);
+    let call = call_of(case.task);
+    assert!(rt; false, "{name}: {call} makes more requests than {MOST}");
     Ok(())
 }
 
 #[test]
-fn a_listing_is_whole_or_memory_ran_out(rt: HostRuntime) -> Result<(), Fail> {
-    let (mut without, mut wholly) = (false, false);
-    for size in 0..1_500 {
-        let (answer, listing) = printed_in(&rt, rt.alloc(), Task::List, GRAPH, 64 * size)?;
-        match answer {
-            Ok(()) => {
-                assert_eq!(rt; listing.as_slice(), LISTING);
-                wholly = true;
-            }
-            Err(fault) => {
-                assert_eq!(rt; fault, TextFault::NoMemory);
-                assert!(rt; listing.is_empty());
-                without = true;
-            }
+fn a_text_is_answered_whole_or_memory_ran_out(rt: HostRuntime) -> Result<(), Fail> {
+    for cases in [CASES.as_slice(), READ.as_slice(), SCARCE.as_slice()] {
+        for case in cases {
+            refuse_each(&rt, rt.alloc(), case)?;
         }
     }
-    assert!(rt; without && wholly);
     Ok(())
 }

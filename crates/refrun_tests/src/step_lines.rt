@@ -8,7 +8,7 @@ use std::process::Abort;
 use std::test::Fail;
 
 /// A line of each step; actors, slots and queues may be outside the configuration.
-const READ: [&str; 39] = [
+const READ: [&str; 44] = [
     "m0 new s0 0",
     "m0 soft s1 s0 q0 0",
     "m0 weak s1 s0 - 0",
@@ -48,10 +48,15 @@ const READ: [&str; 39] = [
     "  w7   scan ",
     "begin 18446744073709551615 urgent",
     "begin 00000000000000000005 normal",
+    "m0 put\r",
+    "m0 new s0 0 \r",
+    "m00000000004294967295 put",
+    "m0 drop s00000000000000000000",
+    "m0 poll q00000004294967295",
 ];
 
 /// The actor's letter or the name is that of no step, or the name is missing, whatever else is wrong.
-const UNKNOWN: [&str; 28] = [
+const UNKNOWN: [&str; 38] = [
     "m0",
     "w0",
     "m",
@@ -80,6 +85,16 @@ const UNKNOWN: [&str; 28] = [
     "put m0",
     "wx",
     "mx fly s0 x",
+    "m0 put\r\r",
+    "m0\rput",
+    "m0\tput",
+    "\tm0 put",
+    "m0 put\0",
+    "\0",
+    "m0 drop\ts0",
+    "+m0 put",
+    "begin5 normal",
+    "endmark# x",
 ];
 
 /// A word is missing, whatever else is wrong.
@@ -118,7 +133,7 @@ const MISSING: [&str; 31] = [
 ];
 
 /// The actor's number or an operand isn't of its form.
-const BAD: [&str; 65] = [
+const BAD: [&str; 95] = [
     "m new s0 0",
     "m0 new 0 0",
     "m0 new s0 s0",
@@ -184,6 +199,36 @@ const BAD: [&str; 65] = [
     "begin 5 slow",
     "begin x urgent",
     "begin 5 Normal",
+    "m0 drop 0 x",
+    "m0x put x",
+    "begin 5 slow x",
+    "m+0 put",
+    "m0 new s+1 0",
+    "m0 new s0 +1",
+    "m0 new s0 -0",
+    "m0 new S0 0",
+    "m0 new s0 0x1",
+    "m0 new s0 1.0",
+    "m0 new s0 1_0",
+    "m0 new s0 1,0",
+    "m0 new s0 99999999999999999999",
+    "m0 new s0 18446744073709551616",
+    "m000000000000000000000 put",
+    "m0 drop s000000000000000000000",
+    "m0 poll -",
+    "m0 poll Q0",
+    "m0 weak s1 - - 0",
+    "m0 store s0 1 -",
+    "m0 adopt -",
+    "begin +5 normal",
+    "begin -5 normal",
+    "begin 99999999999999999999 normal",
+    "begin 000000000000000000000 normal",
+    "m0 drop s0\r\r",
+    "m0 drop s0\t",
+    "m0 drop s0\0",
+    "m0 drop \rs0",
+    "m0 job s0 -1",
 ];
 
 /// A word stands behind the last operand.

@@ -35,7 +35,7 @@ const NOTHING_DONE: Counts = Counts {
 };
 
 /// Runs with too many threads, or too few, of a kind.
-static REFUSED: [StressOptions; 3] = [
+static REFUSED: [StressOptions; 6] = [
     StressOptions {
         mutators: 8,
         workers: 2,
@@ -54,6 +54,24 @@ static REFUSED: [StressOptions; 3] = [
         pollers: 0,
         rounds: 1,
     },
+    StressOptions {
+        mutators: u32::MAX,
+        workers: 1,
+        pollers: u32::MAX,
+        rounds: 1,
+    },
+    StressOptions {
+        mutators: 1,
+        workers: 0,
+        pollers: 1,
+        rounds: 1,
+    },
+    StressOptions {
+        mutators: 1,
+        workers: u32::MAX,
+        pollers: 1,
+        rounds: 10_000,
+    },
 ];
 
 #[test]
@@ -61,11 +79,26 @@ fn the_lists_of_a_run_pass_each_check(rt: HostRuntime) -> Result<(), Fail> {
     for options in PASSING {
         let tally = Tally::new();
         assert_eq!(rt; stress(&rt, rt.alloc(), options, &tally), Ok(None));
-        let rounds = u64::from(options.mutators) * u64::from(options.rounds);
+        let rounds = u64::from(options.mutators) * options.rounds;
         let counts = tally.counts();
         assert_eq!(rt; counts.rounds, rounds);
         // Each round makes two objects. Where all fit into one page nothing moves, since there is no other with few.
         assert!(rt; rounds > 32 || counts.moves == 0, "{counts}");
+    }
+    Ok(())
+}
+
+#[test]
+fn a_run_that_is_stopped_begins_no_round(rt: HostRuntime) -> Result<(), Fail> {
+    for options in PASSING {
+        let endless = StressOptions {
+            rounds: u64::MAX,
+            ..options
+        };
+        let tally = Tally::new();
+        tally.stop();
+        assert_eq!(rt; stress(&rt, rt.alloc(), endless, &tally), Ok(None));
+        assert_eq!(rt; tally.counts().rounds, 0);
     }
     Ok(())
 }

@@ -1,15 +1,11 @@
-//! What becomes of texts whose readers and writers fail, and of texts as long as they may be.
+//! What becomes of texts, and of texts as long as they may be.
 
 use crate::cases::{CASES, Case, Task};
-use crate::fakes::{
-    FAILURES, Failure, Interrupted, ReadsThenFails, WritesThenFails, answer_in_room,
-};
 use crate::jobs::script_jobs;
 use refrun::{
     FromReader, LineFault, TextFault, TextSink, TextSource, ToWriter, run_script, strength_text,
 };
 use std::alloc::{AllocError, Allocator, Global};
-use std::io::ErrorKind;
 use std::process::Abort;
 use std::test::Fail;
 
@@ -22,7 +18,7 @@ pub const LISTING: &[u8] =
     b"1 strong\n2 strong\n3 soft\n4 strong\n5 weak\n6 strong\n7 phantom\n8 weak\n";
 
 /// Does it, with memory of this allocator.
-fn answer<R: TextSource, W: TextSink, A: Allocator + Copy>(
+pub fn answer<R: TextSource, W: TextSink, A: Allocator + Copy>(
     task: Task,
     memory: A,
     alloc: Global,
@@ -63,11 +59,16 @@ pub fn message(alloc: Global, fault: TextFault) -> Result<String, AllocError> {
     format!(in alloc; "refrun: {fault}\n")
 }
 
-/// The text prints what it must, or its fault.
-fn agree(rt: &impl Abort, alloc: Global, case: &Case) -> Result<(), AllocError> {
+/// The answer to the text of a case is what it must be, and so is what was printed.
+pub fn agree(
+    rt: &impl Abort,
+    alloc: Global,
+    case: &Case,
+    answer: Result<(), TextFault>,
+    output: &[u8],
+) -> Result<(), AllocError> {
     let name = case.name;
-    let (answer, output) = printed(case.task, alloc, alloc, case.text);
-    assert_eq!(rt; output.as_slice(), case.prints, "{name}");
+    assert_eq!(rt; output, case.prints, "{name}");
     let error = match answer {
         Ok(()) => String::new(alloc),
         Err(fault) => {
@@ -81,8 +82,10 @@ fn agree(rt: &impl Abort, alloc: Global, case: &Case) -> Result<(), AllocError> 
 
 #[test]
 fn each_text_prints_what_it_must_or_its_fault(rt: HostRuntime) -> Result<(), Fail> {
+    let alloc = rt.alloc();
     for case in &CASES {
-        agree(&rt, rt.alloc(), case)?;
+        let (answer, output) = printed(case.task, alloc, alloc, case.text);
+        agree(&rt, alloc, case, answer, output.as_slice())?;
     }
     Ok(())
 }
@@ -102,111 +105,24 @@ fn each_fault_of_no_line_has_its_message_and_its_status(rt: HostRuntime) -> Resu
     Ok(())
 }
 
-/// A reader that fails so at the end of the text of a case is told of by this, and nothing is printed.
-fn tell_failure(rt: &impl Abort, alloc: Global, case: &Case, failure: ErrorKind, want: TextFault) {
-    let bytes = case.text;
-    let mut output = Vec::new(alloc);
-    let mut reader = FromReader::new(ReadsThenFails { bytes, failure });
-    let answer = answer(
-        case.task,
-        alloc,
-        alloc,
-        &mut reader,
-        &mut ToWriter::new(&mut output),
-    );
-    assert_eq!(rt; answer, Err(want), "{}", case.name);
-    assert!(rt; output.is_empty());
-}
-
-#[test]
-fn a_reader_that_fails_or_finds_no_memory_is_told_of(rt: HostRuntime) {
-    let failures = [
-        (ErrorKind::BrokenPipe, TextFault::CannotRead),
-        (ErrorKind::OutOfMemory, TextFault::NoMemory),
-    ];
-    for (failure, want) in failures {
-        for case in &CASES {
-            tell_failure(&rt, rt.alloc(), case, failure, want);
-        }
-    }
-}
-
-#[test]
-fn the_thousandth_interruption_is_a_failure(rt: HostRuntime) {
-    let alloc = rt.alloc();
-    let bytes = b"refscript 1\nconfig 1 1 1 1 0\n".as_slice();
-    for (times, want) in [(999, Ok(())), (1_000, Err(TextFault::CannotRead))] {
-        let mut reader = FromReader::new(Interrupted { times, bytes });
-        let mut trace = Vec::new(alloc);
-        let answer = run_script(
-            alloc,
-            &mut reader,
-            &mut ToWriter::new(&mut trace),
-            Vec::new(alloc),
-        );
-        assert_eq!(rt; answer, want, "{times}");
-    }
-}
-
-/// A writer that fails so has taken what it has room for of what the text prints.
-fn has_a_prefix(
-    rt: &impl Abort,
-    alloc: Global,
-    task: Task,
-    text: &[u8],
-    prints: &[u8],
-    room: usize,
-    failure: Failure,
-) {
-    let mut taken = WritesThenFails {
-        taken: Vec::new(alloc),
-        room,
-        failure,
-    };
-    let mut reader = FromReader::new(text);
-    let answer = answer(
-        task,
-        alloc,
-        alloc,
-        &mut reader,
-        &mut ToWriter::new(&mut taken),
-    );
-    let want = answer_in_room(prints.len(), room, failure);
-    assert_eq!(rt; answer, want, "{room}");
-    assert_eq!(rt; Some(taken.taken.as_slice()), prints.get(..room), "{room}");
-}
-
-#[test]
-fn a_writer_that_fails_has_a_prefix(rt: HostRuntime) {
-    let script = b"refscript 1\nconfig 1 1 1 8 10\nm0 put\n".as_slice();
-    let trace = b"reftrace 1\n1 m0 put : refused 24 HandEmpty\n".as_slice();
-    for (task, text, prints) in [(Task::Run, script, trace), (Task::List, GRAPH, LISTING)] {
-        for failure in FAILURES {
-            for room in [0, 1, 5, 12, prints.len()] {
-                has_a_prefix(&rt, rt.alloc(), task, text, prints, room, failure);
-            }
-        }
-    }
-}
-
-/// The text prints this with empty lines behind it that make it as long as a text may be, and is too long with one
-/// more.
+/// A text as long as a text may be, which begins so and goes on with one byte, answers and prints this; with one byte
+/// more it is too long, whatever faults it has.
 fn may_be_so_long(
     rt: &impl Abort,
     alloc: Global,
-    task: Task,
-    text: &[u8],
+    (task, start, byte): (Task, &[u8], u8),
+    want: Result<(), TextFault>,
     prints: &[u8],
 ) -> Result<(), AllocError> {
-    let mut text = Vec::from_slice(alloc, text)?;
-    let blank = vec![in alloc; b'\n'; 4_194_304usize.saturating_sub(text.len())]?;
-    text.extend_from_slice(blank.as_slice())?;
+    let mut text = Vec::from_slice(alloc, start)?;
+    let rest = vec![in alloc; byte; 4_194_304usize.saturating_sub(text.len())]?;
+    text.extend_from_slice(rest.as_slice())?;
     let (answer, output) = printed(task, alloc, alloc, text.as_slice());
-    assert_eq!(rt; answer, Ok(()));
+    assert_eq!(rt; answer, want);
     assert_eq!(rt; output.as_slice(), prints);
-    text.push(b'\n')?;
+    text.push(byte)?;
     let (answer, output) = printed(task, alloc, alloc, text.as_slice());
-    assert_eq!(rt; answer, Err(TextFault::TooLong));
+    assert_eq!(rt; answer, Err(TextFault::TooLong), "{want:?}");
     assert!(rt; output.is_empty());
     Ok(())
 }
@@ -214,25 +130,25 @@ fn may_be_so_long(
 #[test]
 fn a_text_may_have_4194304_bytes(rt: HostRuntime) -> Result<(), Fail> {
     let script = b"refscript 1\nconfig 1 1 1 1 0\n".as_slice();
-    may_be_so_long(&rt, rt.alloc(), Task::Run, script, b"reftrace 1\n")?;
     let graph = b"refgraph 1\nplain 1\n".as_slice();
-    may_be_so_long(&rt, rt.alloc(), Task::List, graph, b"1 unreachable\n")?;
-    Ok(())
-}
-
-#[test]
-fn a_line_of_a_graph_text_may_have_200_bytes(rt: HostRuntime) -> Result<(), Fail> {
-    let alloc = rt.alloc();
-    for (length, want) in [
-        (200, Ok(())),
-        (201, Err(TextFault::Line(2, LineFault::LineTooLong))),
-    ] {
-        let mut graph = Vec::from_slice(alloc, b"refgraph 1\nplain 1".as_slice())?;
-        let spaces = vec![in alloc; b' '; length - 7]?;
-        graph.extend_from_slice(spaces.as_slice())?;
-        let (answer, listing) = printed(Task::List, alloc, alloc, graph.as_slice());
-        assert_eq!(rt; answer, want, "{length}");
-        assert_eq!(rt; listing.is_empty(), answer.is_err(), "{length}");
+    let good = [
+        ((Task::Run, script, b'\n'), b"reftrace 1\n".as_slice()),
+        ((Task::List, graph, b'\n'), b"1 unreachable\n".as_slice()),
+    ];
+    for (text, prints) in good {
+        may_be_so_long(&rt, rt.alloc(), text, Ok(()), prints)?;
+    }
+    let faulty = [
+        ((Task::Run, script, 0), 3, LineFault::LineTooLong),
+        (
+            (Task::List, b"".as_slice(), 0xff),
+            1,
+            LineFault::LineTooLong,
+        ),
+    ];
+    for (text, line, fault) in faulty {
+        let want = Err(TextFault::Line(line, fault));
+        may_be_so_long(&rt, rt.alloc(), text, want, b"".as_slice())?;
     }
     Ok(())
 }

@@ -12,7 +12,7 @@ use super::Give::{Hand, Unhook};
 use super::Keep::{Adopt, Hold, Release};
 use super::Mutate::{Clear, CopySlot, DropSlot, Get, Load, New, NewMany, Refer, RefersTo, Store};
 use super::{Call, make_calls};
-use crate::arena::{all_but, all_that_is_left, limited};
+use crate::arena::{all_that_is_left, limited};
 use crate::told::Told;
 use bumpalo::Bump;
 use ref_base::Cause::{Cycle, Own};
@@ -151,30 +151,6 @@ fn after_new_no_call_takes_memory(rt: HostRuntime) -> Result<(), Fail> {
 fn no_call_of_moves_takes_memory(rt: HostRuntime) -> Result<(), Fail> {
     let memory = limited(rt.alloc(), 2 * TWO_PAGES_HEAP)?;
     make_without_memory(&rt, &memory, TWO_PAGES, &EACH_MOVE)
-}
-
-#[test]
-fn want_of_memory_is_told_by_new(rt: HostRuntime) -> Result<(), Fail> {
-    let mut was_refused = false;
-    let mut was_made = false;
-    // What is left grows by steps so small that in some of them only the pending lists have too little.
-    for step in 0..=SMALL_HEAP / 16 {
-        let memory = limited(rt.alloc(), SMALL_HEAP)?;
-        let _rest = all_but(&memory, 16 * step)?;
-        match Heap::new(&memory, SMALL, 1) {
-            Ok(heap) => {
-                heap.end();
-                was_made = true;
-            }
-            Err(fault) => {
-                assert_eq!(rt; fault, Fault::NoMemory, "step {step}");
-                was_refused = true;
-            }
-        }
-    }
-    assert!(rt; was_refused, "there was too little");
-    assert!(rt; was_made, "there was enough");
-    Ok(())
 }
 
 #[test]

@@ -1,27 +1,85 @@
 //! Graphs and searches whose memory runs out.
 
 use super::Call::{Count, Plain, Refer, Root, StrengthOf};
-use super::{Call, answer, make_calls, strength};
-use crate::arena::limited;
-use crate::told::{Told, expect};
-use ref_base::{Fault, Graph, ObjNo, Reach, Strength, strengths};
-use std::alloc::{AllocError, Allocator, Global};
+use super::{Call, answer, count, make_calls, strength};
+use crate::scarce::{MOST, Trial, is_refused};
+use crate::told::Told;
+use rationed::Rationed;
+use ref_base::{Fault, Graph, ObjNo, Reach, Strength};
+use std::alloc::{Allocator, Global};
 use std::process::Abort;
 use std::test::Fail;
 
-/// Adds objects from 0 on, each with a field that leads to the next, until there is no memory for one more. Answers how
-/// many were added.
-fn chain<A: Allocator + Copy>(rt: &impl Abort, graph: &mut Graph<A>, most: u32) -> u32 {
-    for no in 0..most.min(1_000) {
-        match graph.add_object(ObjNo(no), &[Some(ObjNo(no + 1))]) {
-            Ok(added) => assert!(rt; added),
-            Err(fault) => {
-                assert_eq!(rt; fault, Fault::NoMemory);
-                return no;
-            }
+/// Makes a call of a graph with each request refused in turn: each time these are answered as they are here. Answers
+/// how many requests it makes.
+fn refuse_each<'a>(
+    rt: &impl Abort,
+    alloc: Global,
+    memory: &'a Rationed<Global>,
+    graph: &mut Graph<&'a Rationed<Global>>,
+    (name, call): (&'static str, Call),
+    stays: &[(Call, Told)],
+) -> u64 {
+    let trial = Trial {
+        call: name,
+        refused: Told::Refused(Fault::NoMemory),
+        done: Told::New,
+    };
+    for met in 0..MOST {
+        memory.ration(met);
+        let told = answer(alloc, graph, call);
+        if !is_refused(rt, memory, &trial, met, told) {
+            return met;
         }
+        make_calls(rt, alloc, graph, stays);
     }
-    most.min(1_000)
+    MOST
+}
+
+/// The field of each object leads to 0.
+const TO_0: [Option<u32>; 1] = [Some(0)];
+
+/// How object `no` is added: every third is a reference.
+fn added(no: u32) -> (&'static str, Call) {
+    if no % 3 == 2 {
+        let refer = Refer(no, Strength::Weak, Some(0), &TO_0);
+        ("Graph::add_reference", refer)
+    } else {
+        ("Graph::add_object", Plain(no, &TO_0))
+    }
+}
+
+#[test]
+fn an_add_without_memory_changes_nothing(rt: HostRuntime) -> Result<(), Fail> {
+    let memory = Rationed::new(rt.alloc());
+    let mut graph = Graph::new(&memory);
+    let mut requests = 0u64;
+    for no in 0..60 {
+        let stays = [
+            (Count, Told::Count(u64::from(no))),
+            (StrengthOf(no), Told::Refused(Fault::NoSuchObject)),
+        ];
+        let made = refuse_each(&rt, rt.alloc(), &memory, &mut graph, added(no), &stays);
+        requests = requests.saturating_add(made);
+    }
+    assert!(rt; 1 < requests && requests < MOST, "{requests} requests");
+    Ok(())
+}
+
+#[test]
+fn a_root_without_memory_changes_nothing(rt: HostRuntime) -> Result<(), Fail> {
+    let memory = Rationed::new(rt.alloc());
+    let mut graph = Graph::new(&memory);
+    let mut requests = 0u64;
+    for no in 0..60 {
+        graph.add_object(ObjNo(no), &[])?;
+        let stays = [(StrengthOf(no), Told::Strength(Reach::Unreachable))];
+        let root = ("Graph::add_root", Root(no));
+        let made = refuse_each(&rt, rt.alloc(), &memory, &mut graph, root, &stays);
+        requests = requests.saturating_add(made);
+    }
+    assert!(rt; 1 < requests && requests < MOST, "{requests} requests");
+    Ok(())
 }
 
 const NINE: [Option<u32>; 9] = [None; 9];
@@ -39,119 +97,96 @@ fn told_last(count: u32) -> [(Call, Told); 3] {
     ]
 }
 
-/// The graph has the objects from 0 on, so many, none of which is reachable, and no memory for one more.
-fn is_full<A: Allocator + Copy>(rt: &impl Abort, alloc: Global, graph: &mut Graph<A>, count: u32) {
-    make_calls(rt, alloc, graph, &told_last(count));
-    for no in 0..count {
-        let story = [
-            (StrengthOf(no), Told::Strength(Reach::Unreachable)),
-            // That the number is there is told first.
-            (Plain(no, &[]), Told::Before),
-        ];
-        make_calls(rt, alloc, graph, &story);
-    }
-}
-
-#[test]
-fn an_add_without_memory_changes_nothing(rt: HostRuntime) -> Result<(), Fail> {
-    for size in [0, 64, 256, 1_024, 4_096, 16_384, 65_536] {
-        let mut memory = limited(rt.alloc(), size)?;
-        let mut graph = Graph::new(&memory);
-        let count = chain(&rt, &mut graph, 1_000);
-        assert!(rt; count < 1_000);
-        is_full(&rt, rt.alloc(), &mut graph, count);
-        drop(graph);
-        assert!(rt; memory.reset().is_ok(), "all memory was given back");
-    }
-    Ok(())
-}
-
-/// Makes numbers roots from 0 on, until there is no memory for one more. Answers how many were added.
-fn add_roots<A: Allocator + Copy>(rt: &impl Abort, alloc: Global, graph: &mut Graph<A>) -> u32 {
+/// Adds plain objects from 0 on, until there is no memory for one more. Answers how many were added.
+fn fill<A: Allocator + Copy>(rt: &impl Abort, graph: &mut Graph<A>) -> u32 {
     for no in 0..1_000 {
-        let told = answer(alloc, graph, Root(no));
-        if !told.is(Told::New) {
-            expect(rt, no as usize, told, Told::Refused(Fault::NoMemory));
+        if let Err(fault) = graph.add_object(ObjNo(no), &[]) {
+            assert_eq!(rt; fault, Fault::NoMemory);
             return no;
         }
     }
     1_000
 }
 
-/// The numbers from 0 on, so many, are roots, and there is no memory for one more.
-fn has_roots<A: Allocator + Copy>(
-    rt: &impl Abort,
-    alloc: Global,
-    graph: &mut Graph<A>,
-    count: u32,
-) {
-    for no in 0..count {
-        make_calls(rt, alloc, graph, &[(Root(no), Told::Before)]);
-    }
-    let refused = [(Root(count), Told::Refused(Fault::NoMemory))];
-    make_calls(rt, alloc, graph, &refused);
-}
-
 #[test]
-fn a_root_without_memory_changes_nothing(rt: HostRuntime) -> Result<(), Fail> {
-    for size in [0, 64, 256, 1_024, 4_096] {
-        let memory = limited(rt.alloc(), size)?;
-        let mut graph = Graph::new(&memory);
-        let count = add_roots(&rt, rt.alloc(), &mut graph);
-        has_roots(&rt, rt.alloc(), &mut graph, count);
-    }
+fn want_of_memory_is_told_last(rt: HostRuntime) -> Result<(), Fail> {
+    let memory = Rationed::new(rt.alloc());
+    let mut graph = Graph::new(&memory);
+    memory.ration(8);
+    let count = fill(&rt, &mut graph);
+    assert!(rt; 0 < count && count < 1_000, "{count} were added");
+    make_calls(&rt, rt.alloc(), &mut graph, &told_last(count));
+    // That the number is there is told first.
+    make_calls(
+        &rt,
+        rt.alloc(),
+        &mut graph,
+        &[(Plain(0, &[]), Told::Before)],
+    );
     Ok(())
 }
 
-/// In memory of so many bytes it is told that the last of 200 objects is strongly reachable, or refused. Answers
-/// whether it was told.
-fn is_told(
-    rt: &impl Abort,
-    alloc: Global,
-    graph: &Graph<Global>,
-    size: usize,
-) -> Result<bool, AllocError> {
-    let memory = limited(alloc, size)?;
-    let told = strength(&memory, graph, 199);
-    let no_such_object = Told::Refused(Fault::NoSuchObject);
-    expect(rt, 200, strength(&memory, graph, 200), no_such_object);
-    if told.is(Told::Strength(Reach::Strong)) {
-        return Ok(true);
+/// Two hundred objects, each with a field that leads to the next, from a root on.
+fn chain(alloc: Global) -> Result<Graph<Global>, Fault> {
+    let mut graph = Graph::new(alloc);
+    graph.add_root(ObjNo(0))?;
+    for no in 0..200 {
+        graph.add_object(ObjNo(no), &[Some(ObjNo(no + 1))])?;
     }
-    expect(rt, 199, told, Told::Refused(Fault::NoMemory));
-    Ok(false)
+    Ok(graph)
 }
 
-/// In memory of so many bytes all objects are listed, each of them strongly reachable, or the list is refused.
-fn are_all_told_or_none(
+/// A search of a graph.
+#[derive(Clone, Copy)]
+enum Search {
+    Last,
+    All,
+}
+
+/// Searches with each request refused in turn. Answers how many requests it makes.
+fn refuse_search(
     rt: &impl Abort,
-    alloc: Global,
+    memory: &Rationed<Global>,
     graph: &Graph<Global>,
-    size: usize,
-) -> Result<(), AllocError> {
-    let memory = limited(alloc, size)?;
-    match strengths(&memory, graph) {
-        Ok(listed) => assert!(rt; listed.iter().all(|of| of.reach == Reach::Strong)),
-        Err(fault) => assert_eq!(rt; fault, Fault::NoMemory),
+    search: Search,
+    trial: &Trial,
+) -> u64 {
+    for met in 0..MOST {
+        memory.ration(met);
+        let told = match search {
+            Search::Last => strength(memory, graph, 199),
+            Search::All => count(memory, graph),
+        };
+        if !is_refused(rt, memory, trial, met, told) {
+            return met;
+        }
     }
-    Ok(())
+    MOST
 }
 
 #[test]
 fn a_search_without_memory_is_refused(rt: HostRuntime) -> Result<(), Fail> {
-    let mut graph = Graph::new(rt.alloc());
-    graph.add_root(ObjNo(0))?;
-    assert_eq!(rt; chain(&rt, &mut graph, 200), 200);
-    let mut was_refused = false;
-    let mut was_answered = false;
-    for size in 0..300 {
-        if is_told(&rt, rt.alloc(), &graph, size * 256)? {
-            was_answered = true;
-        } else {
-            was_refused = true;
-        }
-        are_all_told_or_none(&rt, rt.alloc(), &graph, size * 256)?;
+    let memory = Rationed::new(rt.alloc());
+    let graph = chain(rt.alloc())?;
+    let searches = [
+        ("strength_of", Search::Last, Told::Strength(Reach::Strong)),
+        ("strengths", Search::All, Told::Count(200)),
+    ];
+    for (call, search, done) in searches {
+        let trial = Trial {
+            call,
+            refused: Told::Refused(Fault::NoMemory),
+            done,
+        };
+        let requests = refuse_search(&rt, &memory, &graph, search, &trial);
+        assert!(rt;
+            1 < requests && requests < MOST,
+            "{call} makes {requests} requests"
+        );
     }
-    assert!(rt; was_refused && was_answered);
+    // That there is no such object takes no memory to tell.
+    memory.ration(0);
+    let told = strength(&memory, &graph, 200);
+    assert!(rt; told.is(Told::Refused(Fault::NoSuchObject)));
     Ok(())
 }

@@ -136,10 +136,3 @@ fn after_new_no_memory_is_taken(rt: HostRuntime) -> Result<(), Fail> {
     }
     Ok(())
 }
-
-#[test]
-fn want_of_memory_is_told_by_new(rt: HostRuntime) -> Result<(), Fail> {
-    let memory = limited(rt.alloc(), 4_096)?;
-    no_memory_for(&rt, &memory, 1_000);
-    Ok(())
-}

@@ -2,8 +2,9 @@
 
 use super::Call::{Close, EnqueuedAt, Poll, Put, StandsAt, TakenAt};
 use super::{Call, Slip, answer, make_calls, of};
-use crate::arena::limited;
+use crate::scarce::{MOST, Trial, is_refused};
 use crate::told::{Told, expect};
+use rationed::Rationed;
 use ref_base::{Fault, QueueNo};
 use ref_queue::Queue;
 use std::alloc::{Allocator, Global};
@@ -52,16 +53,58 @@ fn drain<A: Allocator + Copy>(
     make_calls(rt, alloc, queue, &[(Poll, Told::Empty)]);
 }
 
+/// Makes a call of a queue with each request refused in turn: each time these are answered as they are here. Answers
+/// how many requests it makes.
+fn refuse_each<'a>(
+    rt: &impl Abort,
+    memory: &'a Rationed<Global>,
+    queue: &mut Queue<Slip, &'a Rationed<Global>>,
+    trial: &Trial,
+    call: Call,
+    stays: &[(Call, Told)],
+) -> u64 {
+    for met in 0..MOST {
+        memory.ration(met);
+        let told = answer(memory, queue, call);
+        if !is_refused(rt, memory, trial, met, told) {
+            return met;
+        }
+        make_calls(rt, memory, queue, stays);
+    }
+    MOST
+}
+
+/// Puts a slip in behind all that were numbered from 0 on, and answers how many requests this makes.
+fn put_last<'a>(
+    rt: &impl Abort,
+    memory: &'a Rationed<Global>,
+    queue: &mut Queue<Slip, &'a Rationed<Global>>,
+    object: u32,
+) -> u64 {
+    let slip = of(object);
+    let trial = Trial {
+        call: "Queue::put",
+        refused: Told::NotPut(Fault::NoMemory, slip),
+        done: Told::Added(u64::from(object)),
+    };
+    let stays = [
+        (EnqueuedAt(object as usize), Told::PastTheEnd),
+        (TakenAt(0), Told::PastTheEnd),
+        (StandsAt(object as usize), Told::PastTheEnd),
+    ];
+    refuse_each(rt, memory, queue, &trial, Put(slip), &stays)
+}
+
 #[test]
 fn a_put_without_memory_changes_nothing(rt: HostRuntime) -> Result<(), Fail> {
-    for size in [0, 64, 256, 1_024, 4_096] {
-        let mut memory = limited(rt.alloc(), size)?;
-        let mut queue = Queue::new(&memory, QueueNo(0));
-        let count = fill(&rt, rt.alloc(), &mut queue);
-        drain(&rt, rt.alloc(), &mut queue, count);
-        drop(queue);
-        assert!(rt; memory.reset().is_ok(), "all memory was given back");
+    let memory = Rationed::new(rt.alloc());
+    let mut queue = Queue::new(&memory, QueueNo(0));
+    let mut requests = 0u64;
+    for object in 0..100 {
+        requests = requests.saturating_add(put_last(&rt, &memory, &mut queue, object));
     }
+    assert!(rt; 1 < requests && requests < MOST, "{requests} requests");
+    drain(&rt, rt.alloc(), &mut queue, 100);
     Ok(())
 }
 
@@ -79,28 +122,45 @@ fn told_last(next: Slip) -> [(Call, Told); 5] {
 
 #[test]
 fn want_of_memory_is_told_last(rt: HostRuntime) -> Result<(), Fail> {
-    let memory = limited(rt.alloc(), 1_024)?;
+    let memory = Rationed::new(rt.alloc());
     let mut queue = Queue::new(&memory, QueueNo(0));
+    memory.ration(8);
     let count = fill(&rt, rt.alloc(), &mut queue);
+    assert!(rt; count > 0, "some were added");
     make_calls(&rt, rt.alloc(), &mut queue, &told_last(of(count)));
     Ok(())
 }
 
+/// What is listed, which each list but the last has at its first place.
+const LISTS: [(&str, Call, u32); 3] = [
+    ("Queue::enqueued", EnqueuedAt(0), 0),
+    ("Queue::taken", TakenAt(0), 0),
+    ("Queue::stands", StandsAt(0), 5),
+];
+
 #[test]
-fn lists_without_memory_are_refused(rt: HostRuntime) -> Result<(), Fail> {
-    let mut queue = Queue::new(rt.alloc(), QueueNo(0));
-    for object in 0..1_000 {
+fn a_list_without_memory_is_refused(rt: HostRuntime) -> Result<(), Fail> {
+    let memory = Rationed::new(rt.alloc());
+    let mut queue = Queue::new(&memory, QueueNo(0));
+    for object in 0..10 {
         queue.put(of(object))?;
     }
-    for _object in 0..500 {
+    for _object in 0..5 {
         queue.poll();
     }
-    let tiny = limited(rt.alloc(), 64)?;
-    let refused = [
-        (EnqueuedAt(0), Told::Refused(Fault::NoMemory)),
-        (TakenAt(0), Told::Refused(Fault::NoMemory)),
-        (StandsAt(0), Told::Refused(Fault::NoMemory)),
+    let stays = [
+        (EnqueuedAt(10), Told::PastTheEnd),
+        (TakenAt(5), Told::PastTheEnd),
+        (StandsAt(5), Told::PastTheEnd),
     ];
-    make_calls(&rt, &tiny, &mut queue, &refused);
+    for (call, list, first) in LISTS {
+        let trial = Trial {
+            call,
+            refused: Told::Refused(Fault::NoMemory),
+            done: Told::Object(first),
+        };
+        let requests = refuse_each(&rt, &memory, &mut queue, &trial, list, &stays);
+        assert_eq!(rt; requests, 1, "{call}");
+    }
     Ok(())
 }

@@ -6,10 +6,12 @@ use super::rows::{
     scanned, store, sweep, took, unhook, weak, worker_puts, worker_releases,
 };
 use super::{CONFIG, are_rows, do_steps, steps_of};
-use crate::arena::{all_but, all_that_is_left, limited};
-use bumpalo::Bump;
+use crate::arena::{all_that_is_left, limited};
+use crate::scarce::MOST;
+use rationed::Rationed;
 use ref_base::{Cause, Config, Fault, ObjNo, PlainStep, QueueNo, Reply, Step, WorkerNo};
 use ref_world::{Trace, World, run};
+use std::alloc::Global;
 use std::process::Abort;
 use std::test::Fail;
 
@@ -18,13 +20,6 @@ const TWO_QUEUES: Config = Config {
     queues: 2,
     ..CONFIG
 };
-
-/// How many bytes the heap of a world takes: 11,040 for each of its two pages, 16 for each of its 8 cells and for its
-/// worker, and 128 for the slots of its mutator.
-const HEAP: usize = 2 * 11_040 + 8 * 16 + 16 + 128;
-
-/// More than hands and queues take.
-const HANDS_AND_QUEUES: usize = 1_280;
 
 const NO_MEMORY: Reply = Reply::Refused(Fault::NoMemory);
 
@@ -37,46 +32,27 @@ fn in_hand() -> [(Step, Reply); 3] {
     ]
 }
 
-#[test]
-fn want_of_memory_is_told_by_new(rt: HostRuntime) -> Result<(), Fail> {
-    let mut was_refused = false;
-    let mut was_made = false;
-    // What is left grows by steps so small that in some of them only hands or queues have too little.
-    for step in 0..=(HEAP + HANDS_AND_QUEUES) / 16 {
-        let memory = limited(rt.alloc(), HEAP + HANDS_AND_QUEUES)?;
-        let _rest = all_but(&memory, 16 * step)?;
-        match World::new(&memory, CONFIG) {
-            Ok(world) => {
-                world.end();
-                was_made = true;
-            }
-            Err(fault) => {
-                assert_eq!(rt; fault, Fault::NoMemory, "step {step}");
-                was_refused = true;
-            }
-        }
-    }
-    assert!(rt; was_refused, "there was too little");
-    assert!(rt; was_made, "there was enough");
-    Ok(())
-}
-
-/// Whether the rows of a run find this room. The world and the steps come back where they don't, with no step done.
-fn is_run(
+/// A list of steps that is run with so many requests for memory met, behind those that world and list themselves make.
+/// Without room for the rows, world and steps come back, with no step done. Answers whether that was so.
+fn is_run_refused(
     rt: &impl Abort,
-    memory: &Bump,
-    room: &Bump,
+    memory: &Rationed<Global>,
+    met: u64,
     asked: &[(Step, Reply)],
 ) -> Result<bool, Fail> {
     let steps = steps_of(memory, asked)?;
     let world = World::new(memory, CONFIG)?;
-    match run(room, world, steps) {
+    let call = "run";
+    memory.ration(met);
+    match run(memory, world, steps) {
         Ok(Trace { rows, world }) => {
+            assert!(rt; !memory.lift(), "{call} answers in place of the error");
             are_rows(rt, &rows, asked);
             world.end();
-            Ok(true)
+            Ok(false)
         }
         Err((fault, mut world, steps)) => {
+            assert!(rt; memory.lift(), "{call} found memory");
             assert_eq!(rt; fault, Fault::NoMemory);
             assert_eq!(rt; steps.len(), asked.len());
             for (place, &(want, _reply)) in asked.iter().enumerate() {
@@ -85,94 +61,93 @@ fn is_run(
             // Each step is answered as in a new world.
             do_steps(rt, &mut world, asked);
             world.end();
-            Ok(false)
+            Ok(true)
         }
     }
 }
 
 #[test]
 fn a_run_without_room_gives_world_and_steps_back(rt: HostRuntime) -> Result<(), Fail> {
-    let mut was_refused = false;
-    let mut was_run = false;
-    for step in 0..16 {
-        let memory = limited(rt.alloc(), 32_768)?;
-        // The rows have an arena of their own.
-        let room = limited(rt.alloc(), 1_024)?;
-        let _rest = all_but(&room, 16 * step)?;
-        if is_run(&rt, &memory, &room, &in_hand())? {
-            was_run = true;
-        } else {
-            was_refused = true;
+    let memory = Rationed::new(rt.alloc());
+    let mut requests = 0;
+    for met in 0..MOST {
+        if !is_run_refused(&rt, &memory, met, &in_hand())? {
+            break;
         }
+        requests = met + 1;
     }
-    assert!(rt; was_refused, "there was too little");
-    assert!(rt; was_run, "there was enough");
+    assert_eq!(rt; requests, 1, "run asks once for all its rows");
     Ok(())
 }
 
-/// Whether a put finds memory, where so many bytes of the arena are left. Its notice stays in the hand where it
-/// doesn't.
-fn is_put(
-    rt: &impl Abort,
-    memory: &Bump,
-    left: usize,
-    stays: &[(Step, Reply)],
-) -> Result<bool, Fail> {
-    let mut world = World::new(memory, CONFIG)?;
-    do_steps(rt, &mut world, &in_hand());
-    let rest = all_but(memory, left);
-    assert!(rt; rest.is_ok());
-    let reply = world.step(PUT);
-    let is_added = reply == Reply::Added(0);
-    if is_added {
-        do_steps(rt, &mut world, &[(poll(0), took(2))]);
-    } else {
-        assert_eq!(rt; reply, NO_MEMORY);
-        do_steps(rt, &mut world, stays);
-    }
-    world.end();
-    Ok(is_added)
+/// A notice that finds no memory stays in the hand.
+fn still_in_hand() -> [(Step, Reply); 3] {
+    [
+        (unhook(2), refused(Fault::HandFull)),
+        (poll(0), refused(Fault::HandFull)),
+        (unhook(1), refused(Fault::HandFull)),
+    ]
 }
 
 #[test]
 fn a_put_without_memory_leaves_its_notice_in_the_hand(rt: HostRuntime) -> Result<(), Fail> {
-    let still_in_hand = [
-        (poll(0), refused(Fault::HandFull)),
-        (PUT, NO_MEMORY),
-        (poll(0), refused(Fault::HandFull)),
-        (adopt(3), object(2)),
-        (poll(0), Reply::Empty),
-    ];
-    let mut was_refused = false;
-    let mut was_added = false;
-    for step in 0..64 {
-        let memory = limited(rt.alloc(), 32_768)?;
-        if is_put(&rt, &memory, 16 * step, &still_in_hand)? {
-            was_added = true;
-        } else {
-            was_refused = true;
+    let memory = Rationed::new(rt.alloc());
+    let mut world = World::new(&memory, CONFIG)?;
+    do_steps(&rt, &mut world, &in_hand());
+    let mut requests = 0;
+    for met in 0..MOST {
+        memory.ration(met);
+        let reply = world.step(PUT);
+        if !memory.lift() {
+            assert_eq!(rt;
+                reply,
+                Reply::Added(0),
+                "World::step with {met} requests met"
+            );
+            break;
         }
+        assert_eq!(rt; reply, NO_MEMORY, "World::step with {met} requests met");
+        do_steps(&rt, &mut world, &still_in_hand());
+        requests = met + 1;
     }
-    assert!(rt; was_refused, "there was too little");
-    assert!(rt; was_added, "there was enough");
+    assert!(rt;
+        1 < requests && requests < MOST,
+        "a put makes {requests} requests"
+    );
+    do_steps(
+        &rt,
+        &mut world,
+        &[(poll(0), took(2)), (adopt(3), object(2))],
+    );
+    world.end();
     Ok(())
 }
 
+/// Two references are enqueued, and the first put finds no memory, but the second does.
 #[test]
 fn a_refused_put_succeeds_once_there_is_memory(rt: HostRuntime) -> Result<(), Fail> {
-    let memory = limited(rt.alloc(), 32_768)?;
+    let memory = Rationed::new(rt.alloc());
     let mut world = World::new(&memory, CONFIG)?;
-    do_steps(&rt, &mut world, &in_hand());
-    let rest = all_that_is_left(&rt, &memory);
-    assert!(rt; rest.is_ok());
-    do_steps(&rt, &mut world, &[(PUT, NO_MEMORY), (PUT, NO_MEMORY)]);
-    drop(rest);
-    let put_in = [
-        (PUT, Reply::Added(0)),
-        (PUT, refused(Fault::HandEmpty)),
-        (poll(0), took(2)),
+    let enqueued = [
+        (new(0, 0), object(1)),
+        (weak(1, 0, 0), object(2)),
+        (weak(2, 0, 0), object(3)),
+        (unhook(1), own(2, 0)),
     ];
-    do_steps(&rt, &mut world, &put_in);
+    do_steps(&rt, &mut world, &enqueued);
+    memory.ration(0);
+    do_steps(&rt, &mut world, &[(PUT, NO_MEMORY)]);
+    assert!(rt; memory.lift(), "a request was refused");
+    let rest = [
+        (unhook(2), refused(Fault::HandFull)),
+        (PUT, Reply::Added(0)),
+        (poll(0), took(2)),
+        (RELEASE, Reply::Done),
+        (poll(0), Reply::Empty),
+        (RELEASE, refused(Fault::HandEmpty)),
+        (poll(0), Reply::Empty),
+    ];
+    do_steps(&rt, &mut world, &rest);
     world.end();
     Ok(())
 }

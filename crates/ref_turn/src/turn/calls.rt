@@ -5,6 +5,7 @@ ghost use Rattle.ref_base.specs.declared.fault.Fault.TheVariants.{NoMemory};
 ghost use Rattle.ref_turn.specs.declared.turn.TurnFault.TheVariants.{Busy, Spent};
 ghost use Rattle.ref_turn.specs.History.{calls_by, StartsWith};
 ghost use Rattle.ref_turn.specs.Seats.{entry, Longer, Extends, IsHistory, SawBusy, Begins, IsFirst, EndsAs};
+ghost use Rattle.ref_turn.specs.Seats.{IsLeftOpen};
 ghost use Rattle.ref_turn.specs.Turns.{view, IsBeside, IsSeatOf};
 
 use super::plays::{Cut, Look, Name, TakeIn};
@@ -164,7 +165,8 @@ impl<M: Machine, A: Allocator> Turn<M, A> {
     /// `Err` only where a turn is open, with whatever the slot held: a thread that stopped within its turn left it so.
     pub fn finish(self, seat: TurnSeat<M>) -> Result<M, Option<M>>
         requires { IsSeatOf self seat }
-        ensures { IfOk result (λ m. EndsAs M.stands_for M.steps_to (view seat) m) }
+        ensures ok { IfOk result (λ m. EndsAs M.stands_for M.steps_to (view seat) m) }
+        ensures err { IfErr result (λ _. IsLeftOpen M.stands_for M.steps_to (view seat)) }
     {
         let Turn { table, .. } = self;
         let mut closed = table.close_with(seat.into_place());

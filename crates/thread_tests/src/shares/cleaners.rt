@@ -39,6 +39,8 @@ struct Story<'a> {
     calls: &'a [(Act, Answer)],
     /// What a third thread does while two run the jobs of what is gone. Where it is nothing, there are no such threads.
     meanwhile: &'a [(Call, Told)],
+    /// What it does then, while job 1 waits for it.
+    held: &'a [(Act, Answer)],
     /// How many jobs the two run.
     count: u64,
     then: &'a [(Act, Answer)],
@@ -58,6 +60,7 @@ fn quiet<'a>() -> Story<'a> {
         jobs: &[],
         calls: &[],
         meanwhile: &[],
+        held: &[],
         count: 0,
         then: &[],
         heard: (0, 0),
@@ -110,12 +113,7 @@ fn tell<R: Threads + Wait + Abort + Sync>(
     let mut chair = chair;
     do_all(rt, shared, &mut chair, &mut jobs, &hearing, story.calls);
     if !story.meanwhile.is_empty() {
-        let Story {
-            meanwhile,
-            count,
-            ..
-        } = story;
-        threads::clean_meanwhile(rt, shared, &mut chair, &hearing, meanwhile, *count);
+        threads::clean_meanwhile(rt, shared, &mut chair, &mut jobs, &hearing, story);
     }
     do_all(rt, shared, &mut chair, &mut jobs, &hearing, story.then);
     assert!(rt; !hearing.gave_up(), "one job waited for the other in vain");

@@ -1,80 +1,146 @@
-//! Shared heaps and queues whose memory runs out.
+//! Shared heaps, queues and cleaners whose memory runs out: each request for it is refused in turn, until a call meets
+//! no refusal.
 
-use super::calls::{Ask, Call, Seats, Told, answer};
-use super::{CONFIG, Q, death, make_calls};
-use crate::arena::{all_but, limited};
-use bumpalo::Bump;
-use ref_base::{Fault, ObjNo};
-use ref_share::{Delivery, SharedHeap, SharedQueue, end_queue};
-use std::alloc::Global;
+ghost use Rattle.ref_share.specs.HeapSeats.{IsHeapSeat};
+ghost use Rattle.ref_share.specs.QueueSeats.{IsQueueSeat};
+ghost use Rattle.std.specs.Prelude.{◌≡◌, ◌<◌, ◌^◌};
+
+use super::calls::{Ask, Call, Do, Seats, Told, answer, refused, step_of};
+use super::{CONFIG, M, Q, death, make_calls};
+use rationed::Rationed;
+use ref_base::{Fault, ObjNo, SlotNo};
+use ref_queue::{Action, Job};
+use ref_share::{Delivery, SharedCleaner, SharedHeap, SharedQueue, end_queue, run_jobs_left};
+use std::alloc::{AllocError, Allocator, Global};
 use std::process::Abort;
 use std::sync::Wait;
 use std::test::Fail;
 
-/// Makes a heap in the last bytes of an arena, which are enough or not.
-fn heap_in(rt: &impl Abort, memory: &Bump, left: usize) -> Result<bool, Fail> {
-    let _rest = all_but(memory, left)?;
-    match SharedHeap::new(memory, CONFIG, 0) {
-        Ok(_made) => Ok(true),
-        Err(fault) => {
-            assert_eq!(rt; fault, Fault::NoMemory);
-            Ok(false)
-        }
-    }
+/// More requests than any call makes.
+const MOST: u64 = 1_000;
+
+/// What is made whole or not at all.
+#[derive(Clone, Copy)]
+enum Made {
+    Heap,
+    HeapLater,
+    Queue,
+    QueueLater,
+    Cleaner,
+    CleanerLater,
 }
 
-/// The same of a queue.
-fn queue_in(rt: &impl Abort, memory: &Bump, left: usize) -> Result<bool, Fail> {
-    let _rest = all_but(memory, left)?;
-    match SharedQueue::new(memory, Q) {
-        Ok((queue, seat)) => {
+/// Each of them, and what it is called.
+const EACH: [(&str, Made); 6] = [
+    ("SharedHeap::new", Made::Heap),
+    ("SharedHeap::starting", Made::HeapLater),
+    ("SharedQueue::new", Made::Queue),
+    ("SharedQueue::starting", Made::QueueLater),
+    ("SharedCleaner::new", Made::Cleaner),
+    ("SharedCleaner::starting", Made::CleanerLater),
+];
+
+fn make_queue<A: Allocator + Copy>(alloc: A, first: u64) -> Result<(), Fault> {
+    let (queue, seat) = SharedQueue::starting(alloc, Q, first)?;
+    end_queue(queue.finish(seat));
+    Ok(())
+}
+
+fn make_cleaner<A: Allocator + Copy>(alloc: A, first: u64) -> Result<(), Fault> {
+    let (cleaner, seat) = SharedCleaner::starting(alloc, Q, first)?;
+    run_jobs_left(cleaner.finish(seat));
+    Ok(())
+}
+
+/// Makes it, and ends it again.
+fn make<A: Allocator + Copy>(alloc: A, made: Made) -> Result<(), Fault> {
+    match made {
+        Made::Heap => {
+            let _made = SharedHeap::new(alloc, CONFIG, 0)?;
+        }
+        Made::HeapLater => {
+            let _made = SharedHeap::starting(alloc, CONFIG, 0, 7)?;
+        }
+        Made::Queue => {
+            let (queue, seat) = SharedQueue::new(alloc, Q)?;
             end_queue(queue.finish(seat));
-            Ok(true)
         }
-        Err(fault) => {
-            assert_eq!(rt; fault, Fault::NoMemory);
-            Ok(false)
+        Made::QueueLater => make_queue(alloc, 7)?,
+        Made::Cleaner => {
+            let (cleaner, seat) = SharedCleaner::new(alloc, Q)?;
+            run_jobs_left(cleaner.finish(seat));
         }
+        Made::CleanerLater => make_cleaner(alloc, 7)?,
     }
-}
-
-#[test]
-fn a_heap_that_finds_no_memory_is_not_made(rt: HostRuntime) -> Result<(), Fail> {
-    let mut made = false;
-    for step in 0..400 {
-        let memory = limited(rt.alloc(), 32_768)?;
-        let was_made = made;
-        made = heap_in(&rt, &memory, 64 * step)?;
-        // What was enough once is enough from then on.
-        assert!(rt; made || !was_made, "step {step}");
-        assert!(rt; step > 0 || !made, "no byte is enough");
-    }
-    assert!(rt; made);
     Ok(())
 }
 
-#[test]
-fn a_queue_that_finds_no_memory_is_not_made(rt: HostRuntime) -> Result<(), Fail> {
-    let mut made = false;
-    for step in 0..160 {
-        let memory = limited(rt.alloc(), 4_096)?;
-        let was_made = made;
-        made = queue_in(&rt, &memory, 16 * step)?;
-        // What was enough once is enough from then on.
-        assert!(rt; made || !was_made, "step {step}");
-        assert!(rt; step > 0 || !made, "no byte is enough");
+/// Makes it with each request refused in turn. Answers how many requests it makes.
+fn make_each(rt: &impl Abort, memory: &Rationed<Global>, name: &str, made: Made) -> u64 {
+    for met in 0..MOST {
+        memory.ration(met);
+        let answer = make(memory, made);
+        if !memory.lift() {
+            assert_eq!(rt; answer, Ok(()), "{name} with {met} requests met");
+            return met;
+        }
+        assert_eq!(rt;
+            answer,
+            Err(Fault::NoMemory),
+            "{name} with {met} requests met"
+        );
     }
-    assert!(rt; made);
+    MOST
+}
+
+#[test]
+fn what_finds_no_memory_is_not_made(rt: HostRuntime) -> Result<(), Fail> {
+    let memory = Rationed::new(rt.alloc());
+    for (name, made) in EACH {
+        let requests = make_each(&rt, &memory, name, made);
+        assert!(rt;
+            1 < requests && requests < MOST,
+            "{name} makes {requests} requests"
+        );
+    }
     Ok(())
 }
 
-/// What a call at the end of a cycle is told where just so many bytes are left, and a poll behind it.
+/// A call behind a cycle in which references 2 and 3 were cleared, what it is told, and what the same call is told where
+/// it was refused at first.
+#[derive(Clone, Copy)]
+struct Trial {
+    name: &'static str,
+    call: Call,
+    added: Told,
+    then: Told,
+}
+
+/// A poll, and then the call once more where it was refused at first, and there is memory now.
+fn told_next<'a, R: Wait + Abort>(
+    rt: &R,
+    heap: &SharedHeap<&'a Rationed<Global>>,
+    queue: &SharedQueue<&'a Rationed<Global>>,
+    seats: &mut Seats<&'a Rationed<Global>>,
+    again: Option<Call>,
+) -> (Told, Option<Told>)
+    requires { IsHeapSeat heap.now seats.old.heap × IsQueueSeat queue.now seats.old.queue }
+    ensures { IsHeapSeat heap.now seats.new.heap × IsQueueSeat queue.now seats.new.queue }
+{
+    let next = answer(rt, heap, queue, seats, Call::Queue(Ask::PollNow));
+    match again {
+        Some(call) => (next, Some(answer(rt, heap, queue, seats, call))),
+        None => (next, None),
+    }
+}
+
+/// What a call is told with so many requests for memory met, on a new heap and queue, and what is told next.
 fn told_with<R: Wait + Abort>(
     rt: &R,
-    memory: &Bump,
-    left: usize,
+    memory: &Rationed<Global>,
+    met: u64,
     call: Call,
-) -> Result<(Told, Told), Fail> {
+) -> Result<(Told, Told, Option<Told>), Fail> {
     let (heap, heap_seat) = SharedHeap::new(memory, CONFIG, 0)?;
     let (queue, queue_seat) = SharedQueue::new(memory, Q)?;
     let mut seats = Seats {
@@ -82,42 +148,160 @@ fn told_with<R: Wait + Abort>(
         queue: queue_seat,
     };
     make_calls(rt, &heap, &queue, &mut seats, &death());
-    let rest = all_but(memory, left);
+    memory.ration(met);
     let told = answer(rt, &heap, &queue, &mut seats, call);
-    let next = answer(rt, &heap, &queue, &mut seats, Call::Queue(Ask::PollNow));
+    let again = if memory.lift() { Some(call) } else { None };
+    let (next, then) = told_next(rt, &heap, &queue, &mut seats, again);
     end_queue(queue.finish(seats.queue));
-    let _rest = rest?;
-    Ok((told, next))
+    Ok((told, next, then))
 }
 
-/// The notice of reference 2 goes in by this call where there is memory, and else it comes back and nothing stands.
-fn agree_in_arenas<R: Wait + Abort>(
+/// A call with so many requests met was told this, and a poll behind it that.
+fn expect(rt: &impl Abort, name: &str, met: u64, told: (Told, Told), want: (Told, Told)) {
+    assert!(rt;
+        told == want,
+        "{name} with {met} requests met: {told:?}, and not {want:?}"
+    );
+}
+
+/// Makes the call with each request refused in turn: each time the notice of reference 2 comes back, and nothing stands.
+/// Answers how many requests it makes.
+fn refuse_each<R: Wait + Abort>(
     rt: &R,
-    alloc: Global,
-    call: Call,
-    added: Told,
-) -> Result<(), Fail> {
-    let no_memory = (Told::NotPut(2, Fault::NoMemory), Told::Empty);
-    let mut is_in = false;
-    for step in 0..128 {
-        let memory = limited(alloc, 32_768)?;
-        let told = told_with(rt, &memory, 8 * step, call)?;
-        let was_in = is_in;
-        is_in = told == (added, Told::Took(2));
-        assert!(rt;
-            is_in || (!was_in && told == no_memory),
-            "step {step}: {told:?}"
+    memory: &Rationed<Global>,
+    trial: &Trial,
+) -> Result<u64, Fail> {
+    for met in 0..MOST {
+        let (told, next, then) = told_with(rt, memory, met, trial.call)?;
+        if then.is_none() {
+            expect(
+                rt,
+                trial.name,
+                met,
+                (told, next),
+                (trial.added, Told::Took(2)),
+            );
+            return Ok(met);
+        }
+        expect(
+            rt,
+            trial.name,
+            met,
+            (told, next),
+            (Told::NotPut(2, Fault::NoMemory), Told::Empty),
         );
-        assert!(rt; step > 0 || !is_in, "no byte is enough");
+        assert!(rt; then == Some(trial.then), "there is memory then: {then:?}");
     }
-    assert!(rt; is_in);
-    Ok(())
+    Ok(MOST)
 }
 
 #[test]
 fn a_notice_that_finds_no_memory_comes_back(rt: HostRuntime) -> Result<(), Fail> {
-    let delivered = Told::Delivered(Delivery::Added(ObjNo(2), Q, 0));
-    agree_in_arenas(&rt, rt.alloc(), Call::Put(1), Told::Added(0))?;
-    agree_in_arenas(&rt, rt.alloc(), Call::Enqueue(1), Told::Enqueued(true))?;
-    agree_in_arenas(&rt, rt.alloc(), Call::Deliver(0), delivered)
+    let trials = [
+        Trial {
+            name: "SharedQueue::put",
+            call: Call::Put(1),
+            added: Told::Added(0),
+            then: Told::Added(0),
+        },
+        Trial {
+            name: "enqueue",
+            call: Call::Enqueue(1),
+            added: Told::Enqueued(true),
+            then: Told::Enqueued(true),
+        },
+        // What came back is handed on no more.
+        Trial {
+            name: "deliver_one",
+            call: Call::Deliver(0),
+            added: Told::Delivered(Delivery::Added(ObjNo(2), Q, 0)),
+            then: Told::Delivered(Delivery::Added(ObjNo(3), Q, 0)),
+        },
+    ];
+    let memory = Rationed::new(rt.alloc());
+    for trial in &trials {
+        let requests = refuse_each(&rt, &memory, trial)?;
+        let name = trial.name;
+        assert!(rt;
+            1 < requests && requests < MOST,
+            "{name} makes {requests} requests"
+        );
+    }
+    Ok(())
+}
+
+/// What a register is told with so many requests for memory met, on a new heap with object 1 in slot 0 and a new
+/// cleaner, whether a request was refused, and the job where it came back.
+fn register_with<R: Wait>(
+    rt: &R,
+    memory: &Rationed<Global>,
+    met: u64,
+    job: Job,
+) -> Result<(Told, bool, Option<Job>), Fail> {
+    let (heap, mut heap_seat) = SharedHeap::new(memory, CONFIG, 0)?;
+    let (cleaner, mut seat) = SharedCleaner::new(memory, Q)?;
+    let _object = heap.ask(rt, &mut heap_seat, step_of(Do::New(0)));
+    memory.ration(met);
+    let answer = cleaner.register(
+        rt,
+        &mut seat,
+        &heap,
+        &mut heap_seat,
+        M,
+        SlotNo(0),
+        SlotNo(1),
+        job,
+    );
+    let was_refused = memory.lift();
+    let (told, back) = match answer {
+        Ok(_cleanable) => (Told::Added(0), None),
+        Err((fault, job)) => (refused(rt, &heap, &mut heap_seat, fault), Some(job)),
+    };
+    run_jobs_left(cleaner.finish(seat));
+    Ok((told, was_refused, back))
+}
+
+/// A job of this number, which it answers.
+fn job(alloc: Global, number: u32) -> Result<Job, AllocError> {
+    let action: Action = Box::new(
+        alloc,
+        move |number: u64| -> u64
+            requires { number < 2 ^ 32 }
+            ensures { result ≡ number }
+        { number },
+    )?;
+    let number = u64::from(number);
+    Ok(Job::new(number, number, action))
+}
+
+/// Registers a job with each request refused in turn: each time it comes back. Then it is registered. Answers how many
+/// requests this makes.
+fn register_each<R: Wait + Abort>(
+    rt: &R,
+    alloc: Global,
+    memory: &Rationed<Global>,
+) -> Result<u64, Fail> {
+    for met in 0..MOST {
+        let given = job(alloc, 1)?;
+        let (told, was_refused, back) = register_with(rt, memory, met, given)?;
+        let Some(back) = back else {
+            assert!(rt; !was_refused, "it is registered with {met} requests met");
+            return Ok(met);
+        };
+        assert!(rt; was_refused, "there was memory, with {met} requests met");
+        assert!(rt; told == Told::Refused(Fault::NoMemory), "{told:?}");
+        assert!(rt; back.number() == 1, "the job comes back");
+    }
+    Ok(MOST)
+}
+
+#[test]
+fn a_job_that_finds_no_memory_comes_back(rt: HostRuntime) -> Result<(), Fail> {
+    let memory = Rationed::new(rt.alloc());
+    let requests = register_each(&rt, rt.alloc(), &memory)?;
+    assert!(rt;
+        1 < requests && requests < MOST,
+        "register makes {requests} requests"
+    );
+    Ok(())
 }

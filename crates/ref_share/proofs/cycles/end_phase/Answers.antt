@@ -1,4 +1,5 @@
-use Rattle.ref_share.proofs.Common.{subst, false≢true, IsSome, heap_view}
+use Rattle.ref_share.proofs.Common.{subst, false≢true, inl, IsSome, heap_view}
+use Rattle.std.proofs.lemmas.Result.{err_from_is_err_and}
 use Rattle.ref_share.proofs.cycles.end_phase.Goals.{in-None, in-Some+in_ok-perform+then-eq+in-Ok}
 use Rattle.ref_share.proofs.cycles.end_phase.Goals as goal
 
@@ -17,3 +18,8 @@ returns-clause-ends g c =
           let ends = w.in-Ok.ensures.performs in
           rw w.seat-is (heap_view w.perform.new.seat, (w.in-Ok.field-0, ends.0, ends.1))
     ]
+
+pub returns-in_err-perform-clause-stops : goal.returns-in_err-perform-clause-stops
+returns-in_err-perform-clause-stops g c =
+    let p = err_from_is_err_and c.from_residual.result c.from_residual.ensures.1 in
+    rw (p.1, p.2) (heap_view c.loop.seat, inl c.in_err-perform.ensures.performs)

@@ -5,7 +5,7 @@ use ref_queue::Ran;
 use ref_share::Gate;
 use std::sync::atomic::{AtomicU64, Ordering};
 
-/// Counts what it is told of jobs 1 and 2. Job 1 waits for job 2, if it is to.
+/// Counts what it is told of jobs 1 and 2. Job 1 waits for job 2, and until its gate is opened, if it is to.
 #[derive(Drop)]
 pub struct Hearing {
     first: Heard,
@@ -13,6 +13,7 @@ pub struct Hearing {
     /// How often it was told something else, or out of order.
     others: AtomicU64,
     waits: bool,
+    opened: AtomicU64,
     gave_up: AtomicU64,
 }
 
@@ -44,6 +45,7 @@ impl Hearing {
             second: Heard::new(),
             others: AtomicU64::new(0),
             waits,
+            opened: AtomicU64::new(0),
             gave_up: AtomicU64::new(0),
         }
     }
@@ -57,7 +59,17 @@ impl Hearing {
         )
     }
 
-    /// Whether job 1 waited for 1,000,000 looks, and job 2 was not run.
+    /// Waits until job 1 is at its gate, for at most 1,000,000 looks. Whether it is, and was not run yet.
+    pub fn is_reached(&self) -> bool {
+        saw(&self.first.before, 1_000_000) && self.first.is_between()
+    }
+
+    /// Lets job 1 go on, once job 2 was run.
+    pub fn open(&self) {
+        self.opened.store(1, Ordering::SeqCst);
+    }
+
+    /// Whether job 1 waited for 1,000,000 looks, and job 2 was not run, or its gate not opened.
     pub fn gave_up(&self) -> bool {
         self.gave_up.load(Ordering::SeqCst) == 1
     }
@@ -71,8 +83,11 @@ impl Gate for Hearing {
             _ => &self.others,
         };
         count.fetch_add(1, Ordering::SeqCst);
-        if self.waits && number == 1 && !saw(&self.second.after, 1_000_000) {
-            self.gave_up.store(1, Ordering::SeqCst);
+        if self.waits && number == 1 {
+            let is_run = saw(&self.second.after, 1_000_000);
+            if !is_run || !saw(&self.opened, 1_000_000) {
+                self.gave_up.store(1, Ordering::SeqCst);
+            }
         }
     }
 

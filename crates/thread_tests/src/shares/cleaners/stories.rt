@@ -48,7 +48,7 @@ const ENQUEUE: (Call, Told) = (Call::Enqueue(1), Told::Enqueued(true));
 #[test]
 fn each_job_runs_once_by_hand_or_by_one_of_two_threads(rt: HostRuntime) -> Result<(), Fail> {
     let story = Story {
-        jobs: &[3, 1, 2],
+        jobs: &[3, 1, 2, 4],
         calls: &[
             share(new(0, 1)),
             register(0, 1, 2),
@@ -76,16 +76,21 @@ fn each_job_runs_once_by_hand_or_by_one_of_two_threads(rt: HostRuntime) -> Resul
             step(Do::EndClear),
         ],
         meanwhile: &[deliver(4, 0), deliver(6, 1), CLOSE],
+        held: &[
+            share((Call::Step(Do::New(8)), Told::Reply(Reply::Object(ObjNo(7))))),
+            register(8, 9, 8),
+            (Act::Clean(8, 3), Answer::Ran(4, 1004)),
+        ],
         count: 2,
         then: &[
             (Act::Clean(2, 3), Answer::Gone),
             (Act::Clean(4, 3), Answer::Gone),
             (Act::Clean(6, 3), Answer::Gone),
             share((Call::Deliver(0), Told::Delivered(Delivery::Nothing))),
-            (Act::Served, Answer::Share(Told::Served(10))),
+            (Act::Served, Answer::Share(Told::Served(12))),
         ],
         heard: (1, 1),
-        called: 3,
+        called: 4,
         ..quiet()
     };
     agree(&rt, rt.alloc(), &story)

@@ -6,9 +6,12 @@ ghost use Rattle.ref_share.specs.QueueSeats.{IsQueueSeat};
 
 use super::acts::{Answer, Chair, Shared, looped};
 use super::hearing::Hearing;
-use crate::shares::calls::{Call, Seats, Told};
+use super::{Story, do_all};
+use crate::shares::calls::Seats;
 use crate::shares::make_calls;
+use ref_queue::Job;
 use ref_share::{CleanSeat, SharedCleaner, SharedHeap, SharedQueue};
+use std::collections::VecDeque;
 use std::process::Abort;
 use std::sync::Wait;
 use std::thread;
@@ -92,49 +95,105 @@ fn join_given<
     )
 }
 
-/// Two threads that run the jobs of what is gone; and what each was told.
-fn both_ended<R: Threads + Wait + Sync>(
+/// Runs the jobs of what is gone in a thread of its own, until the queue is closed, and calls the other meanwhile.
+fn beside_loop<R: Threads + Wait + Sync, U: Drop, G: FnOnce() -> U>(
     rt: &R,
     cleaner: &SharedCleaner,
-    left: CleanSeat,
-    right: CleanSeat,
-    beside_left: Beside,
-    beside_right: Beside,
-) -> (Answer, Answer)
-    requires left { IsCleanSeat cleaner.now left }
-    requires right { IsCleanSeat cleaner.now right }
-    requires beside_left { IsHeapSeat beside_left.heap.now beside_left.seats.heap
-        × IsQueueSeat beside_left.queue.now beside_left.seats.queue }
-    requires beside_right { IsHeapSeat beside_right.heap.now beside_right.seats.heap
-        × IsQueueSeat beside_right.queue.now beside_right.seats.queue }
+    seat: CleanSeat,
+    beside: Beside,
+    other: G,
+) -> (Answer, U)
+    requires seat { IsCleanSeat cleaner.now seat }
+    requires beside { IsHeapSeat beside.heap.now beside.seats.heap
+        × IsQueueSeat beside.queue.now beside.seats.queue }
+    requires other { G.pre other }
 {
     join_given(
         rt,
         cleaner,
-        left,
-        beside_left,
+        seat,
+        beside,
         |cleaner: &SharedCleaner, seat: CleanSeat, beside: Beside| -> Answer
             requires cleaner { IsCleanSeat cleaner.now seat }
             requires beside { IsHeapSeat beside.heap.now beside.seats.heap
                 × IsQueueSeat beside.queue.now beside.seats.queue }
         { ended(rt, cleaner, seat, beside) },
-        || -> Answer
-            requires cleaner { IsCleanSeat cleaner.now right }
-            requires beside { IsHeapSeat beside_right.heap.now beside_right.seats.heap
-                × IsQueueSeat beside_right.queue.now beside_right.seats.queue }
-        { ended(rt, cleaner, right, beside_right) },
+        other,
     )
 }
 
-/// Two threads run the jobs of what is gone, so many in all, while a third makes these calls, each of which has its
-/// answer.
+/// What a third thread does while two run jobs: calls of heap and queue, and then, while job 1 waits at its gate, what
+/// is to be answered before that goes on.
+fn do_meanwhile<R: Wait + Abort>(
+    rt: &R,
+    shared: Shared,
+    chair: Chair,
+    jobs: &mut VecDeque<Job>,
+    hearing: &Hearing,
+    story: &Story,
+)
+    requires { IsHeapSeat shared.heap.now chair.seats.heap
+        × IsQueueSeat shared.queue.now chair.seats.queue
+        × IsCleanSeat shared.cleaner.now chair.cleaner }
+{
+    let mut chair = chair;
+    make_calls(
+        rt,
+        shared.heap,
+        shared.queue,
+        &mut chair.seats,
+        story.meanwhile,
+    );
+    assert!(rt; hearing.is_reached(), "job 1 is at its gate");
+    do_all(rt, shared, &mut chair, jobs, hearing, story.held);
+    hearing.open();
+}
+
+/// One thread runs the jobs of what is gone, while this one does what a story tells.
+fn one_beside<R: Threads + Wait + Abort + Sync>(
+    rt: &R,
+    shared: Shared,
+    loops: Chair,
+    chair: Chair,
+    jobs: &mut VecDeque<Job>,
+    hearing: &Hearing,
+    story: &Story,
+) -> Answer
+    requires loops { IsHeapSeat shared.heap.now loops.seats.heap
+        × IsQueueSeat shared.queue.now loops.seats.queue
+        × IsCleanSeat shared.cleaner.now loops.cleaner }
+    requires chair { IsHeapSeat shared.heap.now chair.seats.heap
+        × IsQueueSeat shared.queue.now chair.seats.queue
+        × IsCleanSeat shared.cleaner.now chair.cleaner }
+{
+    let beside = Beside {
+        heap: shared.heap,
+        queue: shared.queue,
+        seats: loops.seats,
+        hearing,
+    };
+    let (told, ()) = beside_loop(
+        rt,
+        shared.cleaner,
+        loops.cleaner,
+        beside,
+        ||
+            requires { IsHeapSeat shared.heap.now chair.seats.heap
+                × IsQueueSeat shared.queue.now chair.seats.queue
+                × IsCleanSeat shared.cleaner.now chair.cleaner }
+        { do_meanwhile(rt, shared, chair, jobs, hearing, story) },
+    );
+    told
+}
+
+/// Two threads run the jobs of what is gone, so many in all, while a third does what a story tells.
 pub fn clean_meanwhile<R: Threads + Wait + Abort + Sync>(
     rt: &R,
     shared: Shared,
     chair: &mut Chair,
+    jobs: &mut VecDeque<Job>,
     hearing: &Hearing,
-    calls: &[(Call, Told)],
-    count: u64,
+    story: &Story,
 )
     requires { IsHeapSeat shared.heap.now chair.old.seats.heap
         × IsQueueSeat shared.queue.now chair.old.seats.queue
@@ -143,44 +202,32 @@ pub fn clean_meanwhile<R: Threads + Wait + Abort + Sync>(
         × IsQueueSeat shared.entry.queue.now chair.new.seats.queue
         × IsCleanSeat shared.entry.cleaner.now chair.new.cleaner }
 {
-    let Shared {
-        heap,
-        queue,
-        cleaner,
-    } = shared;
     let left = split(shared, chair);
     let right = split(shared, chair);
-    let Chair { mut seats, .. } = split(shared, chair);
-    let beside_left = Beside {
-        heap,
-        queue,
+    let third = split(shared, chair);
+    let beside = Beside {
+        heap: shared.heap,
+        queue: shared.queue,
         seats: left.seats,
         hearing,
     };
-    let beside_right = Beside {
-        heap,
-        queue,
-        seats: right.seats,
-        hearing,
-    };
-    let (left, right) = (left.cleaner, right.cleaner);
-    let ((), told) = thread::join(
+    let told = beside_loop(
         rt,
-        ||
-            requires { IsHeapSeat heap.now seats.heap × IsQueueSeat queue.now seats.queue }
-        { make_calls(rt, heap, queue, &mut seats, calls) },
-        || -> (Answer, Answer)
-            requires left { IsCleanSeat cleaner.now left }
-            requires right { IsCleanSeat cleaner.now right }
-            requires beside_left { IsHeapSeat beside_left.heap.now beside_left.seats.heap
-                × IsQueueSeat beside_left.queue.now beside_left.seats.queue }
-            requires beside_right { IsHeapSeat beside_right.heap.now beside_right.seats.heap
-                × IsQueueSeat beside_right.queue.now beside_right.seats.queue }
-        { both_ended(rt, cleaner, left, right, beside_left, beside_right) },
+        shared.cleaner,
+        left.cleaner,
+        beside,
+        || -> Answer
+            requires right { IsHeapSeat shared.heap.now right.seats.heap
+                × IsQueueSeat shared.queue.now right.seats.queue
+                × IsCleanSeat shared.cleaner.now right.cleaner }
+            requires third { IsHeapSeat shared.heap.now third.seats.heap
+                × IsQueueSeat shared.queue.now third.seats.queue
+                × IsCleanSeat shared.cleaner.now third.cleaner }
+        { one_beside(rt, shared, right, third, jobs, hearing, story) },
     );
     match told {
         (Answer::Ended(first), Answer::Ended(second)) => {
-            assert_eq!(rt; first.checked_add(second), Some(count), "jobs in all");
+            assert_eq!(rt; first.checked_add(second), Some(story.count), "jobs in all");
         }
         _ => assert!(rt; false, "{told:?}"),
     }

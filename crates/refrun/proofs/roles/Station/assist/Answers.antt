@@ -1,4 +1,4 @@
-use Rattle.refrun.proofs.Common.{arith, ◌∙◌}
+use Rattle.refrun.proofs.Common.{arith}
 use Rattle.ref_share.proofs.SeatLists.{only_seat}
 use Rattle.refrun.proofs.roles.Station.assist.Goals as goal
 

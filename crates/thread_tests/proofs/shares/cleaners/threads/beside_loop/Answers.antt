@@ -21,12 +21,12 @@ use Rattle.ref_share.specs.contracts.clean_machine.CleanMachineMachine.TheImpl.{
 use Rattle.ref_share.specs.contracts.clean_machine.CleanReply.{the_row as reply_row}
 use Rattle.ref_share.specs.contracts.clean_machine.CleanStep.{the_row as step_row}
 use Rattle.ref_share.specs.contracts.shared.Shared.{the_row as shared_row}
-use Rattle.thread_tests.specs.contracts.shares.cleaners.threads.both_ended.dyn-1.{Ghosts, slots}
-use Rattle.thread_tests.proofs.shares.cleaners.threads.both_ended.Goals as goal
+use Rattle.thread_tests.specs.contracts.shares.cleaners.threads.beside_loop.dyn-1.{Ghosts, slots}
+use Rattle.thread_tests.proofs.shares.cleaners.threads.beside_loop.Goals as goal
 
 -- a job, and a cleaner of such jobs, as they lie in memory
-abbrev own_job : (r : RattleType) → Ghosts r → RattleType
-own_job r d = job_row (Vt (slots r) d.0) (ghosts_of (slots r) d.0 d.1) (held_fn d.0)
+abbrev own_job : (r u f : RattleType) → Ghosts r u f → RattleType
+own_job r u f d = job_row (Vt (slots r u f) d.0) (ghosts_of (slots r u f) d.0 d.1) (held_fn d.0)
 
 abbrev cleaner_of : RattleType → RattleType
 cleaner_of job =
@@ -34,10 +34,10 @@ cleaner_of job =
     number_row (machine_ghosts hold_row job the_row ghosts no_dict (clones the_row) no_dict) ghosts
 
 -- a shared cleaner may be seen by several threads: its jobs may move between them
-cleaner_sync : (r : RattleType) (d : Ghosts r) → IsSync (cleaner_of (own_job r d))
-cleaner_sync r d = search (
-  dyn_box_send (Vt (slots r) d.0) (ghosts_of (slots r) d.0 d.1) d.2,
-  dyn_box_send_over (Vt (slots r) d.0) (ghosts_of (slots r) d.0 d.1) d.2,
+cleaner_sync : (r u f : RattleType) (d : Ghosts r u f) → IsSync (cleaner_of (own_job r u f d))
+cleaner_sync r u f d = search (
+  dyn_box_send (Vt (slots r u f) d.0) (ghosts_of (slots r u f) d.0 d.1) d.2,
+  dyn_box_send_over (Vt (slots r u f) d.0) (ghosts_of (slots r u f) d.0 d.1) d.2,
   global_send,
   global_sync,
   table_sync,
@@ -52,4 +52,4 @@ cleaner_sync r d = search (
 
 pub join_given-requires-send-A : goal.join_given-requires-send-A
 join_given-requires-send-A g c κs within =
-    search (cleaner_sync g.row.R g.dyn-1, crosses, sendable) depth 60 fits 20000
+    search (cleaner_sync g.row.R g.row.U g.row.G g.dyn-1, crosses, sendable) depth 60 fits 20000

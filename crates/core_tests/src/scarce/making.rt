@@ -1,0 +1,115 @@
+//! What is made whole or not at all: lists, pages, heaps and worlds of each layer.
+
+use super::MOST;
+use rationed::Rationed;
+use ref_base::{Config, Fault};
+use ref_clear::Heap;
+use ref_mark::Marker;
+use ref_move::MovingHeap;
+use ref_objects::{Objects, Start};
+use ref_space::{Pages, Table, Worklist};
+use ref_world::World;
+use std::alloc::{Allocator, Global};
+use std::process::Abort;
+use std::test::Fail;
+
+/// Two of each actor, three queues, and cells that fill two pages.
+const CONFIG: Config = Config {
+    mutators: 2,
+    workers: 2,
+    queues: 3,
+    cells: 128,
+    span: 10,
+};
+
+/// Where nothing starts by itself.
+const LATER: Start = Start {
+    obj: 7,
+    cycle: 8,
+    page: 9,
+};
+
+/// What is made, and what it is called.
+const EACH: [(&str, Made); 13] = [
+    ("Worklist::new", Made::Worklist),
+    ("Pages::new", Made::Pages),
+    ("Table::new", Made::Table),
+    ("Objects::new", Made::Objects),
+    ("Objects::starting", Made::ObjectsLater),
+    ("Marker::new", Made::Marker),
+    ("Marker::starting", Made::MarkerLater),
+    ("Heap::new", Made::Heap),
+    ("Heap::starting", Made::HeapLater),
+    ("MovingHeap::new", Made::MovingHeap),
+    ("MovingHeap::starting", Made::MovingHeapLater),
+    ("World::new", Made::World),
+    ("World::starting", Made::WorldLater),
+];
+
+#[derive(Clone, Copy)]
+enum Made {
+    Worklist,
+    Pages,
+    Table,
+    Objects,
+    ObjectsLater,
+    Marker,
+    MarkerLater,
+    Heap,
+    HeapLater,
+    MovingHeap,
+    MovingHeapLater,
+    World,
+    WorldLater,
+}
+
+/// Makes it, and drops it again.
+fn make<A: Allocator + Copy>(alloc: A, made: Made) -> Result<(), Fault> {
+    match made {
+        Made::Worklist => drop(Worklist::new(alloc, 3).map_err(|_| Fault::NoMemory)?),
+        Made::Pages => drop(Pages::new(alloc, 2, 7).map_err(|_| Fault::NoMemory)?),
+        Made::Table => drop(Table::new(alloc, 65, 32, 7)?),
+        Made::Objects => drop(Objects::new(alloc, CONFIG, 1)?),
+        Made::ObjectsLater => drop(Objects::starting(alloc, CONFIG, 1, LATER)?),
+        Made::Marker => drop(Marker::new(alloc, CONFIG, 1)?),
+        Made::MarkerLater => drop(Marker::starting(alloc, CONFIG, 1, LATER)?),
+        Made::Heap => Heap::new(alloc, CONFIG, 1)?.end(),
+        Made::HeapLater => Heap::starting(alloc, CONFIG, 1, LATER)?.end(),
+        Made::MovingHeap => MovingHeap::new(alloc, CONFIG, 1)?.end(),
+        Made::MovingHeapLater => MovingHeap::starting(alloc, CONFIG, 1, LATER)?.end(),
+        Made::World => World::new(alloc, CONFIG)?.end(),
+        Made::WorldLater => World::starting(alloc, CONFIG, LATER)?.end(),
+    }
+    Ok(())
+}
+
+/// Makes it with each request refused in turn. Answers how many requests it makes.
+fn refuse_each(rt: &impl Abort, memory: &Rationed<Global>, name: &str, made: Made) -> u64 {
+    for met in 0..MOST {
+        memory.ration(met);
+        let answer = make(memory, made);
+        if !memory.lift() {
+            assert_eq!(rt; answer, Ok(()), "{name} with {met} requests met");
+            return met;
+        }
+        assert_eq!(rt;
+            answer,
+            Err(Fault::NoMemory),
+            "{name} with {met} requests met"
+        );
+    }
+    MOST
+}
+
+#[test]
+fn what_finds_no_memory_is_not_made(rt: HostRuntime) -> Result<(), Fail> {
+    let memory = Rationed::new(rt.alloc());
+    for (name, made) in EACH {
+        let requests = refuse_each(&rt, &memory, name, made);
+        assert!(rt;
+            0 < requests && requests < MOST,
+            "{name} makes {requests} requests"
+        );
+    }
+    Ok(())
+}
