@@ -1,14 +1,13 @@
-//! A script of cycles with moves, of 4 MiB.
+//! A script of cycles with moves, of at most 4 MiB.
 
 const MOST: usize = 4_194_304;
-const CELLS: u32 = 4_096;
 
-/// In each round as many references are made as there are cells, of which three quarters die. What a cycle leaves moves:
-/// a part of it by loads along the chain, the rest by the worker. Then it dies, too.
-pub fn print() {
-    let mut text = format!("refscript 1\nconfig 1 1 1 {CELLS} 0\n");
+/// As many whole rounds as fit. In each as many references are made as there are cells, of which three quarters die.
+/// What a cycle leaves moves: a part of it by loads along the chain, the rest by the worker. Then it dies, too.
+pub fn print(version: u32, cells: u32) {
+    let mut text = format!("refscript {version}\nconfig 1 1 1 {cells} 0\n");
     for round in 0.. {
-        let lines = lines_of(round);
+        let lines = lines_of(round, cells);
         if text.len() + lines.len() > MOST {
             break;
         }
@@ -17,17 +16,17 @@ pub fn print() {
     print!("{text}");
 }
 
-fn lines_of(round: u32) -> String {
-    let live = CELLS / 4;
+fn lines_of(round: u32, cells: u32) -> String {
+    let live = cells / 4;
     let mut lines = String::from("m0 new s0 1\n");
-    for place in 1..CELLS {
+    for place in 1..cells {
         lines.push_str("m0 weak s1 s0 - 1\n");
         if place % 4 == 0 {
             lines.push_str("m0 store s1 0 s0\nm0 copy s0 s1\n");
         }
     }
     lines.push_str("m0 drop s1\n");
-    cycle(&mut lines, 2 * round, live, CELLS - live);
+    cycle(&mut lines, 2 * round, live, cells - live);
     lines.push_str("select\nm0 copy s2 s0\n");
     lines.push_str(&"m0 load s2 s2 0\n".repeat(live as usize / 4));
     lines.push_str(&"w0 move\n".repeat(live as usize));

@@ -1,5 +1,6 @@
-//! The shapes of `ref_bench` in plain Rust, to compare the compilers' code: nanoseconds, the least of nine runs. With the
-//! word `script` it runs a script of cycles and moves instead, and with `long` it prints a long one.
+//! The shapes of `ref_bench` in plain Rust, to compare the compilers' code: nanoseconds, the least of nine runs. With
+//! the word `script` it runs a script of cycles and moves instead, and with `long` it prints a long one, or with
+//! `long 65536` one of a larger heap.
 
 mod long_script;
 mod script;
@@ -134,10 +135,12 @@ fn least_of(name: &str, count: u32, mut run: impl FnMut() -> Duration) {
 }
 
 fn main() {
-    match std::env::args().nth(1).as_deref() {
-        None => measure(),
-        Some("script") if script::run().is_some() => {}
-        Some("long") => long_script::print(),
+    let words: Vec<String> = std::env::args().skip(1).collect();
+    match words.iter().map(String::as_str).collect::<Vec<&str>>()[..] {
+        [] => measure(),
+        ["script"] if script::run().is_some() => {}
+        ["long"] => long_script::print(1, 4_096),
+        ["long", "65536"] => long_script::print(2, 65_536),
         _ => std::process::exit(3),
     }
 }

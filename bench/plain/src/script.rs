@@ -1,7 +1,7 @@
-//! Scripts of cycles and moves, read from standard input and printed as `refrun run` prints their traces: those of one
-//! worker's steps and of references without a queue, as a user would write it.
+//! Scripts of cycles and moves, of both versions, read from standard input and printed as `refrun run` prints their
+//! traces: those of soft and weak references without a queue, as a user would write it.
 
-use crate::words::{Fault, Heap, Strength};
+use crate::words::{Fault, Heap, Look, Span, Strength};
 use std::fmt::{self, Display, Formatter};
 use std::io::{self, Read, Write};
 use std::str::SplitAsciiWhitespace;
@@ -9,7 +9,7 @@ use std::str::SplitAsciiWhitespace;
 #[derive(Clone, Copy)]
 enum Step {
     New { mutator: u32, slot: u32, fields: u32 },
-    Weak { mutator: u32, slot: u32, source: u32, fields: u32 },
+    Refer { mutator: u32, strength: Strength, slot: u32, source: u32, fields: u32 },
     Store { mutator: u32, object: u32, field: u32, value: u32 },
     Load { mutator: u32, slot: u32, object: u32, field: u32 },
     Copy { mutator: u32, slot: u32, source: u32 },
@@ -40,13 +40,18 @@ pub fn run() -> Option<()> {
     let mut text = String::new();
     io::stdin().read_to_string(&mut text).ok()?;
     let mut lines = text.lines();
-    (lines.next()? == "refscript 1").then_some(())?;
+    let (title, span_of, most): (&str, fn(u64) -> Span, u64) = match lines.next()? {
+        "refscript 1" => ("reftrace 1", Span::Fixed, 4_096),
+        "refscript 2" => ("reftrace 2", Span::Scaled, 65_536),
+        _ => return None,
+    };
     let mut config = lines.next()?.split_ascii_whitespace();
     (config.next()? == "config").then_some(())?;
     let [mutators, workers, _queues, cells, span] = [(); 5].map(|()| number(&mut config));
+    let cells = cells.filter(|cells| (1..=most).contains(cells))?;
     let steps = lines.map(step).collect::<Option<Vec<Step>>>()?;
-    let mut heap = Heap::new(mutators? as usize, workers? as usize, cells? as usize, span?);
-    let mut trace = Vec::from(*b"reftrace 1\n");
+    let mut heap = Heap::new(mutators? as usize, workers? as usize, cells as usize, span_of(span?));
+    let mut trace = format!("{title}\n").into_bytes();
     for (place, step) in steps.into_iter().enumerate() {
         let reply = done(&mut heap, step);
         writeln!(trace, "{} {step} : {reply}", place + 1).ok()?;
@@ -87,10 +92,11 @@ fn mutator_step(mutator: u32, words: &mut SplitAsciiWhitespace) -> Option<Step> 
     let slot = named(words, 's')?;
     Some(match name {
         "new" => Step::New { mutator, slot, fields: number(words)? as u32 },
-        "weak" => {
+        "soft" | "weak" => {
+            let strength = if name == "soft" { Strength::Soft } else { Strength::Weak };
             let source = named(words, 's')?;
             (words.next()? == "-").then_some(())?;
-            Step::Weak { mutator, slot, source, fields: number(words)? as u32 }
+            Step::Refer { mutator, strength, slot, source, fields: number(words)? as u32 }
         }
         "store" => Step::Store { mutator, object: slot, field: number(words)? as u32, value: named(words, 's')? },
         "load" => Step::Load { mutator, slot, object: named(words, 's')?, field: number(words)? as u32 },
@@ -114,10 +120,12 @@ fn worker_step(worker: u32, name: &str) -> Option<Step> {
 fn done(heap: &mut Heap, step: Step) -> Reply {
     let answer = match step {
         Step::New { mutator, slot, fields } => heap.alloc_obj(mutator, slot, fields).map(|no| object(Some(no))),
-        Step::Weak { mutator, slot, source, fields } => {
-            heap.alloc_ref(mutator, slot, Strength::Weak, source, None, fields).map(|no| object(Some(no)))
+        Step::Refer { mutator, strength, slot, source, fields } => {
+            heap.alloc_ref(mutator, slot, strength, source, None, fields).map(|no| object(Some(no)))
         }
-        Step::Store { mutator, object, field, value } => heap.store(mutator, object, field, value).map(|()| Reply::Done),
+        Step::Store { mutator, object, field, value } => {
+            heap.store(mutator, object, field, value).map(|()| Reply::Done)
+        }
         Step::Load { mutator, slot, object: from, field } => heap.load(mutator, slot, from, field).map(object),
         Step::Copy { mutator, slot, source } => heap.copy(mutator, slot, source).map(object),
         Step::Drop { mutator, slot } => heap.drop_slot(mutator, slot).map(|()| Reply::Done),
@@ -126,8 +134,9 @@ fn done(heap: &mut Heap, step: Step) -> Reply {
         Step::Scan { worker } => heap.scan(worker as usize).map(|no| told("scanned", no)),
         Step::EndMark => heap.end_mark().map(|count| Reply::Told("doomed", u64::from(count))),
         Step::ClearNext { worker } => heap.clear_next(worker as usize).map(|look| match look {
-            Some((no, true)) => told("cleared", Some(no)),
-            Some((no, false)) => told("kept", Some(no)),
+            Some(Look::Cleared(no)) => told("cleared", Some(no)),
+            Some(Look::Kept(no)) => told("kept", Some(no)),
+            Some(Look::Skipped(no)) => told("skipped", Some(no)),
             None => Reply::Nothing,
         }),
         Step::EndClear => heap.end_clear().map(|()| Reply::Done),
@@ -152,7 +161,10 @@ impl Display for Step {
     fn fmt(&self, to: &mut Formatter) -> fmt::Result {
         match *self {
             Step::New { mutator, slot, fields } => write!(to, "m{mutator} new s{slot} {fields}"),
-            Step::Weak { mutator, slot, source, fields } => write!(to, "m{mutator} weak s{slot} s{source} - {fields}"),
+            Step::Refer { mutator, strength, slot, source, fields } => {
+                let name = if strength == Strength::Soft { "soft" } else { "weak" };
+                write!(to, "m{mutator} {name} s{slot} s{source} - {fields}")
+            }
             Step::Store { mutator, object, field, value } => write!(to, "m{mutator} store s{object} {field} s{value}"),
             Step::Load { mutator, slot, object, field } => write!(to, "m{mutator} load s{slot} s{object} {field}"),
             Step::Copy { mutator, slot, source } => write!(to, "m{mutator} copy s{slot} s{source}"),

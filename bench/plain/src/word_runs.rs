@@ -1,12 +1,19 @@
-//! Scans and looks, loads and gets along a chain of objects, the parts of a cycle that work on all cells, and moves.
+//! Scans and looks, loads and gets along a chain of objects, the parts of a cycle that work on all cells, moves, and
+//! what a larger heap costs.
 
 use crate::least_of;
-use crate::words::{Fault, Heap, Strength};
+use crate::words::{Fault, Heap, Span, Strength};
 use std::hint::black_box;
+use std::mem::swap;
 use std::time::{Duration, Instant};
 
 const CELLS: u32 = 4_096;
 const TIMES: u32 = 100;
+
+/// The heaps that are compared by size, by their cells and how these are printed.
+const SIZES: [(u32, &str); 2] = [(4_096, "4,096"), (65_536, "65,536")];
+/// So many reads, or hardly fewer, are timed in each of these.
+const READS: u32 = 400_000;
 
 const MUTATORS: usize = 8;
 const WORKERS: usize = 1;
@@ -61,6 +68,28 @@ pub fn all() {
     least_of("rustc: a move, of 1,024 objects", CELLS / 4, || moves().unwrap().moves);
     least_of("rustc: a load, one after the other, each moves", CELLS / 4 - 1, || loads_that_move().unwrap());
     least_of("rustc: two cycles and moves between, of 4,096 objects", 1, || cycles_with_moves().unwrap());
+    for (cells, name) in SIZES {
+        of_size(cells, name);
+    }
+}
+
+/// What a heap of so many cells costs.
+fn of_size(cells: u32, name: &str) {
+    least_of(&format!("rustc: a whole cycle of {name} cells, an object"), cells, || whole_cycle(cells).unwrap());
+    reads_of_size("load", (cells, name), |heap, from| heap.load(MUTATOR, HERE, from, 0));
+    reads_of_size("get", (cells, name), |heap, from| heap.get(MUTATOR, HERE, from));
+    let times = READS / cells;
+    least_of(&format!("rustc: a load and a store along {name} cells"), times * (cells - 1), || {
+        loads_and_stores(cells, times).unwrap()
+    });
+}
+
+fn reads_of_size(word: &str, (cells, name): (u32, &str), read: impl Fn(&mut Heap, u32) -> Result<Option<u32>, Fault>) {
+    let (times, links) = (READS / cells, cells - 1);
+    least_of(&format!("rustc: a {word} of {name} cells, one after the other"), times * links, || {
+        let mut heap = settled(cells, Dead::None).unwrap();
+        read_all(black_box(&mut heap), Route::Along, times, links, &read).unwrap()
+    });
 }
 
 fn reads(word: &str, read: impl Fn(&mut Heap, u32) -> Result<Option<u32>, Fault>) {
@@ -74,8 +103,7 @@ fn reads(word: &str, read: impl Fn(&mut Heap, u32) -> Result<Option<u32>, Fault>
         let times = if route == Route::AlongInMark { 1 } else { TIMES };
         let links = (1..CELLS).filter(|place| !dead.takes(*place)).count() as u32;
         let run = || {
-            let mut heap = filled(dead).unwrap();
-            cycle(&mut heap).unwrap();
+            let mut heap = settled(CELLS, dead).unwrap();
             read_all(black_box(&mut heap), route, times, links, &read).unwrap()
         };
         least_of(&format!("rustc: a {word}{name}"), times * links, run);
@@ -107,6 +135,59 @@ fn read_all(
     Ok(time)
 }
 
+/// So many times along the chain, loads, each with a store of what it loaded into the field that it came from.
+fn loads_and_stores(cells: u32, times: u32) -> Result<Duration, Fault> {
+    let mut heap = settled(cells, Dead::None)?;
+    let heap = black_box(&mut heap);
+    let mut sum = 0u64;
+    let time = Instant::now();
+    for _ in 0..times {
+        let (mut here, mut next) = (HERE, NEWEST);
+        heap.copy(MUTATOR, here, LAST)?;
+        for _ in 1..cells {
+            sum += heap.load(MUTATOR, next, here, 0)?.map_or(0, u64::from);
+            heap.store(MUTATOR, here, 0, next)?;
+            swap(&mut here, &mut next);
+        }
+    }
+    let time = time.elapsed();
+    black_box(sum);
+    Ok(time)
+}
+
+/// A cycle that clears each reference of a full heap, and frees the object of its own that each refers to. What is
+/// handed on is released at once.
+fn whole_cycle(cells: u32) -> Result<Duration, Fault> {
+    let mut heap = in_pairs(cells)?;
+    let heap = black_box(&mut heap);
+    let time = Instant::now();
+    heap.begin(0)?;
+    end_mark(heap)?;
+    while black_box(heap.clear_next(WORKER)?).is_some() {}
+    heap.end_clear()?;
+    while let Some(no) = heap.hand(WORKER)? {
+        heap.release(no)?;
+    }
+    while black_box(heap.sweep(WORKER)?).is_some() {}
+    heap.end_sweep()?;
+    Ok(time.elapsed())
+}
+
+/// A full heap: each weak reference has a dead object of its own, and the reference before it in a field.
+fn in_pairs(cells: u32) -> Result<Heap, Fault> {
+    let (target, last) = (HERE, LAST);
+    let mut heap = Heap::new(MUTATORS, WORKERS, cells as usize, Span::Fixed(0));
+    for _ in 0..cells / 2 {
+        heap.alloc_obj(MUTATOR, target, 0)?;
+        heap.alloc_ref(MUTATOR, NEWEST, Strength::Weak, target, Some(0), 1)?;
+        heap.store(MUTATOR, NEWEST, 0, last)?;
+        heap.copy(MUTATOR, last, NEWEST)?;
+    }
+    heap.drop_slot(MUTATOR, target)?;
+    heap.drop_slot(MUTATOR, NEWEST)?;
+    Ok(heap)
+}
+
 /// Scans, each of which finds a reference to a dead object.
 fn scans() -> Result<Duration, Fault> {
     let mut heap = begun()?;
@@ -133,7 +214,7 @@ fn looks() -> Result<Duration, Fault> {
 /// A heap in a mark, with weak references to a dead object, each of which has the one before in a field.
 fn begun() -> Result<Heap, Fault> {
     let (target, last) = (LAST, HERE);
-    let mut heap = Heap::new(MUTATORS, WORKERS, CELLS as usize, 0);
+    let mut heap = Heap::new(MUTATORS, WORKERS, CELLS as usize, Span::Fixed(0));
     heap.alloc_obj(MUTATOR, target, 0)?;
     for _ in 1..CELLS {
         heap.alloc_ref(MUTATOR, NEWEST, Strength::Weak, target, Some(0), 1)?;
@@ -147,16 +228,16 @@ fn begun() -> Result<Heap, Fault> {
 
 /// A cycle of a full heap, half of whose objects are dead.
 fn half_dead() -> Parts {
-    let mut heap = filled(Dead::Half).unwrap();
+    let mut heap = filled(CELLS, Dead::Half).unwrap();
     cycle(black_box(&mut heap)).unwrap()
 }
 
 /// As many references as there are cells, but for one object that they begin with. Each has the one before it that
 /// isn't to die as its referent and in a field. Those that are to die are let go at once.
-fn filled(dead: Dead) -> Result<Heap, Fault> {
-    let mut heap = Heap::new(MUTATORS, WORKERS, CELLS as usize, 0);
+fn filled(cells: u32, dead: Dead) -> Result<Heap, Fault> {
+    let mut heap = Heap::new(MUTATORS, WORKERS, cells as usize, Span::Fixed(0));
     heap.alloc_obj(MUTATOR, LAST, 1)?;
-    for place in 1..CELLS {
+    for place in 1..cells {
         heap.alloc_ref(MUTATOR, NEWEST, Strength::Weak, LAST, None, 1)?;
         if !dead.takes(place) {
             heap.store(MUTATOR, NEWEST, 0, LAST)?;
@@ -164,6 +245,13 @@ fn filled(dead: Dead) -> Result<Heap, Fault> {
         }
     }
     heap.drop_slot(MUTATOR, NEWEST)?;
+    Ok(heap)
+}
+
+/// The same, once a cycle has freed what is dead.
+fn settled(cells: u32, dead: Dead) -> Result<Heap, Fault> {
+    let mut heap = filled(cells, dead)?;
+    cycle(&mut heap)?;
     Ok(heap)
 }
 
@@ -197,9 +285,8 @@ struct Moves {
 
 /// The moves of a quarter of the objects, which is left in each page.
 fn moves() -> Result<Moves, Fault> {
-    let mut heap = filled(Dead::ThreeQuarters)?;
+    let mut heap = settled(CELLS, Dead::ThreeQuarters)?;
     let heap = black_box(&mut heap);
-    cycle(heap)?;
     let time = Instant::now();
     black_box(heap.select()?);
     let select = time.elapsed();
@@ -212,15 +299,14 @@ fn moves() -> Result<Moves, Fault> {
 
 /// Loads, each of which moves what it answers.
 fn loads_that_move() -> Result<Duration, Fault> {
-    let mut heap = filled(Dead::ThreeQuarters)?;
-    cycle(&mut heap)?;
+    let mut heap = settled(CELLS, Dead::ThreeQuarters)?;
     heap.select()?;
     read_all(black_box(&mut heap), Route::Along, 1, CELLS / 4 - 1, |heap, from| heap.load(MUTATOR, HERE, from, 0))
 }
 
 /// A cycle, the moves of what it left, and a cycle that heals the words of what moved.
 fn cycles_with_moves() -> Result<Duration, Fault> {
-    let mut heap = filled(Dead::ThreeQuarters)?;
+    let mut heap = filled(CELLS, Dead::ThreeQuarters)?;
     let heap = black_box(&mut heap);
     let time = Instant::now();
     cycle(heap)?;

@@ -2,8 +2,8 @@
 //!
 //! A word is a colour, the address of a page from 1 on, and one of its 64 cells. What slots hold has the good colour.
 //! What a field or a reference holds in another is healed where it is read: written anew in the good colour, and in a
-//! mark what it leads to becomes grey. What lay in a page that was chosen is found where it moved, and moves first if it
-//! is still to move.
+//! mark what it leads to becomes grey. What lay in a page that was chosen is found where it moved, and moves first if
+//! it is still to move.
 
 mod cycle;
 mod moves;
@@ -21,6 +21,7 @@ pub enum Fault {
     BadField,
     NotAReference,
     NoCell,
+    ForeignHold,
     WrongPhase,
     ClockBack,
     GreyLeft,
@@ -40,6 +41,7 @@ impl Fault {
             Fault::BadField => 7,
             Fault::NotAReference => 8,
             Fault::NoSuchActor => 9,
+            Fault::ForeignHold => 11,
             Fault::WrongPhase => 12,
             Fault::ClockBack => 13,
             Fault::GreyLeft => 14,
@@ -61,13 +63,28 @@ enum Phase {
     Moving,
 }
 
-/// The runs make weak references alone.
-#[allow(dead_code)]
+/// How long soft references are kept: so long, or in a cycle as much of that as the share of the cells that are free.
+#[derive(Clone, Copy)]
+pub enum Span {
+    Fixed(u64),
+    Scaled(u64),
+}
+
 #[derive(Clone, Copy, PartialEq, Eq)]
 pub enum Strength {
     Soft,
     Weak,
+    /// No run and no script makes such a reference.
+    #[allow(dead_code)]
     Phantom,
+}
+
+/// What a look at a reference told of it: that of this number is cleared, or has another referent, or had none.
+#[derive(Clone, Copy)]
+pub enum Look {
+    Cleared(u32),
+    Kept(u32),
+    Skipped(u32),
 }
 
 #[derive(Clone, Copy, PartialEq, Eq)]
@@ -106,7 +123,7 @@ struct Reference {
     strength: Strength,
     referent: Word,
     stamp: u64,
-    _queue: Option<u32>,
+    queue: Option<u32>,
 }
 
 /// As large as a cell of `ref_bench`'s heap.
@@ -117,20 +134,39 @@ struct Cell {
     count: u32,
     fields: [Word; FIELDS],
     reference: Option<Reference>,
-    /// Where the reference behind it lies that the same worker found.
+    /// Where the reference behind it in its chain lies.
     link: Option<u32>,
-    _rest: [u64; 6],
+    holds: u64,
+    _rest: [u64; 5],
 }
 
 const _: () = assert!(size_of::<Cell>() == 160);
 
 impl Cell {
     const FREE: Cell =
-        Cell { no: 0, count: 0, fields: [Word::NULL; FIELDS], reference: None, link: None, _rest: [0; 6] };
+        Cell { no: 0, count: 0, fields: [Word::NULL; FIELDS], reference: None, link: None, holds: 0, _rest: [0; 5] };
 
     fn field(&self, field: u32) -> Option<Word> {
         let fields = self.fields.get(..self.count as usize)?;
         fields.get(field as usize).copied()
+    }
+}
+
+/// References in order, each of which links to the next: where the first and the last lie. An empty chain has no first.
+#[derive(Clone, Copy, Default)]
+struct Chain {
+    first: Option<u32>,
+    last: u32,
+}
+
+impl Chain {
+    /// One more, last.
+    fn push(&mut self, cells: &mut [Cell], place: u32) {
+        match self.first {
+            None => self.first = Some(place),
+            Some(_) => cells[self.last as usize].link = Some(place),
+        }
+        self.last = place;
     }
 }
 
@@ -175,17 +211,23 @@ pub struct Heap {
     phase: Phase,
     cycle: u64,
     clock: u64,
-    span: u64,
+    span: Span,
+    /// What the cycle makes of the span.
+    cycle_span: u64,
     last: u32,
+    /// How many holds are out.
+    holds: u64,
     grey: VecDeque<u32>,
-    /// For each worker, the first of the references that it found.
-    found: Vec<Option<u32>>,
+    /// For each worker, the references that it found and didn't look at yet.
+    found: Vec<Chain>,
+    /// For each worker, those that it cleared and didn't hand on yet. They may have moved since.
+    pending: Vec<Chain>,
     /// What is left to sweep, the least number last.
     dead: Vec<u32>,
 }
 
 impl Heap {
-    pub fn new(mutators: usize, workers: usize, cells: usize, span: u64) -> Heap {
+    pub fn new(mutators: usize, workers: usize, cells: usize, span: Span) -> Heap {
         let pages = 2 * cells.div_ceil(CELLS);
         let page = |frame| Page { address: 1 + frame, rank: frame, is_chosen: false, taken: 0, marked: 0 };
         Heap {
@@ -207,9 +249,12 @@ impl Heap {
             cycle: 0,
             clock: 0,
             span,
+            cycle_span: 0,
             last: 0,
+            holds: 0,
             grey: VecDeque::with_capacity(cells),
-            found: vec![None; workers],
+            found: vec![Chain::default(); workers],
+            pending: vec![Chain::default(); workers],
             dead: Vec::with_capacity(cells),
         }
     }
@@ -233,7 +278,7 @@ impl Heap {
         if referent == Word::NULL {
             return Err(Fault::EmptySlot);
         }
-        self.alloc(into, fields, Some(Reference { strength, referent, stamp: self.clock, _queue: queue }))
+        self.alloc(into, fields, Some(Reference { strength, referent, stamp: self.clock, queue }))
     }
 
     pub fn copy(&mut self, mutator: u32, into: u32, from: u32) -> Result<Option<u32>, Fault> {
@@ -350,6 +395,12 @@ impl Heap {
         self.index.push((no, place));
     }
 
+    /// The entry in the index of the object of this number, or that of the next.
+    fn entry(&mut self, no: u32) -> Option<&mut (u32, u32)> {
+        let at = self.index.partition_point(|entry| entry.0 < no);
+        self.index.get_mut(at)
+    }
+
     /// Where what lay at this place lies now, if anything does.
     fn lies_at(&self, place: usize) -> usize {
         match self.cells.get(place) {
@@ -365,11 +416,13 @@ impl Heap {
         healed
     }
 
-    /// Once the mark has ended, a reference to a dead object is cleared.
+    /// Once the mark has ended, a reference to a dead object reads as null, and is left for its worker to clear.
     fn heal_referent(&mut self, holder: usize, value: Word) -> Word {
         let is_past_mark = matches!(self.phase, Phase::Clearing | Phase::Sweeping);
-        let is_dead = is_past_mark && !self.is_marked(self.lies_at(value.place()));
-        let healed = if is_dead { Word::NULL } else { self.heal(value) };
+        if is_past_mark && !self.is_marked(self.lies_at(value.place())) {
+            return Word::NULL;
+        }
+        let healed = self.heal(value);
         let holder = self.lies_at(holder);
         if let Some(reference) = &mut self.cells[holder].reference {
             reference.referent = healed;
@@ -377,14 +430,21 @@ impl Heap {
         healed
     }
 
-    /// The word in the good colour. In a mark what it leads to becomes grey, unless it is marked.
+    /// The word in the good colour. In a mark what it leads to becomes grey.
     fn heal(&mut self, word: Word) -> Word {
         let place = self.resolve(word.place());
-        if self.phase == Phase::Marking && !self.is_marked(place) {
+        if self.phase == Phase::Marking {
+            self.shade(place);
+        }
+        Word::of(self.good, place)
+    }
+
+    /// What lies at this place becomes grey, unless it is marked.
+    fn shade(&mut self, place: usize) {
+        if !self.is_marked(place) {
             self.pages[place / CELLS].marked |= 1 << (place % CELLS);
             self.grey.push_back(place as u32);
         }
-        Word::of(self.good, place)
     }
 
     fn is_marked(&self, place: usize) -> bool {

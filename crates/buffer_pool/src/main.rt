@@ -14,7 +14,7 @@ ghost use Rattle.ref_share.specs.QueueSeats.{IsQueueSeat};
 use example_runtime::{Collector, HeapUser, Queues};
 use pool::{BUFFERS, Buffer, count_free};
 use program::{Program, count_losses, let_go};
-use ref_base::{Config, Fault, QueueNo};
+use ref_base::{Config, Fault, QueueNo, SpanRule};
 use ref_queue::{Action, Job};
 use ref_share::{CleanSeat, SharedCleaner, SharedHeap, run_jobs_left};
 use std::alloc::Global;
@@ -34,6 +34,7 @@ const CONFIG: Config = Config {
     queues: 2,
     cells: 64,
     span: 0,
+    rule: SpanRule::Fixed,
 };
 
 /// The queue by which the cleaner's thread learns what is gone. By the first queue the program learns it.

@@ -12,7 +12,9 @@ use crate::told::{
     Told, began, done, doomed, expect, is_or_fault, kind, made, moved, queue, scanned, selected,
     value_or_fault,
 };
-use ref_base::{Config, Fault, MutNo, ObjNo, Parcel, QueueNo, SlotNo, Strength, Urgency, WorkerNo};
+use ref_base::{
+    Config, Fault, MutNo, ObjNo, Parcel, QueueNo, SlotNo, SpanRule, Strength, Urgency, WorkerNo,
+};
 use ref_clear::{Heap, Looked, Notice, Pending};
 use ref_objects::{Hold, Start};
 use std::alloc::{Allocator, Global};
@@ -305,6 +307,7 @@ const CONFIG: Config = Config {
     queues: 1,
     cells: 8,
     span: 10,
+    rule: SpanRule::Fixed,
 };
 
 /// The same, with two workers.

@@ -1,6 +1,6 @@
-//! What a configuration may be, and which soft references a cycle keeps.
+//! What a configuration may be, which soft references a cycle keeps, and its scaled span.
 
-use ref_base::{Config, Fault, keeps};
+use ref_base::{Config, Fault, Policy, SpanRule, Urgency, keeps, scaled};
 use std::process::Abort;
 
 /// Each of these is checked with this answer.
@@ -10,45 +10,49 @@ fn agree(rt: &impl Abort, table: &[Config], want: Result<(), Fault>) {
     }
 }
 
+const LEAST: Config = Config {
+    mutators: 1,
+    workers: 1,
+    queues: 1,
+    cells: 1,
+    span: 0,
+    rule: SpanRule::Fixed,
+};
+
+const MOST: Config = Config {
+    mutators: 8,
+    workers: 8,
+    queues: 16,
+    cells: 65_536,
+    span: u64::MAX,
+    rule: SpanRule::Scaled,
+};
+
 #[test]
 fn a_config_fits_exactly_within_its_limits(rt: HostRuntime) {
-    let least = Config {
-        mutators: 1,
-        workers: 1,
-        queues: 1,
-        cells: 1,
-        span: 0,
-    };
-    let most = Config {
-        mutators: 8,
-        workers: 8,
-        queues: 16,
-        cells: 4_096,
-        span: u64::MAX,
-    };
     let refused = [
         Config {
             mutators: 0,
-            ..least
+            ..LEAST
         },
         Config {
             workers: 0,
-            ..least
+            ..LEAST
         },
-        Config { queues: 0, ..least },
-        Config { cells: 0, ..least },
+        Config { queues: 0, ..LEAST },
+        Config { cells: 0, ..LEAST },
         Config {
             mutators: 9,
-            ..most
+            ..MOST
         },
-        Config { workers: 9, ..most },
-        Config { queues: 17, ..most },
+        Config { workers: 9, ..MOST },
+        Config { queues: 17, ..MOST },
         Config {
-            cells: 4_097,
-            ..most
+            cells: 65_537,
+            ..MOST
         },
     ];
-    agree(&rt, &[least, most], Ok(()));
+    agree(&rt, &[LEAST, MOST], Ok(()));
     agree(&rt, &refused, Err(Fault::BadConfig));
 }
 
@@ -66,5 +70,46 @@ fn a_soft_reference_is_kept_within_the_span(rt: HostRuntime) {
         // Which `keeps` asks of its callers.
         assert!(rt; stamp <= clock, "row {row}");
         assert_eq!(rt; keeps(clock, stamp, span), want, "row {row}");
+    }
+}
+
+#[test]
+fn a_scaled_span_is_rounded_down(rt: HostRuntime) {
+    // The span, the free cells, all cells, and the scaled span.
+    let table = [
+        (10, 6, 8, 7),
+        (10, 5, 8, 6),
+        (10, 8, 8, 10),
+        (5, 0, 1, 0),
+        (0, 3, 4, 0),
+        (1, 65_535, 65_536, 0),
+        (u64::MAX, 1, 65_536, 281_474_976_710_655),
+        (u64::MAX, 65_536, 65_536, u64::MAX),
+        (u64::MAX, u32::MAX, u32::MAX, u64::MAX),
+    ];
+    for (row, &(span, free, cells, want)) in table.iter().enumerate() {
+        // Which `scaled` asks of its callers.
+        assert!(rt; cells >= 1 && free <= cells, "row {row}");
+        assert_eq!(rt; scaled(span, free, cells), want, "row {row}");
+    }
+}
+
+#[test]
+fn the_rule_settles_the_span_of_a_cycle(rt: HostRuntime) {
+    for (rule, want) in [(SpanRule::Fixed, 10), (SpanRule::Scaled, 7)] {
+        let config = Config {
+            cells: 8,
+            span: 10,
+            rule,
+            ..LEAST
+        };
+        let policy = Policy::of(config, 6, 5, Urgency::Urgent);
+        let wanted = Policy {
+            clock: 5,
+            urgency: Urgency::Urgent,
+            span: want,
+        };
+        assert_eq!(rt; policy, wanted, "{rule:?}");
+        assert_eq!(rt; Policy::first(config).span, 10, "{rule:?}");
     }
 }

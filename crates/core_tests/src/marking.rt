@@ -13,7 +13,9 @@ use crate::told::{
     Told, began, done, doomed, expect, is, is_or_fault, looked, made, moved, scanned, selected,
     value, value_or_fault, word,
 };
-use ref_base::{Config, Fault, MutNo, ObjNo, Phase, QueueNo, SlotNo, Strength, Urgency, WorkerNo};
+use ref_base::{
+    Config, Fault, MutNo, ObjNo, Phase, QueueNo, SlotNo, SpanRule, Strength, Urgency, WorkerNo,
+};
 use ref_mark::Marker;
 use ref_objects::{Entry, Hold, Look, Start, Worklist};
 use std::alloc::Global;
@@ -324,6 +326,7 @@ const CONFIG: Config = Config {
     queues: 1,
     cells: 8,
     span: 10,
+    rule: SpanRule::Fixed,
 };
 
 /// Makes a story's calls in turn, on a heap of this size that begins so: each has its answer.

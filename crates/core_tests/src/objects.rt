@@ -9,7 +9,7 @@ use crate::hand::{adopted, leak, released, shown, taken};
 use crate::told::{
     Told, done, expect, found, is, kind, looked, made, queue, value, value_or_fault, word,
 };
-use ref_base::{Config, Fault, MutNo, ObjNo, QueueNo, SlotNo, Strength};
+use ref_base::{Config, Fault, MutNo, ObjNo, QueueNo, SlotNo, SpanRule, Strength};
 use ref_objects::{Colour, Entry, Hold, Objects, Reference, Stage, Start, Worklist};
 use std::alloc::{Allocator, Global};
 use std::mem;
@@ -377,6 +377,7 @@ const fn config(cells: u32) -> Config {
         queues: 1,
         cells,
         span: 10,
+        rule: SpanRule::Fixed,
     }
 }
 

@@ -5,10 +5,11 @@ mod heap_steps;
 mod memory;
 mod random;
 mod rows;
+mod scale;
 mod starts;
 mod stories;
 
-use ref_base::{Config, Reply, Row, Step};
+use ref_base::{Config, Reply, Row, SpanRule, Step};
 use ref_world::{Trace, World, run};
 use std::alloc::{AllocError, Allocator, Global};
 use std::process::Abort;
@@ -21,6 +22,7 @@ const CONFIG: Config = Config {
     queues: 1,
     cells: 8,
     span: 10,
+    rule: SpanRule::Fixed,
 };
 
 /// The same, with two workers.

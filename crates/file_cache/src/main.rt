@@ -6,7 +6,7 @@ ghost use Rattle.std.specs.Prelude.{◌≡◌};
 ghost use Rattle.ref_share.specs.CleanedHeaps.{HasSeats};
 
 use anyhow::Error;
-use ref_base::{Config, Reply, SlotNo, Strength, Urgency};
+use ref_base::{Config, Reply, SlotNo, SpanRule, Strength, Urgency};
 use ref_queue::{Action, Job, Ran};
 use ref_share::{CleanedHeap, Gate};
 use std::collections::VecDeque;
@@ -19,6 +19,7 @@ const CONFIG: Config = Config {
     queues: 1,
     cells: 64,
     span: 0,
+    rule: SpanRule::Fixed,
 };
 
 /// The slots below this have the values, those from here on the weak references to them.

@@ -1,15 +1,19 @@
 -- A row of a heap keeps that the collector has the world of the replay, but for what was swept and for what waits to be
--- cleared: a row that ends no phase, one that makes an object, and one that ends a phase in which nothing waits.
+-- cleared: a row that ends no phase, and one that makes an object.
 use Rattle.ref_base.proofs.Common.{◌≡◌, ℕ, ◌+◌, ◌<◌, ◌≤◌, Bool, true, false, ◌&&◌, ◌==◌, List, [], ◌∷◌, ◌++◌, take}
 use Rattle.ref_base.proofs.Common.{Some, refl, sym, ap, ◌∙◌, subst, arith, and_right, false≢true, eq-eqb, has, Object}
 use Rattle.ref_base.proofs.Common.{is_there, numbers, IsRising, if_any, World, NamedStep, after_heap, State, joined}
 use Rattle.ref_base.proofs.Common.{is_in, with_world, without, is_waiting, Agrees, Phase, Clearing, Reply}
+use Rattle.ref_base.proofs.Common.{length}
 use Rattle.std.proofs.lemmas.Bool.{false_from_ne_true}
+use Rattle.std.proofs.lemmas.List.{length-append}
 use Rattle.ref_base.specs.DoomedSets.{unscanned}
 use Rattle.ref_base.proofs.HasLaws.{has-cases}
 use Rattle.ref_base.proofs.Outcomes.{settled}
-use Rattle.ref_base.proofs.ReplayUnder.{made_number, IsNoLook, IsApart, heap_through}
+use Rattle.ref_base.proofs.ReplayUnder.{made_number, IsNoLook, IsNoBegin, IsApart, heap_through}
 use Rattle.ref_base.proofs.ReplayKeeps.{numbers_of, numbers_same, numbers_after, same_phase, EndsNoPhase, MakesNone}
+use Rattle.ref_base.proofs.ReplayKeeps.{FreesNone, same_swept}
+use Rattle.ref_base.proofs.Subsequences.{Sub, sub_through, sub_longer}
 use Rattle.ref_base.proofs.SeenObjects.{object_at-without, object_at-gone}
 use Rattle.ref_base.specs.declared.heap_step.HeapStep.TheVariants as heap
 use Rattle.ref_base.specs.declared.plain_step.PlainStep.TheVariants as plain
@@ -19,8 +23,9 @@ abbrev pub AreBelow : ℕ → List ℕ → Type 0
 AreBelow next ns = (n : ℕ) → has ns n ≡ true → n < next
 
 -- The collector has the replay's world, but for what is gone and what waits; the replay's objects stand in order of
--- number; each number that is there, gone, doomed or cleared is below the next; and while references are cleared, those
--- that the mark's end cleared aren't gone.
+-- number; each number that is there, gone, doomed or cleared is below the next; while references are cleared, those
+-- that the mark's end cleared aren't gone; what is doomed is there, in order; and the replay has as many objects more
+-- as were swept.
 pub record Agreeing (gone : List ℕ) (w : World) (a : State) : Type 0 where
   pub agrees : Agrees gone w a
   pub rising : IsRising (numbers_of w)
@@ -29,6 +34,8 @@ pub record Agreeing (gone : List ℕ) (w : World) (a : State) : Type 0 where
   pub doomed_below : AreBelow a.next a.doomed
   pub cleared_below : AreBelow a.next a.cleared
   pub cleared_stay : a.world.phase ≡ Clearing → (n : ℕ) → has a.cleared n ≡ true → has gone n ≡ false
+  pub listed : Sub a.doomed (numbers_of a.world)
+  pub counted : length (numbers_of w) ≡ length (numbers_of a.world) + w.swept
 
 -- what is gone after a row of a heap
 abbrev pub gone_after : State → List ℕ → NamedStep → Reply → List ℕ
@@ -84,22 +91,24 @@ not_in a phase is other clearing = grind arith
 
 module _ (gone : List ℕ) (w : World) (a c : State) (reply : Reply) (is : Agreeing gone w a) where
   -- the worlds agree after a row that is none of a worker's looks, where what waits is the same
-  lands : (step : NamedStep) → IsNoLook step
+  lands : (step : NamedStep) → IsNoLook step → IsNoBegin step
       → IsApart gone (is_waiting a) (made_number step reply) → c.world ≡ after_heap a.world step reply
       → is_waiting c ≡ is_waiting a → Agrees gone (after_heap w step reply) c
-  lands step no_end apart leads same = grind (arith, heap_through)
+  lands step no_end old apart leads same = grind (arith, heap_through)
 
   -- a row that ends no phase and makes nothing
-  pub still : (step : NamedStep) → IsNoLook step → EndsNoPhase step → MakesNone step
+  pub still : (step : NamedStep) → IsNoLook step → IsNoBegin step → EndsNoPhase step → MakesNone step → FreesNone step
       → IsApart gone (is_waiting a) (made_number step reply)
       → settled c ≡ settled (with_world a (after_heap a.world step reply)) → Agreeing gone (after_heap w step reply) c
-  still step no_end ends makes apart leads =
+  still step no_end old_cycle ends makes frees apart leads =
       let next : a.next ≡ c.next = ap (λ (s : State). s.next) (sym leads) in
       let phase : c.world.phase ≡ a.world.phase =
       ap (λ (s : State). s.world.phase) leads ∙ same_phase a.world step reply ends in
       let old : numbers_of w ≡ numbers_of (after_heap w step reply) = sym (numbers_same w step reply makes) in
+      let here : numbers_of a.world ≡ numbers_of c.world =
+      sym (ap (λ (s : State). numbers_of s.world) leads ∙ numbers_same a.world step reply makes) in
       record {
-        agrees = lands step no_end apart (ap (λ (s : State). s.world) leads)
+        agrees = lands step no_end old_cycle apart (ap (λ (s : State). s.world) leads)
             (ap (λ (s : State). is_waiting s) leads ∙ same_waits a (after_heap a.world step reply)
             (same_phase a.world step reply ends));
         rising = subst IsRising old is.rising;
@@ -113,13 +122,19 @@ module _ (gone : List ℕ) (w : World) (a c : State) (reply : Reply) (is : Agree
         cleared_stay = λ clearing n cleared.
             is.cleared_stay (sym phase ∙ clearing) n
             (ap (λ (s : State). has s.cleared n) (sym leads) ∙ cleared);
+        listed = subst (Sub c.doomed) here
+            (subst (λ (d : List ℕ). Sub d (numbers_of a.world)) (ap (λ (s : State). s.doomed) (sym leads)) is.listed);
+        counted = ap length (sym old) ∙ is.counted
+            ∙ ap (λ (ns : List ℕ). length ns + w.swept) here
+            ∙ ap (λ k. length (numbers_of c.world) + k) (sym (same_swept w step reply frees));
       }
 
   -- a row that makes an object
-  pub makes : (step : NamedStep) → IsNoLook step → EndsNoPhase step → made_number step reply ≡ Some a.next
+  pub makes : (step : NamedStep) → IsNoLook step → IsNoBegin step → EndsNoPhase step → FreesNone step
+      → made_number step reply ≡ Some a.next
       → settled c ≡ settled (record a { world = after_heap a.world step reply; next = a.next + 1 })
       → Agreeing gone (after_heap w step reply) c
-  makes step no_end ends number leads =
+  makes step no_end old_cycle ends frees number leads =
       let next : a.next + 1 ≡ c.next = ap (λ (s : State). s.next) (sym leads) in
       let grows : a.next ≤ c.next = omega (arith, next) in
       let phase : c.world.phase ≡ a.world.phase =
@@ -131,8 +146,12 @@ module _ (gone : List ℕ) (w : World) (a c : State) (reply : Reply) (is : Agree
       ) in
       let more : numbers_of w ++ a.next ∷ [] ≡ numbers_of (after_heap w step reply) =
       sym (numbers_after w step reply ∙ ap (λ o. numbers_of w ++ if_any o) number) in
+      let here : numbers_of a.world ++ a.next ∷ [] ≡ numbers_of c.world =
+      sym (ap (λ (s : State). numbers_of s.world) leads ∙ numbers_after a.world step reply
+      ∙ ap (λ o. numbers_of a.world ++ if_any o) number) in
+      let swept : w.swept ≡ (after_heap w step reply).swept = sym (same_swept w step reply frees) in
       record {
-        agrees = lands step no_end (subst (IsApart gone (is_waiting a)) (sym number) apart)
+        agrees = lands step no_end old_cycle (subst (IsApart gone (is_waiting a)) (sym number) apart)
             (ap (λ (s : State). s.world) leads)
             (ap (λ (s : State). is_waiting s) leads ∙ same_waits a (after_heap a.world step reply)
             (same_phase a.world step reply ends));
@@ -147,23 +166,19 @@ module _ (gone : List ℕ) (w : World) (a c : State) (reply : Reply) (is : Agree
         cleared_stay = λ clearing n cleared.
             is.cleared_stay (sym phase ∙ clearing) n
             (ap (λ (s : State). has s.cleared n) (sym leads) ∙ cleared);
-      }
-
-  -- a row that ends a phase in which nothing waits, into another
-  pub ends : (step : NamedStep) (phase : Phase) → IsNoLook step → MakesNone step
-      → IsApart gone (is_waiting a) (made_number step reply) → is_waiting a ≡ (λ n. false)
-      → c.world ≡ after_heap a.world step reply → c.world.phase ≡ phase → is_in phase Clearing ≡ false
-      → c.next ≡ a.next → AreBelow a.next c.doomed → AreBelow a.next c.cleared
-      → Agreeing gone (after_heap w step reply) c
-  ends step phase no_end makes apart none leads into other next doomed clears =
-      let old : numbers_of w ≡ numbers_of (after_heap w step reply) = sym (numbers_same w step reply makes) in
-      record {
-        agrees = lands step no_end apart leads (none_waits c phase into other ∙ sym none);
-        rising = subst IsRising old is.rising;
-        below = subst (λ k. AreBelow k (numbers_of (after_heap w step reply))) (sym next)
-            (subst (AreBelow a.next) old is.below);
-        gone_below = subst (λ k. AreBelow k gone) (sym next) is.gone_below;
-        doomed_below = subst (λ k. AreBelow k c.doomed) (sym next) doomed;
-        cleared_below = subst (λ k. AreBelow k c.cleared) (sym next) clears;
-        cleared_stay = λ clearing n cleared. absurd (not_in c phase into other clearing);
+        listed = subst (Sub c.doomed) here
+            (subst (λ (d : List ℕ). Sub d (numbers_of a.world ++ a.next ∷ []))
+            (ap (λ (s : State). s.doomed) (sym leads))
+            (sub_through a.doomed (numbers_of a.world) (numbers_of a.world ++ a.next ∷ []) is.listed
+            (sub_longer (numbers_of a.world) (a.next ∷ []))));
+        counted =
+            let left : length (numbers_of w ++ a.next ∷ []) ≡ length (numbers_of w) + 1 =
+            length-append (numbers_of w) (a.next ∷ []) in
+            let right : length (numbers_of a.world ++ a.next ∷ []) ≡ length (numbers_of a.world) + 1 =
+            length-append (numbers_of a.world) (a.next ∷ []) in
+            let was = is.counted in
+            let one : length (numbers_of w ++ a.next ∷ []) ≡ length (numbers_of a.world ++ a.next ∷ []) + w.swept =
+            omega (arith, left, right, was) in
+            ap length (sym more) ∙ one ∙ ap (λ (ns : List ℕ). length ns + w.swept) here
+            ∙ ap (λ k. length (numbers_of c.world) + k) swept;
       }

@@ -4,6 +4,7 @@ use Rattle.ref_base.proofs.Common.{arith, ◌≡◌, ℕ, Bool, List, [], Option
 use Rattle.ref_base.proofs.Common.{inr, false≢true, has, IsRising, World, told_object, NamedStep, heap_step, handed}
 use Rattle.ref_base.proofs.Common.{after_heap, after_queues, after, State, first_state_of, heap_refusal, HeapAccepts}
 use Rattle.ref_base.proofs.Common.{with_world, list_at, IsRow, AreCounted, under, is_waiting, Config, Reply, Row}
+use Rattle.ref_base.proofs.Common.{◌+◌, length, numbers, objects_under}
 use Rattle.ref_base.specs.Worlds.{first_world_of}
 use Rattle.ref_base.specs.Replay.{after_asking}
 use Rattle.ref_base.proofs.Outcomes.{settled, scanned_by, heap_outcome}
@@ -13,7 +14,9 @@ use Rattle.ref_base.proofs.ReplayKeeps.{numbers_of, but_hands, handed_keeps, que
 use Rattle.ref_base.proofs.RowKinds.{queues_lead, IsRefused, IsOfQueues, IsOfHeap, row_kind}
 use Rattle.ref_base.proofs.WaitingClears.{look_tells}
 use Rattle.ref_base.proofs.AgreeHeaps.{Agreeing, AreBelow, same_waits, gone_after, still, makes}
-use Rattle.ref_base.proofs.AgreeEnds.{end_agrees, cleared_agrees, passed_agrees, swept_agrees}
+use Rattle.ref_base.proofs.Subsequences.{Sub}
+use Rattle.ref_base.proofs.AgreeEnds.{begin_agrees, end_agrees, cleared_agrees, passed_agrees, swept_agrees}
+use Rattle.ref_base.proofs.AgreeEnds.{swept_count}
 use Rattle.ref_base.specs.declared.heap_step.HeapStep.TheVariants as heap
 use Rattle.ref_base.specs.declared.plain_step.PlainStep.TheVariants as plain
 use Rattle.ref_base.specs.declared.reply.Reply.TheVariants as replies
@@ -33,12 +36,13 @@ pub heap_agrees : (gone : List ℕ) (w : World) (a c : State) (step : NamedStep)
     → heap_refusal a step ≡ None → HeapAccepts a step reply c
     → Agreeing (gone_after a gone step reply) (after_heap w step reply) c
 heap_agrees gone w a c (heap.Plain (plain.New m d k)) reply is none row =
-    makes gone w a c reply is (heap.Plain (plain.New m d k)) tt tt (ap told_object row.0)
+    makes gone w a c reply is (heap.Plain (plain.New m d k)) tt tt tt tt (ap told_object row.0)
     (heap_outcome a c (heap.Plain (plain.New m d k)) reply tt row)
 heap_agrees gone w a c (heap.Plain (plain.Refer m strength d s q k)) reply is none row =
-    makes gone w a c reply is (heap.Plain (plain.Refer m strength d s q k)) tt tt (ap told_object row.0)
+    makes gone w a c reply is (heap.Plain (plain.Refer m strength d s q k)) tt tt tt tt (ap told_object row.0)
     (heap_outcome a c (heap.Plain (plain.Refer m strength d s q k)) reply tt row)
-heap_agrees gone w a c (heap.Plain (plain.Begin now how)) reply is none row = grind arith
+heap_agrees gone w a c (heap.Plain (plain.Begin now how)) reply is none row =
+    begin_agrees gone w a c now how reply is (of_phase a (heap.Plain (plain.Begin now how)) none) row
 heap_agrees gone w a c (heap.Plain (plain.Scan k)) reply is none row =
     settles gone w a c (scanned_by a.scanned k reply) is (heap_outcome a c (heap.Plain (plain.Scan k)) reply tt row)
 heap_agrees gone w a c (heap.Plain plain.EndMark) reply is none row =
@@ -55,14 +59,15 @@ heap_agrees gone w a c (heap.Plain (plain.ClearNext k)) reply is none row =
     settles gone w a c a.scanned is (heap_outcome a c (heap.Plain (plain.ClearNext k)) reply tt row)
 heap_agrees gone w a c (heap.Plain plain.EndClear) reply is none row = grind arith
 heap_agrees gone w a c (heap.Plain (plain.Sweep k)) (replies.Swept count) is none row =
-    search (swept_agrees, of_phase, heap_outcome)
+    swept_agrees gone w a c k count is (of_phase a (heap.Plain (plain.Sweep k)) none)
+    (swept_count a c a.doomed count row) (heap_outcome a c (heap.Plain (plain.Sweep k)) (replies.Swept count) tt row)
 heap_agrees gone w a c (heap.Plain (plain.Sweep k)) reply is none row =
     settles gone w a c a.scanned is (heap_outcome a c (heap.Plain (plain.Sweep k)) reply tt row)
 heap_agrees gone w a c (heap.Plain plain.EndSweep) reply is none row = grind arith
 heap_agrees gone w a c (heap.Plain plain.Select) reply is none row = grind arith
 heap_agrees gone w a c (heap.Plain plain.EndMove) reply is none row = grind arith
 heap_agrees gone w a c step reply is none row =
-    still gone w a c reply is step tt tt tt tt (heap_outcome a c step reply tt row)
+    still gone w a c reply is step tt tt tt tt tt tt (heap_outcome a c step reply tt row)
 
 -- ---- rows
 
@@ -73,15 +78,22 @@ with_others gone w a v next is agrees others =
     let phase : v.phase ≡ a.world.phase =
     ap (λ (u : World). u.phase) agrees ∙ ap (λ (u : World). u.phase) others
     ∙ ap (λ (u : World). u.phase) (sym is.agrees) in
-    let numbers : numbers_of w ≡ numbers_of next = ap numbers_of (sym others) in
+    let old : numbers_of w ≡ numbers_of next = ap numbers_of (sym others) in
+    let there : numbers_of a.world ≡ numbers_of v =
+    ap numbers_of is.agrees
+    ∙ ap (λ (u : World). numbers (objects_under gone (is_waiting a) u.heap.objects)) (sym others)
+    ∙ ap numbers_of (sym agrees) in
     record {
       agrees = agrees ∙ ap (λ (these : ℕ → Bool). under gone these next) (sym (same_waits a v phase));
-      rising = subst IsRising numbers is.rising;
-      below = subst (AreBelow a.next) numbers is.below;
+      rising = subst IsRising old is.rising;
+      below = subst (AreBelow a.next) old is.below;
       gone_below = is.gone_below;
       doomed_below = is.doomed_below;
       cleared_below = is.cleared_below;
       cleared_stay = λ clearing n cleared. is.cleared_stay (sym phase ∙ clearing) n cleared;
+      listed = subst (Sub a.doomed) there is.listed;
+      counted = ap length (sym old) ∙ is.counted ∙ ap (λ (ns : List ℕ). length ns + w.swept) there
+          ∙ ap (λ k. length (numbers_of v) + k) (ap (λ (u : World). u.swept) (sym others));
     }
 
 -- what is gone after a row

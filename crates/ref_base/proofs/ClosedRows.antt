@@ -11,7 +11,10 @@ use Rattle.ref_base.proofs.Common.{ClearsNext, HandsOn, Sweeps, HeapAccepts, val
 use Rattle.ref_base.proofs.Common.{referent_got, reference_of, heap_refusal, Own, Cycle, Phase, Clearing, Urgency}
 use Rattle.ref_base.proofs.Common.{Reply, Strength, if_told}
 use Rattle.std.proofs.Common.{min}
-use Rattle.ref_base.specs.Told.{told_value, named_by}
+use Rattle.ref_base.proofs.Common.{refl, take, drop, without}
+use Rattle.ref_base.specs.CollectorRows.{free_cells}
+use Rattle.ref_base.specs.Told.{told_value, told_swept, named_by}
+use Rattle.ref_base.specs.Worlds.{with_swept}
 use Rattle.ref_base.specs.Replay.{adopted}
 use Rattle.ref_base.proofs.Places.{all_push}
 use Rattle.ref_base.proofs.CarryLaws.{all_without_first}
@@ -192,10 +195,14 @@ module _ (V : ℕ → Type 0) where
     notices (replies.Notice n q cause) change is after = after (record { object = n; queue = q; cause = cause }) is
     notices reply change is after = before
 
-    begins : (now : ℕ) (urgency : Urgency) (reply : Reply)
-        → At (if_told (told_cycle reply) (λ n. begun w now urgency n) w)
-    begins now urgency (replies.Cycle n) = record { closed = assumption closed }
-    begins now urgency reply = before
+    begins : (free now : ℕ) (how : Urgency) (reply : Reply)
+        → At (if_told (told_cycle reply) (λ n. begun w free now how n) w)
+    begins free now how (replies.Cycle n) = record { closed = assumption closed }
+    begins free now how reply = before
+
+    counts : (reply : Reply) → At (if_told (told_swept reply) (λ count. with_swept w count) w)
+    counts (replies.Swept count) = record { closed = assumption closed }
+    counts reply = before
 
     phases : (phase : Phase) → At (with_phase w phase)
     phases phase = record { closed = assumption closed }
@@ -216,6 +223,7 @@ module _ (V : ℕ → Type 0) where
           values,
           notices,
           begins,
+          counts,
           phases,
           sets,
           stores,
@@ -241,7 +249,13 @@ module _ (V : ℕ → Type 0) where
 
     frees : (doomed : List ℕ) (reply : Reply) → Sweeps a doomed reply b → IsClosed V b.world
     frees [] reply row = given a b replies.Nothing reply row closed
-    frees (n ∷ ns) reply row = search (given, closed_swept)
+    frees (n ∷ ns) reply row =
+        let left : World = with_heap a.world
+        (record a.world.heap { objects = without (take 64 (n ∷ ns)) a.world.heap.objects }) in
+        let freed : IsClosed V left = search closed_swept in
+        let count : ℕ = min 64 (length (n ∷ ns)) in
+        let after : State = record a { world = with_swept left count; doomed = drop 64 (n ∷ ns) } in
+        given after b (replies.Swept count) reply row (closed_same V left after.world refl refl refl refl freed)
 
     leads : (step : NamedStep) (reply : Reply) → IsNoEnd step → HeapAccepts a step reply b
         → IsClosed V (outcome a step reply).world → IsClosed V b.world
@@ -256,6 +270,9 @@ module _ (V : ℕ → Type 0) where
         looks_at k (list_at a.found k) reply (clears (of_phase a (heap.Plain (plain.ClearNext k)) none)) row
     heap_closed (heap.Plain (plain.Sweep k)) reply no_end none next clears row = frees a.doomed reply row
     heap_closed (heap.Plain plain.EndMark) reply no_end none next clears row = absurd no_end
+    heap_closed (heap.Plain (plain.Begin now how)) reply no_end none next clears row =
+        leads (heap.Plain (plain.Begin now how)) reply no_end row
+        (begins a.world closed (free_cells a.world.heap) now how reply).closed
     heap_closed step reply no_end none next clears row =
         leads step reply no_end row
         (after_closed a.world closed step reply tt (named_is a b closed step reply next none row)).closed

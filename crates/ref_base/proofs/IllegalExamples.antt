@@ -3,8 +3,11 @@ use Rattle.ref_base.proofs.Common.{arith, ◌≡◌, ℕ, Bool, false, List, [],
 use Rattle.ref_base.proofs.Common.{Object, plain_object, first_world, State, first_state, IsRun, IsLegal, Row, Mutator}
 use Rattle.ref_base.proofs.Common.{Weak, Normal, Own, Marking, HandEmpty, NoMemory}
 use Rattle.ref_base.specs.Heaps.{first_heap}
-use Rattle.ref_base.specs.KeptPaths.{policy_from}
-use Rattle.ref_base.proofs.WorkedTraces.{row, config_of}
+use Rattle.ref_base.specs.KeptPaths.{policy_from, is_kept, IsKept}
+use Rattle.ref_base.specs.declared.strength.Strength.TheVariants.{Soft}
+use Rattle.ref_base.proofs.Common.{refl, false≢true}
+use Rattle.ref_base.proofs.ClosedSets.{closed_has}
+use Rattle.ref_base.proofs.WorkedTraces.{row, config_of, scaled_config_of}
 use Rattle.ref_base.specs.declared.plain_step.PlainStep.TheVariants as plain
 use Rattle.ref_base.specs.declared.step.Step.TheVariants as steps
 use Rattle.ref_base.specs.declared.reply.Reply.TheVariants as replies
@@ -139,7 +142,7 @@ abbrev marked : List (Option ℕ) → List Graph → Bool → State
 marked slots moments left = record {
   world = record (first_world (config_of 1)) {
     heap = record (first_heap (config_of 1) 0) { objects = objects; slots = slots; clock = 5 };
-    policy = policy_from (config_of 1) 5 Normal;
+    policy = policy_from (config_of 1) 6 5 Normal;
     cycle = 1;
     phase = Marking;
   };
@@ -195,6 +198,36 @@ kept_doomed =
 
 kept_doomed_is_not_legal : ¬ (IsLegal (config_of 1) kept_doomed)
 kept_doomed_is_not_legal legal = grind arith
+
+-- ---- a scaled span: of the eight cells six are free as the cycle begins, which makes 7 of 10
+
+abbrev within_ten : Graph
+within_ten = record {
+  objects = plain_object 1 [] ∷ record {
+    no = 2;
+    fields = [];
+    reference = Some (record { strength = Soft; referent = Some 1; stamp = 0; queue = Some 0 });
+  } ∷ [];
+  roots = 2 ∷ [];
+}
+
+-- 8 is within the span itself, and no kept path leads through the reference
+it_is_not_kept : ¬ (IsKept (policy_from (scaled_config_of 1) 6 8 Normal) within_ten 1)
+it_is_not_kept kept =
+    false≢true (closed_has (is_kept (policy_from (scaled_config_of 1) 6 8 Normal)) within_ten (2 ∷ []) refl 1 kept)
+
+-- its referent is scanned
+abbrev kept_by_the_span_itself : List Row
+kept_by_the_span_itself =
+    row (steps.Plain (plain.New 0 0 0)) (replies.Object 1) ∷
+    row (steps.Plain (plain.Refer 0 Soft 1 0 (Some 0) 0)) (replies.Object 2) ∷
+    row (steps.Plain (plain.Drop 0 0)) replies.Done ∷
+    row (steps.Plain (plain.Begin 8 Normal)) (replies.Cycle 1) ∷
+    row (steps.Plain (plain.Scan 0)) (replies.Scanned 2) ∷
+    row (steps.Plain (plain.Scan 0)) (replies.Scanned 1) ∷ []
+
+kept_by_the_span_itself_is_not_legal : ¬ (IsLegal (scaled_config_of 1) kept_by_the_span_itself)
+kept_by_the_span_itself_is_not_legal legal = grind (arith, it_is_not_kept)
 
 -- ---- a move
 

@@ -2,6 +2,7 @@
 use Rattle.ref_base.proofs.Common.{arith, ◌≡◌, ℕ, ◌+◌, ◌<◌, Bool, true, false, List, inl, inr, refl, sym, ap, ◌∙◌}
 use Rattle.ref_base.proofs.Common.{subst, false≢true, has, Graph, Policy, EverKept, NamedStep, begun, State, joined}
 use Rattle.ref_base.proofs.Common.{is_in, HeapAccepts, begun_state, Scans, IsBut, IsLeft, ticked, Phase, Marking, Reply}
+use Rattle.ref_base.specs.CollectorRows.{free_cells}
 use Rattle.ref_base.proofs.Outcomes.{Becomes, outcome, IsNoEnd, heap_becomes}
 use Rattle.ref_base.proofs.OutcomeParts.{mark_of, mark_in, outcome_stage}
 use Rattle.ref_base.specs.declared.heap_step.HeapStep.TheVariants as heap
@@ -54,7 +55,7 @@ left_same a b step reply row no_end same means =
 pub heap_left : (a b : State) (step : NamedStep) (reply : Reply) → HeapAccepts a step reply b → LeftMeans a
     → LeftMeans b
 heap_left a b (heap.Plain (plain.Begin now how)) reply row means =
-    left_anew (ticked (begun_state a (begun a.world now how (a.world.cycle + 1)))) b row.1
+    left_anew (ticked (begun_state a (begun a.world (free_cells a.world.heap) now how (a.world.cycle + 1)))) b row.1
 heap_left a b (heap.Plain (plain.Scan k)) reply row means = scan_left a b k reply row means
 heap_left a b (heap.Plain plain.EndMark) reply row means =
     subst LeftMeans (sym row.after) (λ marks _. absurd (false≢true marks))

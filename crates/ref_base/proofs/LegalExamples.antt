@@ -8,6 +8,7 @@ use Rattle.ref_base.proofs.WorkedTraces.{config_of, two_enqueued_in_order, death
 use Rattle.ref_base.proofs.WorkedTraces.{order_of_refusals, first_leaving_edge, soft_kept_within_the_span}
 use Rattle.ref_base.proofs.WorkedTraces.{cleared_for_every_mutator_at_once, get_keeps_the_referent}
 use Rattle.ref_base.proofs.WorkedTraces.{two_workers_in_clearing_order, objects_move_once_a_cycle}
+use Rattle.ref_base.proofs.WorkedTraces.{scaled_config_of, soft_scaled_by_what_is_free}
 
 two_enqueued_in_order_is_legal : IsLegal (config_of 1) two_enqueued_in_order
 two_enqueued_in_order_is_legal = legal (config_of 1) two_enqueued_in_order (
@@ -312,4 +313,58 @@ objects_move_once_a_cycle_is_legal = legal (config_of 1) objects_move_once_a_cyc
     ⨾ (_, (refl, refl), refl)
     ⨾ (_, inr (inr refl, refl), refl)
     ⨾ (_, inl (3, (refl, refl)), refl)
+    ⨾ stop)
+
+soft_scaled_by_what_is_free_is_legal : IsLegal (scaled_config_of 1) soft_scaled_by_what_is_free
+soft_scaled_by_what_is_free_is_legal = legal (scaled_config_of 1) soft_scaled_by_what_is_free (
+    (_, (refl, refl), refl)
+    ⨾ (_, (refl, refl), refl)
+    ⨾ (_, (refl, refl), refl)
+    ⨾ (_, (refl, (true, refl, λ _. (2, (inl ([], (refl, refl)), below _ _ refl, refl)))), refl)
+    ⨾ (_, (refl, refl), refl)
+    ⨾ (
+      _,
+      (
+        refl,
+        (inl ([], (refl, refl)), below _ _ refl, refl),
+        (true, refl, λ _. (1, (inl (2 ∷ [], (refl, refl, (refl, refl))), below _ _ refl, refl))),
+      ),
+      refl,
+    )
+    ⨾ (_, (refl, (inl (2 ∷ [], (refl, refl, (refl, refl))), below _ _ refl, refl), (false, refl, none_left)), refl)
+    ⨾ (
+      _,
+      mark_ends _ ([] ∷ [])
+          (may_doom _ _ _ [] (2 ∷ 3 ∷ 1 ∷ []) refl refl (
+            inr (inl (2 ∷ [], (refl, refl, (refl, refl)))),
+            (inr (inl ([], (refl, refl))), (inr (inl ([], (refl, refl))), tt)),
+          ) refl)
+          (refl, tt) (λ n h. absurd (false≢true h)),
+      refl,
+    )
+    ⨾ (_, (refl, refl), refl)
+    ⨾ (_, (refl, refl), refl)
+    ⨾ (_, (refl, (true, refl, λ _. (2, (inl ([], (refl, refl)), below _ _ refl, refl)))), refl)
+    ⨾ (
+      _,
+      (
+        refl,
+        (inl ([], (refl, refl)), below _ _ refl, refl),
+        (true, refl, λ _. (3, (inl ([], (refl, refl)), below _ _ refl, refl))),
+      ),
+      refl,
+    )
+    ⨾ (_, (refl, (inl ([], (refl, refl)), below _ _ refl, refl), (false, refl, none_left)), refl)
+    ⨾ (_, (refl, (refl, refl)), refl)
+    ⨾ (
+      _,
+      mark_ends _ ((2 ∷ []) ∷ [])
+          (may_doom _ _ _ (1 ∷ []) (2 ∷ 3 ∷ []) refl refl (
+            inl refl,
+            (inr (inl ([], (refl, refl))), (inr (inl ([], (refl, refl))), tt)),
+          ) refl)
+          (refl, tt) (λ n h. h),
+      refl,
+    )
+    ⨾ (_, (refl, refl), refl)
     ⨾ stop)

@@ -46,6 +46,7 @@ pub mod ReplayUnder
 pub mod ReplayKeeps
 pub mod WaitingClears
 pub mod PhaseLaws
+pub mod SweptLists
 pub mod AgreeHeaps
 pub mod AgreeEnds
 pub mod AgreeRuns

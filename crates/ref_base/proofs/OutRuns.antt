@@ -14,7 +14,8 @@ use Rattle.ref_base.proofs.ApartWorlds.{IsClosed}
 use Rattle.ref_base.proofs.ClosedRows.{closed_same}
 use Rattle.ref_base.proofs.MarkShows.{RefersToDead, mark_ended, was_doomed, ended_more, doomed_more}
 use Rattle.ref_base.proofs.OutHeaps.{AreOutBy, AreOut, off, doomed_in, plain_out, end_out}
-use Rattle.ref_base.proofs.OutcomeParts.{outcome_phase, outcome_cycle, outcome_cleared, FreesNone}
+use Rattle.ref_base.proofs.OutcomeParts.{outcome_phase, outcome_cycle, outcome_cleared}
+use Rattle.ref_base.proofs.ReplayKeeps.{FreesNone}
 use Rattle.ref_base.specs.declared.heap_step.HeapStep.TheVariants as heap
 use Rattle.ref_base.specs.declared.plain_step.PlainStep.TheVariants as plain
 use Rattle.ref_base.specs.declared.step.Step.TheVariants as steps

@@ -38,11 +38,6 @@ outcome_cleared a (heap.Plain (plain.Sweep k)) reply no_end = refl
 outcome_cleared a (heap.Plain (plain.Begin now how)) reply no_end = absurd no_end
 outcome_cleared a step reply no_end = refl
 
--- the step frees nothing
-abbrev pub FreesNone : NamedStep → Type 0
-FreesNone (heap.Plain (plain.Sweep k)) = ⊥
-FreesNone step = Unit {0}
-
 -- ---- what the end of a mark goes by
 
 -- the phase, and what tells which objects are left

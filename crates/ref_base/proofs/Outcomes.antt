@@ -7,7 +7,9 @@ use Rattle.ref_base.proofs.Common.{is_done, is_selected, NamedStep, pended, afte
 use Rattle.ref_base.proofs.Common.{on_heap, with_world, Loads, Gets, Unhooks, Holds, Scans, ClearsNext, HandsOn, Sweeps}
 use Rattle.ref_base.proofs.Common.{Selects, Moves, EndsMove, HeapAccepts, value_reply, looked_at, list_at, begun_state}
 use Rattle.ref_base.proofs.Common.{without, is_in, Marking, Reply}
-use Rattle.ref_base.specs.CollectorRows.{looked}
+use Rattle.ref_base.proofs.Common.{if_told, told_cycle, begun}
+use Rattle.ref_base.specs.Worlds.{with_swept}
+use Rattle.ref_base.specs.CollectorRows.{looked, free_cells}
 use Rattle.ref_base.specs.declared.heap_step.HeapStep.TheVariants as heap
 use Rattle.ref_base.specs.declared.plain_step.PlainStep.TheVariants as plain
 use Rattle.ref_base.specs.declared.reply.Reply.TheVariants as replies
@@ -36,7 +38,7 @@ outcome a (heap.Plain (plain.New m d k)) reply =
 outcome a (heap.Plain (plain.Refer m strength d s q k)) reply =
     record a { world = after_heap a.world (heap.Plain (plain.Refer m strength d s q k)) reply; next = a.next + 1 }
 outcome a (heap.Plain (plain.Begin now how)) reply =
-    begun_state a (after_heap a.world (heap.Plain (plain.Begin now how)) reply)
+    begun_state a (if_told (told_cycle reply) (λ n. begun a.world (free_cells a.world.heap) now how n) a.world)
 outcome a (heap.Plain (plain.Scan k)) reply = record a { scanned = scanned_by a.scanned k reply }
 outcome a (heap.Plain (plain.ClearNext k)) (replies.Cleared n) =
     with_world (found_less a k) (pended a.world k n (registered_in (reference_at a.world.heap n)))
@@ -44,7 +46,8 @@ outcome a (heap.Plain (plain.ClearNext k)) (replies.Kept n) = found_less a k
 outcome a (heap.Plain (plain.ClearNext k)) (replies.Skipped n) = found_less a k
 outcome a (heap.Plain (plain.ClearNext k)) reply = a
 outcome a (heap.Plain (plain.Sweep k)) (replies.Swept count) = record a {
-  world = with_heap a.world (record a.world.heap { objects = without (take 64 a.doomed) a.world.heap.objects });
+  world = with_swept
+      (with_heap a.world (record a.world.heap { objects = without (take 64 a.doomed) a.world.heap.objects })) count;
   doomed = drop 64 a.doomed;
 }
 outcome a (heap.Plain (plain.Sweep k)) reply = a

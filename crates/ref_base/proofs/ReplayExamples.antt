@@ -4,6 +4,9 @@ use Rattle.ref_base.proofs.Common.{plain_object, IsPath, soft_and_weak_referents
 use Rattle.ref_base.proofs.Common.{World, graph_of, hand_of, pending_numbers, replayed, put_into, taken_from}
 use Rattle.ref_base.proofs.Common.{clearing_order, Weak, Own, Cycle, Mutator, Idle, Moving, Sweeping, Strength}
 use Rattle.ref_base.specs.declared.strength.Strength.TheVariants.{Soft}
+use Rattle.ref_base.specs.KeptPaths.{scaled_span}
+use Rattle.ref_base.specs.Replay.{free_after}
+use Rattle.ref_base.proofs.WorkedTraces.{scaled_config_of, soft_scaled_by_what_is_free}
 use Rattle.ref_base.proofs.WorkedTraces.{config_of, two_enqueued_in_order, death_reported_after_a_cycle}
 use Rattle.ref_base.proofs.WorkedTraces.{get_keeps_the_referent, two_workers_in_clearing_order}
 use Rattle.ref_base.proofs.WorkedTraces.{soft_kept_within_the_span, cleared_for_every_mutator_at_once}
@@ -109,6 +112,33 @@ its_stamp_is_the_clock_at_its_making = refl
 
 nothing_was_put_in : put_into 0 soft_kept_within_the_span ≡ []
 nothing_was_put_in = refl
+
+-- ---- a span scaled by what is free
+
+abbrev scaled_after : ℕ → World
+scaled_after count = replayed (scaled_config_of 1) (take count soft_scaled_by_what_is_free)
+
+six_of_eight_are_free : (scaled_after 4).policy.span ≡ 7
+six_of_eight_are_free = refl
+
+it_stays_though_an_object_is_made : (scaled_after 8).policy.span ≡ 7
+it_stays_though_an_object_is_made = refl
+
+five_of_eight_are_free : (scaled_after 11).policy.span ≡ 6
+five_of_eight_are_free = refl
+
+-- three objects were made, and two were swept
+what_is_swept_is_free_again : free_after (replayed (config_of 1) first_leaving_edge) ≡ 7
+what_is_swept_is_free_again = refl
+
+the_span_itself_where_all_is_free : scaled_span 10 8 8 ≡ 10
+the_span_itself_where_all_is_free = refl
+
+nothing_where_nothing_is_free : scaled_span 5 0 1 ≡ 0
+nothing_where_nothing_is_free = refl
+
+the_longest_span : scaled_span 18446744073709551615 1 65536 ≡ 281474976710655
+the_longest_span = refl
 
 -- ---- cleared for every mutator at once
 

@@ -29,11 +29,11 @@ module _ {R : Type 0} (get : World → R) where
   unhooked_keeps v w true told change same keeps = same
   unhooked_keeps v w false told change same keeps = told_keeps told change w keeps
 
--- ---- all but objects, slots, holds and what waits
+-- ---- all but objects, slots, holds, what waits and how many objects were swept
 
--- a world but for its objects, slots and holds
+-- a world but for its objects, slots and holds, and how many objects were swept
 abbrev pub frame_of : World → World
-frame_of w = with_heap w (record w.heap { objects = []; slots = []; holds = [] })
+frame_of w = record w { heap = record w.heap { objects = []; slots = []; holds = [] }; swept = 0 }
 
 -- the step ends no phase
 abbrev pub EndsNoPhase : NamedStep → Type 0
@@ -83,7 +83,7 @@ pub frame_pending : (w : World) (step : NamedStep) (reply : Reply) → EndsNoPha
     → (after_heap w step reply).pending ≡ w.pending
 frame_pending w step reply no_end calm = ap (λ (v : World). v.pending) (same_frame w step reply no_end calm)
 
--- a world but for its objects, slots, holds and what is pending
+-- and but for what is pending
 abbrev pub stage_of : World → World
 stage_of w = record (frame_of w) { pending = [] }
 
@@ -125,7 +125,7 @@ numbers_got : (w : World) (m d s : ℕ) (value : Option ℕ) → numbers (got w.
 numbers_got w m d s None = refl
 numbers_got w m d s (Some n) = numbers_in w (slot_at w.heap m s) (with_reference (got_at w.heap.clock)) (λ o. refl)
 
-numbers_pended : (w : World) (k n : ℕ) (queue : Option ℕ) → numbers_of (pended w k n queue) ≡ numbers_of w
+pub numbers_pended : (w : World) (k n : ℕ) (queue : Option ℕ) → numbers_of (pended w k n queue) ≡ numbers_of w
 numbers_pended w k n None = refl
 numbers_pended w k n (Some q) = refl
 
@@ -165,6 +165,28 @@ numbers_after w (heap.Plain (plain.New m d k)) reply =
     numbers_made w (told_object reply) _ (λ n. map-append (λ o. o.no) w.heap.objects (plain_object n (nulls k) ∷ []))
 numbers_after w (heap.Plain (plain.Refer m strength d s q k)) reply = search (numbers_made, map-append)
 numbers_after w step reply = numbers_same w step reply tt ∙ sym (append-nil (numbers_of w))
+
+-- ---- how many objects were swept
+
+-- the step frees nothing
+abbrev pub FreesNone : NamedStep → Type 0
+FreesNone (heap.Plain (plain.Sweep k)) = ⊥
+FreesNone step = Unit {0}
+
+abbrev swept_in : World → ℕ
+swept_in w = w.swept
+
+swept_pended : (w : World) (k n : ℕ) (queue : Option ℕ) → swept_in (pended w k n queue) ≡ swept_in w
+swept_pended w k n None = refl
+swept_pended w k n (Some q) = refl
+
+pub same_swept : (w : World) (step : NamedStep) (reply : Reply) → FreesNone step
+    → (after_heap w step reply).swept ≡ w.swept
+same_swept w (heap.Plain (plain.ClearNext k)) reply no_sweep =
+    told_keeps swept_in (told_cleared reply) _ w
+    (λ n. swept_pended _ k n (registered_in (reference_at w.heap n)))
+same_swept w step reply no_sweep =
+    search (told_keeps swept_in, done_keeps swept_in, unhooked_keeps swept_in, no_sweep, refl)
 
 -- ---- hands and queues
 

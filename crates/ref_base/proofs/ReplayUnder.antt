@@ -23,6 +23,11 @@ abbrev pub IsNoLook : NamedStep → Type 0
 IsNoLook (heap.Plain (plain.ClearNext k)) = ⊥
 IsNoLook step = Unit {0}
 
+-- nor a begin, which counts the objects
+abbrev pub IsNoBegin : NamedStep → Type 0
+IsNoBegin (heap.Plain (plain.Begin now how)) = ⊥
+IsNoBegin step = Unit {0}
+
 -- ---- where some objects are gone and some references read as cleared
 
 module _ (gone : List ℕ) (these : ℕ → Bool) where
@@ -86,12 +91,15 @@ module _ (gone : List ℕ) (these : ℕ → Bool) where
   unhooked_under w m s false told = search (told_under, cuts)
 
   -- a row of a heap goes through, where what it makes is neither gone nor one of these
-  pub heap_through : (w : World) (step : NamedStep) (reply : Reply) → IsNoLook step → IsApart (made_number step reply)
+  pub heap_through : (w : World) (step : NamedStep) (reply : Reply) → IsNoLook step → IsNoBegin step
+      → IsApart (made_number step reply)
       → after_heap (under gone these w) step reply ≡ under gone these (after_heap w step reply)
-  heap_through w (heap.Plain (plain.New m d k)) reply no_end apart = grind (arith, made_under w m d)
-  heap_through w (heap.Plain (plain.Refer m strength d s q k)) reply no_end apart = grind (arith, made_under w m d)
-  heap_through w (heap.Plain plain.EndMark) reply no_end apart = done_under (is_mark_end reply) _ _ w refl
-  heap_through w step reply no_end apart =
+  heap_through w (heap.Plain (plain.New m d k)) reply no_end old apart = grind (arith, made_under w m d)
+  heap_through w (heap.Plain (plain.Refer m strength d s q k)) reply no_end old apart =
+      grind (arith, made_under w m d)
+  heap_through w (heap.Plain plain.EndMark) reply no_end old apart = done_under (is_mark_end reply) _ _ w refl
+  heap_through w (heap.Plain (plain.Begin now how)) reply no_end old apart = absurd old
+  heap_through w step reply no_end old apart =
       search (told_under, done_under, unhooked_under, stores_under, cuts_under, gets_under, no_end, refl)
 
   -- ---- hands and queues

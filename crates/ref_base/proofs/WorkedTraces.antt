@@ -4,6 +4,7 @@ use Rattle.ref_base.proofs.Common.{HandEmpty, BadField, NoSuchActor, NotAReferen
 use Rattle.ref_base.specs.declared.fault.Fault.TheVariants.{BadQueue, EmptySlot, HandFull, MovesLeft, NoRoom}
 use Rattle.ref_base.specs.declared.fault.Fault.TheVariants.{AddressesSpent}
 use Rattle.ref_base.specs.declared.strength.Strength.TheVariants.{Soft}
+use Rattle.ref_base.specs.declared.span_rule.SpanRule.TheVariants.{Fixed, Scaled}
 use Rattle.ref_base.specs.declared.plain_step.PlainStep.TheVariants as plain
 use Rattle.ref_base.specs.declared.step.Step.TheVariants as steps
 use Rattle.ref_base.specs.declared.reply.Reply.TheVariants as replies
@@ -13,7 +14,11 @@ row step reply = record { step = step; reply = reply }
 
 -- one mutator, one queue, eight cells, and this many workers
 abbrev pub config_of : ℕ → Config
-config_of workers = record { mutators = 1; workers = workers; queues = 1; cells = 8; span = 10 }
+config_of workers = record { mutators = 1; workers = workers; queues = 1; cells = 8; span = 10; rule = Fixed }
+
+-- the same, where the span is scaled by the cells that are free
+abbrev pub scaled_config_of : ℕ → Config
+scaled_config_of workers = record { mutators = 1; workers = workers; queues = 1; cells = 8; span = 10; rule = Scaled }
 
 -- config 1 1 1 8 10
 abbrev pub two_enqueued_in_order : List Row
@@ -117,6 +122,28 @@ soft_kept_within_the_span =
     row (steps.Plain plain.EndSweep) replies.Done ∷
     row (steps.Plain (plain.Begin 101 Normal)) (replies.Cycle 3) ∷
     row (steps.Plain (plain.Scan 0)) (replies.Scanned 2) ∷
+    row (steps.Plain plain.EndMark) (replies.Doomed 1) ∷
+    row (steps.Plain (plain.ClearNext 0)) (replies.Cleared 2) ∷
+    []
+
+-- config 1 1 1 8 10, where the span is scaled: 6 cells are free as the first cycle begins, which makes it 7; and 5 as
+-- the second does, which makes it 6
+abbrev pub soft_scaled_by_what_is_free : List Row
+soft_scaled_by_what_is_free =
+    row (steps.Plain (plain.New 0 0 0)) (replies.Object 1) ∷
+    row (steps.Plain (plain.Refer 0 Soft 1 0 (Some 0) 0)) (replies.Object 2) ∷
+    row (steps.Plain (plain.Drop 0 0)) replies.Done ∷
+    row (steps.Plain (plain.Begin 7 Normal)) (replies.Cycle 1) ∷
+    row (steps.Plain (plain.New 0 2 0)) (replies.Object 3) ∷
+    row (steps.Plain (plain.Scan 0)) (replies.Scanned 2) ∷
+    row (steps.Plain (plain.Scan 0)) (replies.Scanned 1) ∷
+    row (steps.Plain plain.EndMark) (replies.Doomed 0) ∷
+    row (steps.Plain plain.EndClear) replies.Done ∷
+    row (steps.Plain plain.EndSweep) replies.Done ∷
+    row (steps.Plain (plain.Begin 8 Normal)) (replies.Cycle 2) ∷
+    row (steps.Plain (plain.Scan 0)) (replies.Scanned 2) ∷
+    row (steps.Plain (plain.Scan 0)) (replies.Scanned 3) ∷
+    row (steps.Plain (plain.Scan 0)) replies.Nothing ∷
     row (steps.Plain plain.EndMark) (replies.Doomed 1) ∷
     row (steps.Plain (plain.ClearNext 0)) (replies.Cleared 2) ∷
     []

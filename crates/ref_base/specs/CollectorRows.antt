@@ -1,8 +1,8 @@
 -- The rows of the abstract collector: which step may be answered how in a state, and what state that leaves (package
 -- `java.lang.ref` of Java SE 17 for what the calls of a reference answer and for clearing at one instant; cycles,
 -- moves, workers and queues: this project's profile).
-use Rattle.std.specs.Prelude.{◌≡◌, ℕ, ◌+◌, ◌<◌, Bool, true, false, ◌==◌, if◌then◌else◌, min, List, [], ◌∷◌, ◌++◌, map}
-use Rattle.std.specs.Prelude.{length, take, drop, Option, Some, None, slice_index_or, slice_set, ◌⊎◌, is_some}
+use Rattle.std.specs.Prelude.{◌≡◌, ℕ, ◌+◌, ◌-◌, ◌<◌, Bool, true, false, ◌==◌, if◌then◌else◌, min, List, [], ◌∷◌, ◌++◌}
+use Rattle.std.specs.Prelude.{map, length, take, drop, Option, Some, None, slice_index_or, slice_set, ◌⊎◌, is_some}
 use Rattle.ref_base.specs.Members.{has}
 use Rattle.ref_base.specs.Graphs.{Object, Reference, object_at, is_there, plain_object}
 use Rattle.ref_base.specs.Paths.{is_phantom}
@@ -12,6 +12,7 @@ use Rattle.ref_base.specs.Heaps.{Heap, slot_at, reference_at, reference_in, regi
 use Rattle.ref_base.specs.Heaps.{cleared, nulls, new_reference, made, stored, got, cut, with_hold, without_hold}
 use Rattle.ref_base.specs.QueueLists.{enqueued, was_put}
 use Rattle.ref_base.specs.Worlds.{World, Notice, Pending, graph_of, object_of, hand_of, queue_at, pending_of, with_heap}
+use Rattle.ref_base.specs.Worlds.{with_swept}
 use Rattle.ref_base.specs.HeapSteps.{NamedStep, heap_step, handed}
 use Rattle.ref_base.specs.Replay.{put_in, took, adopted, pended, handed_on, begun, with_phase, closed_queue}
 use Rattle.ref_base.specs.Collectors.{State, joined}
@@ -163,6 +164,10 @@ Closes a q false = Gives replies.Done (with_world a (closed_queue a.world q))
 abbrev pub emptied : List (List ℕ) → List (List ℕ)
 emptied lists = map (λ ns. []) lists
 
+-- how many cells are free: all but one for each object that is there
+abbrev pub free_cells : Heap → ℕ
+free_cells h = h.config.cells - length h.objects
+
 -- a cycle begins: nothing is scanned, and what is kept now is ever kept
 abbrev pub begun_state : State → World → State
 begun_state a w = record a {
@@ -268,8 +273,9 @@ Sweeps a [] = Gives replies.Nothing a
 Sweeps a (n ∷ ns) =
     Gives (replies.Swept (min 64 (length (n ∷ ns))))
     (record a {
-      world = with_heap a.world
-          (record a.world.heap { objects = without (take 64 (n ∷ ns)) a.world.heap.objects });
+      world = with_swept
+          (with_heap a.world (record a.world.heap { objects = without (take 64 (n ∷ ns)) a.world.heap.objects }))
+          (min 64 (length (n ∷ ns)));
       doomed = drop 64 (n ∷ ns);
     })
 
@@ -321,7 +327,7 @@ PlainAccepts a (plain.RefersTo m s v) =
     Gives (replies.Refers (is_same (referent_of reference) (slot_at a.world.heap m v))) a
 PlainAccepts a (plain.Begin now urgency) =
     let n = a.world.cycle + 1 in
-    GivesAnew (replies.Cycle n) (begun_state a (begun a.world now urgency n))
+    GivesAnew (replies.Cycle n) (begun_state a (begun a.world (free_cells a.world.heap) now urgency n))
 PlainAccepts a (plain.Scan k) = Scans a k
 PlainAccepts a plain.EndMark = EndsMark a
 PlainAccepts a (plain.ClearNext k) = ClearsNext a k (list_at a.found k)

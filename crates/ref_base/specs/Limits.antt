@@ -6,7 +6,7 @@ use Rattle.ref_base.specs.declared.config.Config.{Config}
 abbrev pub is_between : ℕ → ℕ → ℕ → Bool
 is_between low high n = nat_le low n && nat_le n high
 
--- each number of a configuration is within its limits; the span may be any number
+-- each number of a configuration is within its limits; the span may be any number, and its rule either
 abbrev pub is_within_limits : Config → Bool
 is_within_limits c =
-    is_between 1 8 c.mutators && is_between 1 8 c.workers && is_between 1 16 c.queues && is_between 1 4096 c.cells
+    is_between 1 8 c.mutators && is_between 1 8 c.workers && is_between 1 16 c.queues && is_between 1 65536 c.cells

@@ -1,7 +1,7 @@
 -- Replay: the world after a trace, from its rows alone. Only what a row answered is looked at: a refusal, and any
 -- answer that isn't named here, changes nothing (package `java.lang.ref` of Java SE 17 for what the calls of a
 -- reference do; the rest is this project's profile).
-use Rattle.std.specs.Prelude.{ℕ, true, ◌==◌, if◌then◌else◌, List, [], ◌∷◌, ◌++◌, Option, Some, None}
+use Rattle.std.specs.Prelude.{ℕ, ◌-◌, true, ◌==◌, if◌then◌else◌, List, [], ◌∷◌, ◌++◌, length, Option, Some, None}
 use Rattle.ref_base.specs.Members.{without_first}
 use Rattle.ref_base.specs.Graphs.{plain_object}
 use Rattle.ref_base.specs.KeptPaths.{policy_from}
@@ -10,9 +10,9 @@ use Rattle.ref_base.specs.Heaps.{with_changed, with_reference, cleared, nulls, w
 use Rattle.ref_base.specs.Heaps.{got, cut}
 use Rattle.ref_base.specs.QueueLists.{Lists, with_parcel}
 use Rattle.ref_base.specs.Worlds.{World, Notice, Pending, first_world, object_of, hand_of, queue_at, pending_of}
-use Rattle.ref_base.specs.Worlds.{with_heap, with_hand, with_queue, with_pending}
+use Rattle.ref_base.specs.Worlds.{with_heap, with_hand, with_queue, with_pending, with_swept}
 use Rattle.ref_base.specs.Told.{told_object, told_value, is_done, told_notice, is_nothing, is_added, told_taken}
-use Rattle.ref_base.specs.Told.{told_cycle, is_mark_end, told_cleared, is_selected}
+use Rattle.ref_base.specs.Told.{told_cycle, is_mark_end, told_cleared, told_swept, is_selected}
 use Rattle.ref_base.specs.HeapSteps.{NamedStep, heap_step, handed}
 use Rattle.ref_base.specs.declared.config.Config.{Config}
 use Rattle.ref_base.specs.declared.actor.Actor.{Actor}
@@ -84,12 +84,17 @@ handed_on w k n =
     let fewer = with_pending w k (without_pending (pending_of w k) n) in
     with_heap fewer (with_hold fewer.heap n)
 
--- a cycle began: the clock, its policy, which stays as it is till the next begin, and its number
-abbrev pub begun : World → ℕ → Urgency → ℕ → World
-begun w now urgency n =
+-- how many cells are free: all but one for each object that was made and not swept
+abbrev pub free_after : World → ℕ
+free_after w = w.heap.config.cells - (length w.heap.objects - w.swept)
+
+-- a cycle began when so many cells were free: the clock, its policy, which stays as it is till the next begin, and its
+-- number
+abbrev pub begun : World → ℕ → ℕ → Urgency → ℕ → World
+begun w free now urgency n =
     record w {
       heap = with_clock w.heap now;
-      policy = policy_from w.heap.config now urgency;
+      policy = policy_from w.heap.config free now urgency;
       cycle = n;
       phase = Marking;
     }
@@ -116,12 +121,12 @@ after_plain w (plain.Drop m s) r = if is_done r then with_heap w (with_slot w.he
 after_plain w (plain.Get m d s) r = if_told (told_value r) (λ value. with_heap w (got w.heap m d s value)) w
 after_plain w (plain.Clear m s) r = if is_done r then with_heap w (cut w.heap m s) else w
 after_plain w (plain.RefersTo m s v) r = w
-after_plain w (plain.Begin now urgency) r = if_told (told_cycle r) (λ n. begun w now urgency n) w
+after_plain w (plain.Begin now urgency) r = if_told (told_cycle r) (λ n. begun w (free_after w) now urgency n) w
 after_plain w (plain.Scan k) r = w
 after_plain w plain.EndMark r = if is_mark_end r then with_phase w Clearing else w
 after_plain w (plain.ClearNext k) r = if_told (told_cleared r) (λ n. cleared_for w k n) w
 after_plain w plain.EndClear r = if is_done r then with_phase w Sweeping else w
-after_plain w (plain.Sweep k) r = w
+after_plain w (plain.Sweep k) r = if_told (told_swept r) (λ count. with_swept w count) w
 after_plain w plain.EndSweep r = if is_done r then with_phase w Idle else w
 after_plain w plain.Select r = if is_selected r then with_phase w Moving else w
 after_plain w (plain.MoveNext k) r = w

@@ -55,6 +55,11 @@ abbrev pub told_cleared : Reply → Option ℕ
 told_cleared (replies.Cleared n) = Some n
 told_cleared r = None
 
+-- how many objects were swept
+abbrev pub told_swept : Reply → Option ℕ
+told_swept (replies.Swept count) = Some count
+told_swept r = None
+
 -- that objects were chosen to move
 abbrev pub is_selected : Reply → Bool
 is_selected (replies.Selected count) = true

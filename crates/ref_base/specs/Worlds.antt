@@ -1,9 +1,9 @@
 -- A heap, its queues and everybody's hands, as plain data, and the changes that steps make to them (hands, pending
 -- references, cycles and the order of queues: this project's profile).
-use Rattle.std.specs.Prelude.{◌≡◌, ℕ, List, [], ◌∷◌, ◌++◌, map, replicate, slice_index_or, slice_set}
+use Rattle.std.specs.Prelude.{◌≡◌, ℕ, ◌+◌, List, [], ◌∷◌, ◌++◌, map, replicate, slice_index_or, slice_set}
 use Rattle.ref_base.specs.Graphs.{Graph}
 use Rattle.ref_base.specs.Paths.{present}
-use Rattle.ref_base.specs.KeptPaths.{policy_from}
+use Rattle.ref_base.specs.KeptPaths.{first_policy}
 use Rattle.ref_base.specs.Heaps.{Heap, first_heap}
 use Rattle.ref_base.specs.QueueLists.{Lists, new_queue, new_queues}
 use Rattle.ref_base.specs.declared.config.Config.{Config}
@@ -11,7 +11,6 @@ use Rattle.ref_base.specs.declared.cause.Cause.{Cause}
 use Rattle.ref_base.specs.declared.actor.Actor.{Actor}
 use Rattle.ref_base.specs.declared.actor.Actor.TheVariants.{Mutator, Worker}
 use Rattle.ref_base.specs.declared.policy.Policy.{Policy}
-use Rattle.ref_base.specs.declared.urgency.Urgency.TheVariants.{Normal}
 use Rattle.ref_base.specs.declared.phase.Phase.{Phase}
 use Rattle.ref_base.specs.declared.phase.Phase.TheVariants.{Idle}
 
@@ -28,8 +27,9 @@ pub record Pending : Type 0 where
   pub queue : ℕ
   pub cycle : ℕ
 
--- A heap, the notices in the hands of mutators and workers, the queues, the pending references of each worker, and the
--- policy of the cycle, its number and its phase. Hands, queues and pending lists stand in the order of their numbers.
+-- A heap, the notices in the hands of mutators and workers, the queues, the pending references of each worker, the
+-- policy of the cycle, its number and its phase, and how many objects were swept so far. Hands, queues and pending
+-- lists stand in the order of their numbers.
 pub record World : Type 0 where
   pub heap : Heap
   pub mutator_hands : List (List Notice)
@@ -39,6 +39,7 @@ pub record World : Type 0 where
   pub policy : Policy
   pub cycle : ℕ
   pub phase : Phase
+  pub swept : ℕ
 
 -- at first there is nothing anywhere, with a heap of this number
 abbrev pub first_world_of : Config → ℕ → World
@@ -48,9 +49,10 @@ first_world_of config number = record {
   worker_hands = replicate config.workers [];
   queues = new_queues 0 config.queues;
   pending = replicate config.workers [];
-  policy = policy_from config 0 Normal;
+  policy = first_policy config;
   cycle = 0;
   phase = Idle;
+  swept = 0;
 }
 
 -- the heap of a world with queues has number 0
@@ -103,6 +105,10 @@ with_hand w (Worker k) hand = record w { worker_hands = slice_set w.worker_hands
 
 abbrev pub with_queue : World → ℕ → Lists Notice → World
 with_queue w q queue = record w { queues = slice_set w.queues q queue }
+
+-- so many more were swept
+abbrev pub with_swept : World → ℕ → World
+with_swept w count = record w { swept = w.swept + count }
 
 abbrev pub with_pending : World → ℕ → List Pending → World
 with_pending w k ps = record w { pending = slice_set w.pending k ps }

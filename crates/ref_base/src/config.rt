@@ -1,9 +1,9 @@
-//! How large a heap and its world are.
+//! How large a heap and its world are, and how long soft references are kept.
 
 ghost use Rattle.std.specs.Prelude.{◌≡◌};
 ghost use Rattle.ref_base.specs.Limits.{is_between};
 
-use crate::Fault;
+use crate::{Fault, SpanRule};
 
 /// How many mutators, workers, queues and cells there are, and how long a soft reference is kept.
 #[derive(Clone, Copy, Debug, PartialEq, Eq)]
@@ -14,10 +14,12 @@ pub struct Config {
     pub workers: u32,
     /// Reference queues: 1 to 16.
     pub queues: u32,
-    /// Objects that fit into the heap at one time: 1 to 4,096.
+    /// Objects that fit into the heap at one time: 1 to 65,536.
     pub cells: u32,
-    /// A soft reference is kept while the clock less its stamp is at most this. Any number.
+    /// A soft reference is kept while the clock less its stamp is at most what the rule makes of this. Any number.
     pub span: u64,
+    /// What a cycle makes of the span as it begins.
+    pub rule: SpanRule,
 }
 
 impl Config {
@@ -29,7 +31,7 @@ impl Config {
         ensures { result ≡ (if is_within_limits self.now then Ok tt else Err Fault.BadConfig) }
     {
         let actors_fit = is_up_to(self.mutators, 8) && is_up_to(self.workers, 8);
-        let rest_fits = is_up_to(self.queues, 16) && is_up_to(self.cells, 4_096);
+        let rest_fits = is_up_to(self.queues, 16) && is_up_to(self.cells, 65_536);
         if actors_fit && rest_fits {
             Ok(())
         } else {

@@ -119,7 +119,7 @@ fn take_all(heap: &mut Heap, queue: &mut Queue<Letter>) {
     }
 }
 
-fn give_back(heap: &mut Heap, notice: Notice) {
+pub fn give_back(heap: &mut Heap, notice: Notice) {
     if let Err((_, hold)) = heap.release(notice.into_hold()) {
         hold.leak();
     }

@@ -1,6 +1,6 @@
 //! Notices to put into queues.
 
-use ref_base::{Config, Fault, MutNo, ObjNo, Parcel, QueueNo, SlotNo, Strength};
+use ref_base::{Config, Fault, MutNo, ObjNo, Parcel, QueueNo, SlotNo, SpanRule, Strength};
 use ref_clear::{Heap, Notice};
 use ref_objects::Start;
 use std::alloc::Global;
@@ -15,6 +15,7 @@ pub const CONFIG: Config = Config {
     queues: 1,
     cells: 4_096,
     span: 0,
+    rule: SpanRule::Fixed,
 };
 
 /// So many notices one heap gives.

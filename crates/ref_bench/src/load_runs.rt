@@ -9,13 +9,13 @@ use std::alloc::Global;
 use std::time::Clock;
 
 /// The slot of the last of the chain.
-const LAST: SlotNo = SlotNo(0);
+pub const LAST: SlotNo = SlotNo(0);
 
 /// The slot of what was made last.
-const NEWEST: SlotNo = SlotNo(1);
+pub const NEWEST: SlotNo = SlotNo(1);
 
 /// The slot to which one after the other is loaded.
-const HERE: SlotNo = SlotNo(2);
+pub const HERE: SlotNo = SlotNo(2);
 
 /// What reads the next of the chain.
 #[derive(Clone, Copy)]
@@ -94,7 +94,7 @@ pub fn reads<R: Clock>(
     times: u32,
 ) -> Result<Sample, Fault> {
     let mut heap = Heap::new(alloc, CONFIG, 0)?;
-    fill(&mut heap, dead)?;
+    fill(&mut heap, CONFIG.cells, dead)?;
     cycle(rt, &mut heap)?;
     timed_reads(rt, &mut heap, (read, route), times)
 }
@@ -178,7 +178,7 @@ impl Part {
 /// What a part of a cycle of a full heap takes, half of whose objects are dead.
 pub fn cycle_part<R: Clock>(rt: &R, alloc: Global, part: Part) -> Result<Sample, Fault> {
     let mut heap = Heap::new(alloc, CONFIG, 0)?;
-    fill(&mut heap, Dead::Half)?;
+    fill(&mut heap, CONFIG.cells, Dead::Half)?;
     let samples = cycle(rt, &mut heap)?;
     Ok(match part {
         Part::Begin => samples.begin,
@@ -195,11 +195,11 @@ pub struct Samples {
     sweep: Sample,
 }
 
-/// As many references as there are cells, but for one object that they begin with. Each has the one before it that
-/// isn't to die as its referent and in a field. Those that are to die are let go at once.
-pub fn fill(heap: &mut Heap, dead: Dead) -> Result<(), Fault> {
+/// As many references as there are cells, so many, but for one object that they begin with. Each has the one before it
+/// that isn't to die as its referent and in a field. Those that are to die are let go at once.
+pub fn fill(heap: &mut Heap, cells: u32, dead: Dead) -> Result<(), Fault> {
     heap.alloc_obj(MUTATOR, LAST, 1)?;
-    for place in 1..CONFIG.cells {
+    for place in 1..cells {
         heap.alloc_ref(MUTATOR, NEWEST, Strength::Weak, LAST, None, 1)?;
         if !dead.takes(place) {
             heap.store(MUTATOR, NEWEST, 0, LAST)?;
@@ -213,7 +213,7 @@ pub fn cycle<R: Clock>(rt: &R, heap: &mut Heap) -> Result<Samples, Fault> {
     let timer = Timer::start(rt);
     heap.begin(0, Urgency::Normal)?;
     let begin = timer.stop(rt, 1);
-    for _ in 0..CONFIG.cells {
+    for _ in 0..heap.object_count() {
         heap.scan(WORKER)?;
     }
     heap.end_mark()?;
@@ -232,9 +232,9 @@ pub fn cycle<R: Clock>(rt: &R, heap: &mut Heap) -> Result<Samples, Fault> {
 }
 
 /// How many objects the sweeps free.
-fn sweep_all(heap: &mut Heap) -> Result<u64, Fault> {
+pub fn sweep_all(heap: &mut Heap) -> Result<u64, Fault> {
     let mut freed: u64 = 0;
-    for _ in 0..CONFIG.cells {
+    for _ in 0..u32::MAX {
         let Some(some) = heap.sweep(WORKER)? else {
             break;
         };

@@ -11,6 +11,7 @@ mod measure;
 mod move_runs;
 mod plain_queue;
 mod queue_runs;
+mod scale_runs;
 mod script_run;
 mod tills;
 mod timing;

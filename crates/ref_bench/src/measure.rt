@@ -6,6 +6,7 @@ use crate::heap_runs::{dead_references, hands, heap_calls, looks, scans};
 use crate::load_runs::{Dead, Part, Read, Route, cycle_part, reads};
 use crate::move_runs::{Moves, move_part};
 use crate::queue_runs::{plain_queue_alone, queue_alone, shared_queue_alone};
+use crate::scale_runs::{Scale, Size, scale_part};
 use crate::script_run::script_steps;
 use crate::timing::Sample;
 use ref_base::Fault;
@@ -41,6 +42,8 @@ pub enum Measure {
     Cycle(Part),
     /// Moves of a quarter of the objects.
     Move(Moves),
+    /// Of a heap of this size.
+    Scale(Scale, Size),
     /// Calls of a shared heap by so many threads.
     HeapCallAmong(u32),
     /// A job that is registered and run by hand, while so many others are registered.
@@ -50,7 +53,7 @@ pub enum Measure {
 }
 
 /// All measures, in the order in which they are printed.
-pub const ALL: [Measure; 37] = [
+pub const ALL: [Measure; 45] = [
     Measure::Queue,
     Measure::SharedQueue,
     Measure::PlainQueue,
@@ -81,6 +84,14 @@ pub const ALL: [Measure; 37] = [
     Measure::Move(Moves::Move),
     Measure::Move(Moves::Load),
     Measure::Move(Moves::Cycles),
+    Measure::Scale(Scale::Cycle, Size::Usual),
+    Measure::Scale(Scale::Cycle, Size::Largest),
+    Measure::Scale(Scale::Load, Size::Usual),
+    Measure::Scale(Scale::Load, Size::Largest),
+    Measure::Scale(Scale::Get, Size::Usual),
+    Measure::Scale(Scale::Get, Size::Largest),
+    Measure::Scale(Scale::Store, Size::Usual),
+    Measure::Scale(Scale::Store, Size::Largest),
     Measure::HeapCallAmong(1),
     Measure::HeapCallAmong(2),
     Measure::HeapCallAmong(4),
@@ -116,6 +127,7 @@ impl Measure {
             }
             Measure::Cycle(part) => format!(in alloc; "{}", part.words()),
             Measure::Move(part) => format!(in alloc; "{}", part.words()),
+            Measure::Scale(part, size) => part.name(alloc, size),
             Measure::HeapCallAmong(n) => format!(in alloc; "shared heap, {n} calling, a call"),
             Measure::CleanedJob(n) => {
                 format!(in alloc; "a job registered and run, {n} others registered")
@@ -145,6 +157,7 @@ impl Measure {
             Measure::Read(read, route, dead) => reads(rt, alloc, (read, route, dead), size),
             Measure::Cycle(part) => cycle_part(rt, alloc, part),
             Measure::Move(part) => move_part(rt, alloc, part),
+            Measure::Scale(part, size) => scale_part(rt, alloc, part, size),
             Measure::HeapCallAmong(n) => heap_calls(rt, alloc, n, size.saturating_mul(2_000)),
             Measure::CleanedJob(n) => jobs_registered_and_run(rt, alloc, n),
             Measure::ScriptStep => script_steps(rt, alloc, size.saturating_mul(500)),

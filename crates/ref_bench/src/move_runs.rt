@@ -35,7 +35,7 @@ impl Moves {
 
 pub fn move_part<R: Clock>(rt: &R, alloc: Global, part: Moves) -> Result<Sample, Fault> {
     let mut heap = Heap::new(alloc, CONFIG, 0)?;
-    fill(&mut heap, Dead::ThreeQuarters)?;
+    fill(&mut heap, CONFIG.cells, Dead::ThreeQuarters)?;
     match part {
         Moves::Select => timed_select(rt, &mut heap),
         Moves::Move => timed_moves(rt, &mut heap),

@@ -8,10 +8,11 @@ use Rattle.ref_clear.proofs.Common.{HeapAccepts, without, shown, referent_of, fo
 use Rattle.ref_clear.proofs.Common.{unmarked, CycleHeap, is_white, is_black, is_in_cycle, doomed, MarkStands, FactsBut}
 use Rattle.ref_clear.proofs.Common.{unsaid, ReadsAs, shown_heap, ClearHeap, with_mark, swept_some, refusal_in}
 use Rattle.ref_clear.proofs.Common.{HeapStands, ListWhite, MaySweep}
-use Rattle.std.proofs.Common.{◌||◌}
+use Rattle.ref_clear.proofs.Common.{length}
+use Rattle.std.proofs.Common.{◌||◌, min}
 use Rattle.std.proofs.lemmas.Bool.{cond-true, not-true}
 use Rattle.std.proofs.lemmas.List.{take-append-drop}
-use Rattle.ref_base.specs.Worlds.{with_heap}
+use Rattle.ref_base.specs.Worlds.{with_heap, with_swept}
 use Rattle.ref_clear.specs.ClearCalls.{answer_of_sweep}
 use Rattle.ref_base.specs.DoomedSets.{new_clears}
 use Rattle.ref_base.specs.CollectorRows.{Sweeps}
@@ -91,7 +92,9 @@ soft_weak-cases allow test (Some o) n unmet target = grind (arith, has-cases, ha
 -- the state with the 64 least of these swept, or all
 abbrev state_swept : State → List ℕ → State
 state_swept a ds = record a {
-  world = with_heap a.world (record a.world.heap { objects = without (take 64 ds) a.world.heap.objects });
+  world = with_swept
+      (with_heap a.world (record a.world.heap { objects = without (take 64 ds) a.world.heap.objects }))
+      (min 64 (length ds));
   doomed = drop 64 ds;
 }
 

@@ -6,7 +6,7 @@ use Rattle.ref_mark.proofs.Common.{Urgency, Idle, Sweeping, CycleHeap, is_black,
 use Rattle.ref_mark.proofs.Common.{cycle_begun, MarkStands, List, Object, numbers}
 use Rattle.ref_base.specs.Refusals.{begin_refusal}
 use Rattle.ref_base.specs.Replay.{begun as world_begun}
-use Rattle.ref_base.specs.CollectorRows.{begun_state, emptied}
+use Rattle.ref_base.specs.CollectorRows.{begun_state, emptied, free_cells}
 use Rattle.ref_base.proofs.HasLaws.{has-left}
 use Rattle.ref_base.proofs.PathLaws.{root_ends, target_ends}
 use Rattle.ref_mark.proofs.Shading.{MarkingBut, shaded_all-only, shaded_all-append, shaded_all_marking, some_left}
@@ -22,7 +22,7 @@ use Rattle.ref_base.specs.declared.reply.Reply.TheVariants as replies
 abbrev pub state_begun : CycleHeap → State → ℕ → Urgency → Bool → State
 state_begun k a now urgent left =
     let s = plain_state k Idle a in
-    let c = begun_state s (world_begun s.world now urgent (k.cycle + 1)) in
+    let c = begun_state s (world_begun s.world (free_cells s.world.heap) now urgent (k.cycle + 1)) in
     record c { moments = graph_of c.world ∷ []; left = left }
 
 -- all roots are still to be shaded

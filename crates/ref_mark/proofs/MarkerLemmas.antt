@@ -37,8 +37,7 @@ use Rattle.ref_objects.specs.Grounds.{ground_brought}
 use Rattle.ref_objects.specs.declared.start.Start.{Start}
 use Rattle.ref_base.specs.CollectorRows.{without, emptied as none_found}
 use Rattle.ref_mark.specs.MarkViews.{AreListed, found_look}
-use Rattle.ref_base.specs.declared.urgency.Urgency.TheVariants.{Normal}
-use Rattle.ref_base.specs.KeptPaths.{policy_from}
+use Rattle.ref_base.specs.KeptPaths.{first_policy}
 use Rattle.ref_mark.specs.Chains.{first_looked_at}
 use Rattle.ref_base.proofs.HasLaws.{has-right, has-append}
 use Rattle.ref_mark.proofs.DoomedLists.{is_there-push}
@@ -642,7 +641,7 @@ sound_first config heap_no start begins =
     }
 
 pub seen_first : (config : Config) (heap_no : ℕ) (start : Start) {g : Ground} {grey : Worklist} {found : List Chain}
-    {policy : Policy} → policy ≡ policy_from config 0 Normal
+    {policy : Policy} → policy ≡ first_policy config
     → g ≡ first_ground config heap_no start → grey ≡ empty_worklist config.cells
     → found ≡ replicate config.workers no_chain
     → seen_marker g grey found Idle policy start.cycle ≡ first_cycle_heap config heap_no start

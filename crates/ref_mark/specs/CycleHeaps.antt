@@ -6,12 +6,13 @@ use Rattle.std.specs.Prelude.{Option, Some, None, Result, Ok, Err, slice_set}
 use Rattle.ref_base.specs.Members.{has, rest_of}
 use Rattle.ref_base.specs.Graphs.{Object, is_there, numbers}
 use Rattle.ref_base.specs.Paths.{present, targets_at}
-use Rattle.ref_base.specs.KeptPaths.{is_kept, policy_from}
+use Rattle.ref_base.specs.KeptPaths.{is_kept, policy_from, first_policy}
 use Rattle.ref_base.specs.DoomedSets.{refers_into}
 use Rattle.ref_base.specs.Forgetting.{heap_but}
 use Rattle.ref_base.specs.Heaps.{Heap, first_heap, slot_at, reference_at, one_more, with_slot, made, got, cut}
 use Rattle.ref_base.specs.Heaps.{with_clock, with_changed, with_reference, cleared}
 use Rattle.ref_base.specs.CollectorRows.{reference_of, referent_of, referent_got, is_same, list_at, emptied, without}
+use Rattle.ref_base.specs.CollectorRows.{free_cells}
 use Rattle.ref_base.specs.Refusals.{is_in, is_empty}
 use Rattle.ref_base.specs.declared.config.Config.{Config}
 use Rattle.ref_base.specs.declared.phase.Phase.{Phase}
@@ -19,7 +20,6 @@ use Rattle.ref_base.specs.declared.fault.Fault.{Fault}
 use Rattle.ref_base.specs.declared.phase.Phase.TheVariants.{Idle, Marking, Clearing, Sweeping, Moving}
 use Rattle.ref_base.specs.declared.policy.Policy.{Policy}
 use Rattle.ref_base.specs.declared.urgency.Urgency.{Urgency}
-use Rattle.ref_base.specs.declared.urgency.Urgency.TheVariants.{Normal}
 use Rattle.ref_space.specs.Tables.{Tag}
 use Rattle.ref_space.specs.ColouredWords.{cycle_colour}
 use Rattle.ref_space.specs.Worklists.{first_in}
@@ -56,7 +56,7 @@ first_cycle_heap config number start = record {
   grey = [];
   found = replicate config.workers [];
   phase = Idle;
-  policy = policy_from config 0 Normal;
+  policy = first_policy config;
   cycle = start.cycle;
 }
 
@@ -168,7 +168,7 @@ reads_same k m s v =
 abbrev pub roots_of : Heap → List ℕ
 roots_of h = present h.slots ++ h.holds
 
--- all objects are white, and another colour is good
+-- all objects are white, another colour is good, and the cycle's policy is settled by the cells that are free now
 abbrev pub whitened : CycleHeap → ℕ → Urgency → CycleHeap
 whitened k now urgency = record k {
   heap = with_clock k.heap now;
@@ -177,7 +177,7 @@ whitened k now urgency = record k {
   grey = [];
   found = emptied k.found;
   phase = Marking;
-  policy = policy_from k.heap.config now urgency;
+  policy = policy_from k.heap.config (free_cells k.heap) now urgency;
   cycle = k.cycle + 1;
 }
 

@@ -21,9 +21,7 @@ mod layer;
 mod moves;
 
 use crate::chain::Chain;
-use ref_base::{
-    Config, Fault, MutNo, ObjNo, Phase, Policy, QueueNo, Reply, SlotNo, Strength, Urgency,
-};
+use ref_base::{Config, Fault, MutNo, ObjNo, Phase, Policy, QueueNo, Reply, SlotNo, Strength};
 use ref_objects::{Entry, Objects, Start, Worklist};
 use std::alloc::{AllocError, Allocator, Global};
 use std::marker::Model;
@@ -87,7 +85,7 @@ impl<A: Allocator + Copy> Marker<A> {
                 found,
                 found_last: [0; MOST_WORKERS],
                 phase: Phase::Idle,
-                policy: Policy::of(config, 0, Urgency::Normal),
+                policy: Policy::first(config),
                 cycle: start.cycle,
             }),
             Err(_) => Err(Fault::NoMemory),

@@ -15,7 +15,8 @@ use Rattle.ref_space.specs.declared.round.Round.{Round}
 use Rattle.ref_space.specs.ColouredWords.{has_colour, recoloured}
 use Rattle.ref_space.specs.Pages.{left_in, is_chosen_place, has_chosen, taken_in}
 use Rattle.ref_space.specs.Moves.{Ways, AreFree, forward_of, ways_left}
-use Rattle.ref_space.specs.Naming.{HasTarget, IsHealed, IsSettled, stays_at, moves_from, leads_from, occupant_at, way_of}
+use Rattle.ref_space.specs.Naming.{HasTarget, IsHealed, IsSettled, stays_at, moves_from, leads_from, occupant_at}
+use Rattle.ref_space.specs.Naming.{way_of}
 use Rattle.ref_space.specs.Tables.{brought, left_of, moved_from, numbers_at, without_number, without_if_any}
 use Rattle.ref_space.specs.Tables.{place_of_number}
 use Rattle.ref_space.proofs.FreeLemmas.{some-vacant}

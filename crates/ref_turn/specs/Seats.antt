@@ -41,8 +41,8 @@ module _ {M S R : Type 0} where
   abbrev pub SawBusy : View M S R → View M S R → Type 0
   SawBusy v w = (v.looks < w.looks) × (w.first + length w.seen < w.drawn) × (w.drawn < 2 ^ 64 - 1)
 
-  -- had the seat looked once more as it all ended, it would know w: it made no further call, and a ticket that was drawn
-  -- had not come yet
+  -- had the seat looked once more as it all ended, it would know w: it made no further call, and a ticket that was
+  -- drawn had not come yet
   abbrev pub IsLeftOpen : {X : Type 0} → (M → X → Type 0) → (X → S → R → X → Type 0) → View M S R → Type 0
   IsLeftOpen stands_for steps_to v =
       (w : View M S R)

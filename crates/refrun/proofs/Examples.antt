@@ -4,7 +4,11 @@ use Rattle.refrun.proofs.Common.{Refer, Put, Begin, lines_of, content_of, words_
 use Rattle.refrun.proofs.Common.{script_fault, graph_fault, SpellsScriptStep, step_fault, declaration_fault, Root}
 use Rattle.refrun.proofs.Common.{Plain, Reference, SpellsDeclared, DeclaresGraph, Graph, plain_object, ExtraWord}
 use Rattle.refrun.proofs.Common.{DoubleObject, MissingWord, BadWord}
-use Rattle.refrun.specs.declared.fault.LineFault.TheVariants.{UnknownStep, BadHeader, UnknownLine}
+use Rattle.refrun.proofs.Common.{ℕ, Config}
+use Rattle.ref_base.specs.declared.span_rule.SpanRule.{SpanRule}
+use Rattle.ref_base.specs.declared.span_rule.SpanRule.TheVariants.{Fixed, Scaled}
+use Rattle.refrun.specs.Versions.{header_rule, is_in_version}
+use Rattle.refrun.specs.declared.fault.LineFault.TheVariants.{UnknownStep, BadHeader, BadConfig, UnknownLine}
 use Rattle.refrun.specs.declared.fault.TextFault.TheVariants.{Line}
 use Rattle.ref_base.specs.declared.step.Step.TheVariants as steps
 use Rattle.refrun.specs.declared.script_step.ScriptStep.TheVariants as scripts
@@ -29,6 +33,37 @@ leading_zeros_are_allowed = refl
 
 twenty_digits_at_most : number_below (2 ^ 32) (codes "000000000000000000007") ≡ None
 twenty_digits_at_most = refl
+
+-- ---- versions
+
+version_1_has_a_fixed_span : header_rule (words_of (codes "refscript 1")) ≡ Some Fixed
+version_1_has_a_fixed_span = refl
+
+version_2_has_a_scaled_one : header_rule (words_of (codes " refscript  2")) ≡ Some Scaled
+version_2_has_a_scaled_one = refl
+
+a_version_is_a_word : (header_rule (words_of (codes "refscript 02")) ≡ None)
+    × (header_rule (words_of (codes "refscript 3")) ≡ None)
+a_version_is_a_word = (refl, refl)
+
+-- so many cells, and this rule
+abbrev with_cells : ℕ → SpanRule → Config
+with_cells cells rule = record { mutators = 1; workers = 1; queues = 1; cells = cells; span = 0; rule = rule }
+
+version_1_has_fewer_cells :
+    (is_in_version (with_cells 4096 Fixed) ≡ true) × (is_in_version (with_cells 4097 Fixed) ≡ false)
+version_1_has_fewer_cells = (refl, refl)
+
+version_2_has_more :
+    (is_in_version (with_cells 65536 Scaled) ≡ true) × (is_in_version (with_cells 65537 Scaled) ≡ false)
+version_2_has_more = (refl, refl)
+
+too_many_cells_for_version_1 :
+    script_fault (codes "refscript 1" ++ 10 ∷ codes "config 1 1 1 65536 0") ≡ Some (Line 2 BadConfig)
+too_many_cells_for_version_1 = refl
+
+and_not_for_version_2 : script_fault (codes "refscript 2" ++ 10 ∷ codes "config 1 1 1 65536 0") ≡ None
+and_not_for_version_2 = refl
 
 -- ---- faults go by kind and not by place
 

@@ -7,7 +7,8 @@ use Rattle.refrun.proofs.Common.{SpellSteps, SpellScript, IsScript, list_all, ca
 use Rattle.std.specs.Char.{is_ascii}
 use Rattle.refrun.specs.TextFaults.{GraphHeader, ScriptHeader, Configuration}
 use Rattle.refrun.specs.ToldLines.{is_short}
-use Rattle.ref_base.specs.Limits.{is_within_limits}
+use Rattle.ref_base.specs.declared.span_rule.SpanRule.{SpanRule}
+use Rattle.refrun.specs.Versions.{is_in_version}
 use Rattle.refrun.proofs.DeclaredSpelt.{declared_without_fault, number_of_words}
 use Rattle.refrun.proofs.Spelt.{spelt_without_fault}
 
@@ -15,15 +16,15 @@ plain_without_fault : (line : TextLine) → is_plain_line line ≡ true → plai
 plain_without_fault line h = let p = and_parts (is_short line) (list_all is_ascii line.bytes) h in simp (p.0, p.1) refl
 
 -- the configuration and the steps
-abbrev SpellBody : List (List (List ℕ)) → Config → List ScriptStep → Type 0
-SpellBody [] config steps = ⊥
-SpellBody (words ∷ lines) config steps = (config_of words ≡ Some config) ×
-    (is_within_limits config ≡ true) × SpellSteps lines steps
+abbrev SpellBody : SpanRule → List (List (List ℕ)) → Config → List ScriptStep → Type 0
+SpellBody rule [] config steps = ⊥
+SpellBody rule (words ∷ lines) config steps = (config_of rule words ≡ Some config) ×
+    (is_in_version config ≡ true) × SpellSteps lines steps
 
 -- from this place on, the lines that say something spell what is wanted
 abbrev SpellFrom : Place → List (List (List ℕ)) → Type 0
 SpellFrom ScriptHeader lines = (config : Config) × (steps : List ScriptStep) × SpellScript lines config steps
-SpellFrom Configuration lines = (config : Config) × (steps : List ScriptStep) × SpellBody lines config steps
+SpellFrom (Configuration rule) lines = (config : Config) × (steps : List ScriptStep) × SpellBody rule lines config steps
 SpellFrom Steps lines = (steps : List ScriptStep) × SpellSteps lines steps
 SpellFrom GraphHeader lines = (ds : List Declared) × SpellGraph lines ds × NoneTwice [] ds
 SpellFrom (Declarations seen) lines = (ds : List Declared) × SpellAll lines ds × NoneTwice seen ds
@@ -31,7 +32,7 @@ SpellFrom (Declarations seen) lines = (ds : List Declared) × SpellAll lines ds 
 -- where nothing is left, nothing is wanted
 none_left : (place : Place) → SpellFrom place [] → end_fault place ≡ None
 none_left ScriptHeader spelt = absurd spelt.2
-none_left Configuration spelt = absurd spelt.2
+none_left (Configuration rule) spelt = absurd spelt.2
 none_left Steps spelt = refl
 none_left GraphHeader spelt = absurd spelt.1
 none_left (Declarations seen) spelt = refl
@@ -41,8 +42,8 @@ first_spelt : (place : Place) (words : List (List ℕ)) (lines : List (List (Lis
     → (place_fault place words ≡ None) × SpellFrom (place_after place words) lines
 first_spelt ScriptHeader words [] spelt = absurd spelt.2
 first_spelt ScriptHeader words (line ∷ lines) spelt =
-    (simp spelt.2.0 refl, (spelt.0, spelt.1, (spelt.2.1, spelt.2.2, spelt.2.3)))
-first_spelt Configuration words lines spelt = (simp (spelt.2.0, spelt.2.1) refl, (spelt.1, spelt.2.2))
+    simp spelt.2.0 (refl, (spelt.0, spelt.1, (spelt.2.1, spelt.2.2, spelt.2.3)))
+first_spelt (Configuration rule) words lines spelt = (simp (spelt.2.0, spelt.2.1) refl, (spelt.1, spelt.2.2))
 first_spelt Steps words lines spelt = first spelt.0 spelt.1
   where
     first : (steps : List ScriptStep) → SpellSteps (words ∷ lines) steps

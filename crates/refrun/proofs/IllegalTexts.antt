@@ -3,6 +3,7 @@ use Rattle.refrun.proofs.Common.{◌≡◌, ℕ, ◌+◌, ◌++◌, [], ◌∷�
 use Rattle.refrun.proofs.Common.{first_state, Graph, plain_object, Config, ObjectReach, Refused, New, Refer, Weak}
 use Rattle.refrun.proofs.Common.{Plain, DeclaresGraph, words_of, listing_text, StageJobs, IsScriptRun, SpellsScriptStep}
 use Rattle.refrun.proofs.Common.{IsFirstFailure, trace_text, ScriptReply, ScriptRow, ScriptStep}
+use Rattle.refrun.proofs.Common.{ap, get_or}
 use Rattle.std.proofs.Common.{replicate}
 use Rattle.std.proofs.lemmas.Fmt.{decimal_digit}
 use Rattle.ref_base.specs.declared.plain_step.PlainStep.TheVariants.{Copy}
@@ -12,6 +13,7 @@ use Rattle.ref_base.specs.Worlds.{first_world}
 use Rattle.ref_base.specs.declared.fault.Fault.TheVariants.{NoCell, NoSuchActor}
 use Rattle.ref_base.specs.declared.reply.Reply.TheVariants.{Object}
 use Rattle.refrun.specs.ScriptRuns.{IsScriptTrace}
+use Rattle.ref_base.specs.declared.span_rule.SpanRule.TheVariants.{Fixed, Scaled}
 use Rattle.ref_base.specs.declared.step.Step.TheVariants as world
 use Rattle.refrun.specs.declared.script_step.ScriptReply.TheVariants as replies
 use Rattle.refrun.specs.declared.script_step.ScriptStep.TheVariants as steps
@@ -20,8 +22,13 @@ use Rattle.refrun.specs.declared.script_step.ScriptStep.TheVariants as steps
 
 -- rows are numbered from 1
 the_first_row_has_number_1 : (row : ScriptRow) (rows : List ScriptRow)
-    → take 13 (trace_text (row ∷ rows)) ≡ codes "reftrace 1" ++ 10 ∷ codes "1 "
+    → take 13 (trace_text Fixed (row ∷ rows)) ≡ codes "reftrace 1" ++ 10 ∷ codes "1 "
 the_first_row_has_number_1 row rows = rw (decimal_digit 1 (omega arith)) refl
+
+-- the trace of a script of version 2 has its version
+the_version_is_not_1 : (rows : List ScriptRow) → ¬ (take 10 (trace_text Scaled rows) ≡ codes "reftrace 1")
+the_version_is_not_1 rows same =
+    let last : 50 ≡ 49 = ap (λ (l : List ℕ). get_or l 9 0) same in absurd (omega (arith, last))
 
 -- `m0 copy s1 s0` is no copy into slot 0
 slots_exchanged_are_not_spelt :
@@ -35,7 +42,7 @@ row step reply = record { step = step; reply = reply }
 
 -- config 1 1 1 8 10
 abbrev config : Config
-config = record { mutators = 1; workers = 1; queues = 1; cells = 8; span = 10 }
+config = record { mutators = 1; workers = 1; queues = 1; cells = 8; span = 10; rule = Fixed }
 
 -- an object is made
 abbrev making : ℕ → ScriptRow

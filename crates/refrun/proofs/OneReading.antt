@@ -3,6 +3,7 @@ use Rattle.refrun.proofs.Common.{arith, ◌≡◌, ℕ, ◌^◌, false, List, []
 use Rattle.refrun.proofs.Common.{bytes_eq, bytes_eq-Decides, Word, Config, lines_of, number_below, IsSpelt, AreSpelt}
 use Rattle.refrun.proofs.Common.{SpellsScriptStep, Operand, operands_in, forms_of_letter, turn_forms, told, ScriptStep}
 use Rattle.refrun.proofs.Common.{config_of, SpellSteps, SpellScript, IsScript}
+use Rattle.refrun.specs.Versions.{header_rule}
 use Rattle.refrun.proofs.Spelt.{actor_number, no_turn, word_as, says_it}
 use Rattle.refrun.proofs.StepForms.{IsOf, AreOf, Lead, By, Turn, words_behind, forms_of, form_of_step}
 
@@ -99,7 +100,10 @@ one_body : (lines : List (List (List ℕ))) (c d : Config) (r s : List ScriptSte
     → SpellScript lines d s → (c ≡ d) × (r ≡ s)
 one_body [] c d r s h k = absurd h
 one_body (header ∷ []) c d r s h k = absurd h
-one_body (header ∷ words ∷ lines) c d r s h k = (some_is (config_of words) c d h.1 k.1, one_list lines r s h.3 k.3)
+one_body (header ∷ words ∷ lines) c d r s h k =
+    let same : c.rule ≡ d.rule = some_is (header_rule header) c.rule d.rule h.0 k.0 in
+    let other : config_of c.rule words ≡ Some d = ap (λ rule. config_of rule words) same ∙ k.1 in
+    (some_is (config_of c.rule words) c d h.1 other, one_list lines r s h.3 k.3)
 
 pub one_script : (text : List ℕ) (c d : Config) (r s : List ScriptStep) → IsScript text c r → IsScript text d s
     → (c ≡ d) × (r ≡ s)

@@ -6,7 +6,15 @@ use Rattle.refrun.proofs.Common.{IsScriptRowOf, IsScript, lines_of, most_bytes, 
 use Rattle.refrun.proofs.Common.{ScriptRow, ScriptStep}
 use Rattle.std.proofs.Common.{decimal}
 use Rattle.std.proofs.lemmas.List.{length-take-le, map-append}
+use Rattle.ref_base.specs.declared.span_rule.SpanRule.{SpanRule}
+use Rattle.std.specs.Option.{IfSome}
+use Rattle.refrun.proofs.Common.{Err}
+use Rattle.refrun.specs.Answers.{AnswersText}
+use Rattle.refrun.specs.Streams.{AppendsPrefix}
+use Rattle.refrun.specs.declared.fault.TextFault.{TextFault}
+use Rattle.refrun.specs.declared.fault.TextFault.TheVariants.{CannotWrite}
 use Rattle.refrun.specs.Scripts.{AreScript}
+use Rattle.refrun.specs.Versions.{trace_title}
 use Rattle.refrun.specs.Traces.{PrintsTrace, numbered, script_steps_of, TellsTrace}
 use Rattle.ref_base.specs.CollectorRows.{IsRun}
 use Rattle.ref_base.specs.declared.row.Row.{Row}
@@ -77,19 +85,20 @@ module _ {J : Type 0} (number note : J → ℕ) where
   -- ---- its text
 
   -- a run with no step
-  pub tells_nothing_yet : (world : Core) (jobs : StageJobs J)
-      → TellsRun number note world jobs [] (trace_text []) world jobs
-  tells_nothing_yet world jobs = ([], refl, (λ a stands. (a, (refl, refl), stands)), refl)
+  pub tells_nothing_yet : (rule : SpanRule) (world : Core) (jobs : StageJobs J)
+      → TellsRun number note rule world jobs [] (trace_text rule []) world jobs
+  tells_nothing_yet rule world jobs = ([], refl, (λ a stands. (a, (refl, refl), stands)), refl)
 
   -- and with one step more, whose row is number i + 1
-  pub tells_more : (old mid new : Core) (before between after : StageJobs J) (steps : List ScriptStep) (i k : ℕ)
+  pub tells_more : (rule : SpanRule) (old mid new : Core) (before between after : StageJobs J)
+      (steps : List ScriptStep) (i k : ℕ)
       (next : ScriptStep) (reply : ScriptReply) (text more : List ℕ)
-      → TellsRun number note old before (take i steps) text mid between → k ≡ i → i < length steps
+      → TellsRun number note rule old before (take i steps) text mid between → k ≡ i → i < length steps
       → next ≡ get_or steps i next → IsScriptRowOf number note mid between next reply new after
       → more ≡ text ++ (decimal (k + 1) ++ 32 ∷ (script_row_text (record { step = next; reply = reply }) ++ 10 ∷ []))
-      → TellsRun number note old before (take (i + 1) steps) more new after
+      → TellsRun number note rule old before (take (i + 1) steps) more new after
   unfolding line_of_row
-  tells_more old mid new before between after steps i k next reply text more told same_k within is row more_is =
+  tells_more rule old mid new before between after steps i k next reply text more told same_k within is row more_is =
       let row_made : ScriptRow = record { step = next; reply = reply } in
       let rows = told.0 in
       let counted : length rows ≡ i =
@@ -104,7 +113,8 @@ module _ {J : Type 0} (number note : J → ℕ) where
             let one = row ran.0 ran.2 in
             (one.0, run_more a before rows ran.0 between one.0 after row_made ran.1 one.1, one.2),
         more_is ∙ ap (λ (t : List ℕ). text ++ t) line ∙ ap (λ (t : List ℕ). t ++ line_of_row (k + 1) row_made) told.3
-            ∙ ap (λ (t : List ℕ). codes "reftrace 1" ++ 10 ∷ t)
+            ∙ append_assoc (trace_title rule) (10 ∷ numbered 1 rows) (line_of_row (k + 1) row_made)
+            ∙ ap (λ (t : List ℕ). trace_title rule ++ 10 ∷ t)
             (ap (λ n. numbered 1 rows ++ line_of_row n row_made) count ∙ sym (numbered_push 1 rows row_made)),
       )
 
@@ -113,7 +123,7 @@ module _ {J : Type 0} (number note : J → ℕ) where
   -- a run from a world that stands for the first state, and from an empty table, is a trace
   pub tells_trace : (config : Config) (jobs : List J) (old new : Core) (before after : StageJobs J)
       (steps seen : List ScriptStep) (text : List ℕ) → Stands old (first_state config) → before ≡ first_jobs jobs
-      → seen ≡ steps → TellsRun number note old before seen text new after
+      → seen ≡ steps → TellsRun number note config.rule old before seen text new after
       → TellsTrace number note config jobs steps text
   tells_trace config jobs old new before after steps seen text stands first same told =
       let ran = told.2 (first_state config) stands in
@@ -129,3 +139,13 @@ module _ {J : Type 0} (number note : J → ℕ) where
 pub is_script : (text : List ℕ) (config : Config) (steps : List ScriptStep) → length text ≤ most_bytes
     → AreScript (lines_of text) config steps → IsScript text config steps
 is_script text config steps short lines = record { short = le-leb _ _ short; lines = lines }
+
+-- where a write failed, a prefix of what the text prints has gone out
+pub cut_off : (T : Type 0) (known : Option (List ℕ)) (Prints : List ℕ → List ℕ → Type 0)
+    (fault : List ℕ → Option TextFault) (read text printed bytes : List ℕ) (old new : Option (List ℕ))
+    → IfSome known (λ whole. read ≡ whole) → text ≡ read → Prints text printed → bytes ≡ printed
+    → AppendsPrefix old new bytes
+    → IfSome known (λ whole. AnswersText {T = T} (Prints whole) (fault whole) old new (Err CannotWrite))
+cut_off T None Prints fault read text printed bytes old new same slice prints out prefix = tt
+cut_off T (Some whole) Prints fault read text printed bytes old new same slice prints out prefix =
+    (printed, subst (λ t. Prints t printed) (slice ∙ same) prints, subst (AppendsPrefix old new) out prefix)

@@ -8,7 +8,7 @@ use Rattle.refrun.specs.ToldLines.{is_plain_line, told, is_titled}
 
 -- the words of the header
 abbrev pub is_graph_header : List (List ℕ) → Bool
-is_graph_header words = is_titled (codes "refgraph") words
+is_graph_header words = is_titled (codes "refgraph") (codes "1") words
 
 -- each line spells what it says
 abbrev pub SpellAll : List (List (List ℕ)) → List Declared → Type 0

@@ -13,6 +13,7 @@ pub mod Declarations
 pub mod DeclarationFaults
 pub mod GraphTexts
 pub mod TextFaults
+pub mod Versions
 pub mod LineReading
 pub mod Streams
 pub mod Reads

@@ -1,33 +1,30 @@
 -- The grammar of a script (this project's profile).
-use Rattle.std.specs.Prelude.{◌≡◌, ℕ, ◌^◌, Bool, true, if◌then◌else◌, nat_le, List, [], ◌∷◌, length, Option, Some, None}
+use Rattle.std.specs.Prelude.{◌≡◌, ℕ, ◌^◌, true, if◌then◌else◌, nat_le, List, [], ◌∷◌, length, Option, Some, None}
 use Rattle.std.specs.Prelude.{codes}
 use Rattle.std.specs.List.{list_all}
 use Rattle.std.specs.Str.{bytes_eq}
-use Rattle.ref_base.specs.Limits.{is_within_limits}
 use Rattle.ref_base.specs.declared.config.Config.{Config}
+use Rattle.ref_base.specs.declared.span_rule.SpanRule.{SpanRule}
 use Rattle.refrun.specs.Lines.{TextLine, lines_of, most_bytes}
 use Rattle.refrun.specs.Numerals.{number_below}
 use Rattle.refrun.specs.Spelling.{SpellsScriptStep}
-use Rattle.refrun.specs.ToldLines.{is_plain_line, told, is_titled}
+use Rattle.refrun.specs.ToldLines.{is_plain_line, told}
+use Rattle.refrun.specs.Versions.{header_rule, is_in_version}
 use Rattle.refrun.specs.declared.script_step.ScriptStep.{ScriptStep}
 
--- the words of the header
-abbrev pub is_header : List (List ℕ) → Bool
-is_header words = is_titled (codes "refscript") words
+-- the configuration that words spell, with this rule of the span
+abbrev pub config_from : SpanRule → Option ℕ → Option ℕ → Option ℕ → Option ℕ → Option ℕ → Option Config
+config_from rule (Some m) (Some w) (Some q) (Some c) (Some s) =
+    Some (record { mutators = m; workers = w; queues = q; cells = c; span = s; rule = rule })
+config_from rule m w q c s = None
 
--- the configuration that words spell
-abbrev pub config_from : Option ℕ → Option ℕ → Option ℕ → Option ℕ → Option ℕ → Option Config
-config_from (Some m) (Some w) (Some q) (Some c) (Some s) =
-    Some (record { mutators = m; workers = w; queues = q; cells = c; span = s })
-config_from m w q c s = None
-
-abbrev pub config_of : List (List ℕ) → Option Config
-config_of (name ∷ m ∷ w ∷ q ∷ c ∷ s ∷ []) =
+abbrev pub config_of : SpanRule → List (List ℕ) → Option Config
+config_of rule (name ∷ m ∷ w ∷ q ∷ c ∷ s ∷ []) =
     if bytes_eq name (codes "config") then
-    config_from (number_below (2 ^ 32) m) (number_below (2 ^ 32) w) (number_below (2 ^ 32) q)
+    config_from rule (number_below (2 ^ 32) m) (number_below (2 ^ 32) w) (number_below (2 ^ 32) q)
     (number_below (2 ^ 32) c) (number_below (2 ^ 64) s)
     else None
-config_of other = None
+config_of rule other = None
 
 -- each line spells its step
 abbrev pub SpellSteps : List (List (List ℕ)) → List ScriptStep → Type 0
@@ -41,8 +38,8 @@ abbrev pub SpellScript : List (List (List ℕ)) → Config → List ScriptStep �
 SpellScript [] config steps = ⊥
 SpellScript (header ∷ []) config steps = ⊥
 SpellScript (header ∷ words ∷ lines) config steps =
-    (is_header header ≡ true) × (config_of words ≡ Some config) × (is_within_limits config ≡ true) ×
-    SpellSteps lines steps
+    (header_rule header ≡ Some config.rule) × (config_of config.rule words ≡ Some config)
+    × (is_in_version config ≡ true) × SpellSteps lines steps
 
 -- the lines are those of a script of this configuration and these steps
 pub record AreScript (lines : List TextLine) (config : Config) (steps : List ScriptStep) : Type 0 where

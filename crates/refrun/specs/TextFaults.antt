@@ -1,35 +1,43 @@
 -- The fault of a text that is no script, or no graph text (this project's profile).
 use Rattle.std.specs.Prelude.{ℕ, ◌+◌, Bool, true, false, if◌then◌else◌, nat_le, List, [], ◌∷◌, length, Option, Some}
-use Rattle.std.specs.Prelude.{None}
+use Rattle.std.specs.Prelude.{None, is_some}
 use Rattle.std.specs.List.{list_all}
 use Rattle.std.specs.Char.{is_ascii}
-use Rattle.ref_base.specs.Limits.{is_within_limits}
 use Rattle.ref_base.specs.declared.config.Config.{Config}
+use Rattle.ref_base.specs.declared.span_rule.SpanRule.{SpanRule}
+use Rattle.ref_base.specs.declared.span_rule.SpanRule.TheVariants.{Fixed}
 use Rattle.refrun.specs.DeclarationFaults.{declaration_fault, number_in, unless_double}
 use Rattle.refrun.specs.Declarations.{is_declared, with_declared_no}
 use Rattle.refrun.specs.GraphTexts.{is_graph_header}
 use Rattle.refrun.specs.Lines.{TextLine, lines_of, most_bytes}
-use Rattle.refrun.specs.Scripts.{is_header, config_of}
+use Rattle.refrun.specs.Scripts.{config_of}
 use Rattle.refrun.specs.StepFaults.{step_fault}
 use Rattle.refrun.specs.ToldLines.{is_short, says_nothing, line_words}
+use Rattle.refrun.specs.Versions.{header_rule, is_in_version}
 use Rattle.refrun.specs.declared.fault.LineFault.{LineFault}
 use Rattle.refrun.specs.declared.fault.LineFault.TheVariants.{LineTooLong, NotAscii, BadHeader, BadConfig}
 use Rattle.refrun.specs.declared.fault.TextFault.{TextFault}
 use Rattle.refrun.specs.declared.fault.TextFault.TheVariants as texts
 
--- what is wanted of the next line that says something: of a script its header, its configuration or a step; of a graph
--- text its header, or a declaration where the objects of these numbers are declared
+-- what is wanted of the next line that says something: of a script its header, its configuration, behind a header that
+-- named this rule of the span, or a step; of a graph text its header, or a declaration where the objects of these
+-- numbers are declared
 pub data Place : Type 0 where
   ScriptHeader : Place
-  Configuration : Place
+  Configuration : SpanRule → Place
   Steps : Place
   GraphHeader : Place
   Declarations : List ℕ → Place
 
+-- the configuration is wanted behind a header, whatever its version
+abbrev pub behind_header : Option SpanRule → Place
+behind_header (Some rule) = Configuration rule
+behind_header None = Configuration Fixed
+
 -- what is wanted behind a line of these words
 abbrev pub place_after : Place → List (List ℕ) → Place
-place_after ScriptHeader words = Configuration
-place_after Configuration words = Steps
+place_after ScriptHeader words = behind_header (header_rule words)
+place_after (Configuration rule) words = Steps
 place_after Steps words = Steps
 place_after GraphHeader words = Declarations []
 place_after (Declarations seen) words = Declarations (with_declared_no seen (number_in words))
@@ -39,13 +47,13 @@ header_fault true = None
 header_fault false = Some BadHeader
 
 abbrev pub config_fault : Option Config → Option LineFault
-config_fault (Some config) = if is_within_limits config then None else Some BadConfig
+config_fault (Some config) = if is_in_version config then None else Some BadConfig
 config_fault None = Some BadConfig
 
 -- the fault of a line that says something, at its place
 abbrev pub place_fault : Place → List (List ℕ) → Option LineFault
-place_fault ScriptHeader words = header_fault (is_header words)
-place_fault Configuration words = config_fault (config_of words)
+place_fault ScriptHeader words = header_fault (is_some (header_rule words))
+place_fault (Configuration rule) words = config_fault (config_of rule words)
 place_fault Steps words = step_fault words
 place_fault GraphHeader words = header_fault (is_graph_header words)
 place_fault (Declarations seen) words =
@@ -54,7 +62,7 @@ place_fault (Declarations seen) words =
 -- a header or a configuration that never comes is a fault of the line after the last one
 abbrev pub end_fault : Place → Option LineFault
 end_fault ScriptHeader = Some BadHeader
-end_fault Configuration = Some BadConfig
+end_fault (Configuration rule) = Some BadConfig
 end_fault Steps = None
 end_fault GraphHeader = Some BadHeader
 end_fault (Declarations seen) = None

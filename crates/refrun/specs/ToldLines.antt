@@ -1,5 +1,5 @@
 -- What the lines of a text say, whether it is a script or a graph text (this project's profile).
-use Rattle.std.specs.Prelude.{ℕ, Bool, true, false, ◌&&◌, if◌then◌else◌, ◌==◌, nat_le, List, [], ◌∷◌, length, codes}
+use Rattle.std.specs.Prelude.{ℕ, Bool, true, false, ◌&&◌, if◌then◌else◌, ◌==◌, nat_le, List, [], ◌∷◌, length}
 use Rattle.std.specs.List.{list_all}
 use Rattle.std.specs.Char.{is_ascii}
 use Rattle.std.specs.Str.{bytes_eq}
@@ -29,7 +29,7 @@ abbrev pub told : List TextLine → List (List (List ℕ))
 told [] = []
 told (line ∷ lines) = if says_nothing (line_words line) then told lines else line_words line ∷ told lines
 
--- the words of a header of version 1: this name, and the word `1`
-abbrev pub is_titled : List ℕ → List (List ℕ) → Bool
-is_titled title (name ∷ version ∷ []) = bytes_eq name title && bytes_eq version (codes "1")
-is_titled title other = false
+-- the words of a header: this name, and this word as its version
+abbrev pub is_titled : List ℕ → List ℕ → List (List ℕ) → Bool
+is_titled title version (name ∷ word ∷ []) = bytes_eq name title && bytes_eq word version
+is_titled title version other = false

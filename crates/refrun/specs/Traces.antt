@@ -1,7 +1,8 @@
 -- What a script's run prints, and what each answer of a run says.
-use Rattle.std.specs.Prelude.{◌≡◌, ℕ, ◌+◌, List, [], ◌∷◌, ◌++◌, map, Option, Result, codes, decimal}
+use Rattle.std.specs.Prelude.{◌≡◌, ℕ, ◌+◌, List, [], ◌∷◌, ◌++◌, map, Option, Result, decimal}
 use Rattle.ref_base.specs.LegalTraces.{IsLegal}
 use Rattle.ref_base.specs.declared.config.Config.{Config}
+use Rattle.ref_base.specs.declared.span_rule.SpanRule.{SpanRule}
 use Rattle.ref_world.specs.Cores.{Core}
 use Rattle.refrun.specs.Answers.{AnswersText}
 use Rattle.refrun.specs.ScriptRuns.{StageJobs, world_rows, IsScriptTrace}
@@ -9,6 +10,7 @@ use Rattle.refrun.specs.ScriptStanding.{RunsScriptFrom}
 use Rattle.refrun.specs.ScriptSteps.{script_row_text}
 use Rattle.refrun.specs.Scripts.{IsScript}
 use Rattle.refrun.specs.TextFaults.{script_fault}
+use Rattle.refrun.specs.Versions.{trace_title}
 use Rattle.refrun.specs.declared.fault.TextFault.{TextFault}
 use Rattle.refrun.specs.declared.script_step.ScriptRow.{ScriptRow}
 use Rattle.refrun.specs.declared.script_step.ScriptStep.{ScriptStep}
@@ -18,9 +20,9 @@ abbrev pub numbered : ℕ → List ScriptRow → List ℕ
 numbered k [] = []
 numbered k (row ∷ rows) = decimal k ++ 32 ∷ script_row_text row ++ 10 ∷ numbered (k + 1) rows
 
--- the text of a trace: its header, then its rows, numbered from 1
-abbrev pub trace_text : List ScriptRow → List ℕ
-trace_text rows = codes "reftrace 1" ++ 10 ∷ numbered 1 rows
+-- the text of a trace: its header, which is of the script's version, then its rows, numbered from 1
+abbrev pub trace_text : SpanRule → List ScriptRow → List ℕ
+trace_text rule rows = trace_title rule ++ 10 ∷ numbered 1 rows
 
 abbrev pub script_steps_of : List ScriptRow → List ScriptStep
 script_steps_of rows = map (λ row. row.step) rows
@@ -28,16 +30,16 @@ script_steps_of rows = map (λ row. row.step) rows
 module _ {J : Type 0} (number note : J → ℕ) where
   -- the text of rows of these steps, which are a run from each state that the one world stands for, and these jobs, to
   -- one for which the other stands
-  abbrev pub TellsRun : Core → StageJobs J → List ScriptStep → List ℕ → Core → StageJobs J → Type 0
-  TellsRun old before steps text new after =
+  abbrev pub TellsRun : SpanRule → Core → StageJobs J → List ScriptStep → List ℕ → Core → StageJobs J → Type 0
+  TellsRun rule old before steps text new after =
       (rows : List ScriptRow) × (script_steps_of rows ≡ steps) × RunsScriptFrom number note old before rows new after
-      × (text ≡ trace_text rows)
+      × (text ≡ trace_text rule rows)
 
   -- the text of a trace of these steps with these jobs
   abbrev pub TellsTrace : Config → List J → List ScriptStep → List ℕ → Type 0
   TellsTrace config jobs steps text =
       (rows : List ScriptRow) × (script_steps_of rows ≡ steps) × IsScriptTrace number note config jobs rows
-      × (text ≡ trace_text rows)
+      × (text ≡ trace_text config.rule rows)
 
   -- What is printed is the text of a trace of the steps of the script that the text spells, with one reply each. Its
   -- rows of the world, with a job that was run read as the clear of its reference, are a legal trace; its rows of jobs
@@ -48,7 +50,7 @@ module _ {J : Type 0} (number note : J → ℕ) where
     pub script : IsScript text config (script_steps_of rows)
     pub legal : IsLegal config (world_rows rows)
     pub with_jobs : IsScriptTrace number note config jobs rows
-    pub is_text : printed ≡ trace_text rows
+    pub is_text : printed ≡ trace_text config.rule rows
 
   -- What an answer says of the text that was read, and of what had gone out before the run and has now.
   abbrev pub AnswersRun : {T : Type 0} → List J → List ℕ → Option (List ℕ) → Option (List ℕ) → Result T TextFault

@@ -13,11 +13,12 @@ pub enum LineFault {
     /// In both texts: a byte is above 127.
     #[error("not ASCII")]
     NotAscii,
-    /// In both texts: the first line that says something isn't `refscript 1` in a script, or `refgraph 1` in a graph
-    /// text.
+    /// In both texts: the first line that says something isn't `refscript 1` or `refscript 2` in a script, or
+    /// `refgraph 1` in a graph text.
     #[error("bad header")]
     BadHeader,
-    /// In a script alone: the next isn't `config` and five numbers within their limits.
+    /// In a script alone: the next isn't `config` and five numbers within their limits, of which the cells' is 4,096 in
+    /// version 1 and 65,536 in version 2.
     #[error("bad config")]
     BadConfig,
     /// In a script alone: no step has this actor's letter and this name.

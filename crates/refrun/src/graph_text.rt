@@ -99,5 +99,5 @@ fn add_declaration<A: Allocator + Copy>(
 fn is_header(line: &[u8]) -> bool
     ensures { result ≡ is_graph_header (words_of line.now) }
 {
-    is_titled(line, b"refgraph".as_slice())
+    is_titled(line, b"refgraph".as_slice(), b"1".as_slice())
 }

@@ -24,6 +24,7 @@ mod tally;
 mod threads;
 mod told;
 mod trace;
+mod version;
 
 pub use evidence::{Evidence, evidence_of};
 pub use fault::{LineFault, TextFault};

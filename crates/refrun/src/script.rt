@@ -6,7 +6,7 @@ ghost use Rattle.std.specs.List.{list_all};
 ghost use Rattle.refrun.specs.Lines.{lines_of, words_of, most_bytes};
 ghost use Rattle.refrun.specs.LineReading.{FailsFor};
 ghost use Rattle.refrun.specs.Numerals.{number_below};
-ghost use Rattle.refrun.specs.Scripts.{is_header, config_of, config_from, SpellSteps, AreScript};
+ghost use Rattle.refrun.specs.Scripts.{config_of, config_from, SpellSteps, AreScript};
 ghost use Rattle.refrun.specs.Spelling.{SpellsScriptStep};
 ghost use Rattle.refrun.specs.StepFaults.{step_fault};
 ghost use Rattle.refrun.specs.TextFaults.{ScriptHeader, Steps, fault_or, first_fault};
@@ -18,8 +18,9 @@ use crate::lines::next_word;
 use crate::numerals::{long_number, short_number};
 use crate::script_step::ScriptStep;
 use crate::steps::step_of;
-use crate::told::{is_titled, next_told};
-use ref_base::Config;
+use crate::told::next_told;
+use crate::version::{header_rule, is_in_version};
+use ref_base::{Config, SpanRule};
 use std::alloc::Allocator;
 
 /// What a script says.
@@ -39,17 +40,17 @@ pub fn script_of<A: Allocator>(alloc: A, text: &[u8]) -> Result<Script<A>, TextF
     let Some(line) = header.content else {
         return Err(TextFault::Line(header.number, LineFault::BadHeader));
     };
-    if !is_header(line) {
+    let Some(rule) = header_rule(line) else {
         return Err(TextFault::Line(header.number, LineFault::BadHeader));
-    }
+    };
     let told = next_told(header.rest, header.number)?;
     let Some(line) = told.content else {
         return Err(TextFault::Line(told.number, LineFault::BadConfig));
     };
-    let Some(config) = config_of(line) else {
+    let Some(config) = config_of(line, rule) else {
         return Err(TextFault::Line(told.number, LineFault::BadConfig));
     };
-    if config.check().is_err() {
+    if !is_in_version(&config) {
         return Err(TextFault::Line(told.number, LineFault::BadConfig));
     }
     let steps = steps_of(alloc, told.rest, told.number)?;
@@ -91,16 +92,9 @@ fn add_step<A: Allocator>(
     Ok(())
 }
 
-/// Whether a line is the header.
-fn is_header(line: &[u8]) -> bool
-    ensures { result ≡ is_header (words_of line.now) }
-{
-    is_titled(line, b"refscript".as_slice())
-}
-
-/// The configuration that a line spells, within its limits or not.
-fn config_of(line: &[u8]) -> Option<Config>
-    ensures { result ≡ config_of (words_of line.now) }
+/// The configuration that a line spells behind a header of this rule, within its limits or not.
+fn config_of(line: &[u8], rule: SpanRule) -> Option<Config>
+    ensures { result ≡ config_of rule (words_of line.now) }
 {
     let (name, rest) = next_word(line)?;
     let (mutators, rest) = next_word(rest)?;
@@ -111,18 +105,19 @@ fn config_of(line: &[u8]) -> Option<Config>
     if next_word(rest).is_some() || name != b"config".as_slice() {
         return None;
     }
-    config_from(mutators, workers, queues, cells, span)
+    config_from(rule, mutators, workers, queues, cells, span)
 }
 
-/// The configuration of the numbers that these words spell.
+/// The configuration of this rule and of the numbers that these words spell.
 fn config_from(
+    rule: SpanRule,
     mutators: &[u8],
     workers: &[u8],
     queues: &[u8],
     cells: &[u8],
     span: &[u8],
 ) -> Option<Config>
-    ensures { result ≡ config_from (number_below (2 ^ 32) mutators.now) (number_below (2 ^ 32) workers.now)
+    ensures { result ≡ config_from rule (number_below (2 ^ 32) mutators.now) (number_below (2 ^ 32) workers.now)
         (number_below (2 ^ 32) queues.now) (number_below (2 ^ 32) cells.now) (number_below (2 ^ 64) span.now) }
 {
     Some(Config {
@@ -131,5 +126,6 @@ fn config_from(
         queues: short_number(queues)?,
         cells: short_number(cells)?,
         span: long_number(span)?,
+        rule,
     })
 }

@@ -1,6 +1,6 @@
 //! How large a stress run is.
 
-use ref_base::Config;
+use ref_base::{Config, SpanRule};
 
 /// How many threads a stress run has, and how long it is.
 #[derive(Clone, Copy, Debug, PartialEq, Eq)]
@@ -30,6 +30,7 @@ impl StressOptions {
             queues: 1,
             cells: 4_096,
             span: 0,
+            rule: SpanRule::Fixed,
         }
     }
 }

@@ -94,18 +94,18 @@ fn begins_remark(word: &[u8]) -> bool
     }
 }
 
-/// Whether a line is a header of version 1: this name, and the word `1`.
-pub fn is_titled(line: &[u8], title: &[u8]) -> bool
-    ensures { result ≡ is_titled title.now (words_of line.now) }
+/// Whether a line is a header: this name, and this word as its version.
+pub fn is_titled(line: &[u8], title: &[u8], version: &[u8]) -> bool
+    ensures { result ≡ is_titled title.now version.now (words_of line.now) }
 {
     let Some((name, rest)) = next_word(line) else {
         return false;
     };
-    let Some((version, rest)) = next_word(rest) else {
+    let Some((word, rest)) = next_word(rest) else {
         return false;
     };
     if next_word(rest).is_some() {
         return false;
     }
-    name == title && version == b"1".as_slice()
+    name == title && word == version
 }

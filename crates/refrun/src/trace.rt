@@ -17,6 +17,8 @@ use crate::script::{Script, script_of};
 use crate::script_step::{ScriptRow, ScriptStep};
 use crate::sink::{TextSink, WriteFailed};
 use crate::source::TextSource;
+use crate::version::trace_title;
+use ref_base::SpanRule;
 use ref_queue::{CleanTable, Job};
 use ref_world::World;
 use std::alloc::{AllocError, Allocator};
@@ -97,24 +99,25 @@ fn trace_of<A: Allocator + Copy>(
         table: CleanTable::new(alloc),
         left: jobs,
     };
-    let told = told_run(alloc, &mut stage, steps.as_slice());
+    let told = told_run(alloc, config.rule, &mut stage, steps.as_slice());
     stage.end();
     Ok(told?)
 }
 
-/// Does these steps, and tells them: the header, and their rows numbered from 1.
+/// Does these steps, and tells them: the header of this rule's version, and their rows numbered from 1.
 fn told_run<A: Allocator + Copy>(
     alloc: A,
+    rule: SpanRule,
     stage: &mut Stage<A>,
     steps: &[ScriptStep],
 ) -> Result<String<A>, AllocError>
-    ensures { IfOk result (λ text. TellsRun job_number note_of stage.old.world
+    ensures { IfOk result (λ text. TellsRun job_number note_of rule stage.old.world
         (jobs stage.old.table stage.old.left.items) steps.now (string_bytes text) stage.new.world
         (jobs stage.new.table stage.new.left.items)) }
 {
     // Room for most traces at once: while it grows, a text is copied, and takes its room more than once.
     let mut text = String::with_capacity(alloc, steps.len().saturating_mul(ROW_TEXT))?;
-    text.push_str("reftrace 1\n")?;
+    text.push_str(trace_title(rule))?;
     let mut number = 0u64;
     for step in steps {
         let reply = stage.step(*step);

@@ -13,7 +13,7 @@ use std::process::Abort;
 use std::test::Fail;
 
 /// Scripts whose header or configuration is faulty, or a byte of which is no ASCII.
-const HEADS: [(&[u8], u64, LineFault); 54] = [
+const HEADS: [(&[u8], u64, LineFault); 62] = [
     (b"", 1, BadHeader),
     (b"\n", 2, BadHeader),
     (b"\r\n\r\n", 3, BadHeader),
@@ -33,6 +33,14 @@ const HEADS: [(&[u8], u64, LineFault); 54] = [
     (b"refscript +1\nconfig 1 1 1 1 0\n", 1, BadHeader),
     (b"refscript 0\nconfig 1 1 1 1 0\n", 1, BadHeader),
     (b"refscript 3\nconfig 1 1 1 1 0\n", 1, BadHeader),
+    (b"refscript 02\nconfig 1 1 1 1 0\n", 1, BadHeader),
+    (b"refscript 2 2\nconfig 1 1 1 1 0\n", 1, BadHeader),
+    (b"refscript 12\nconfig 1 1 1 1 0\n", 1, BadHeader),
+    (b"reftrace 2\nconfig 1 1 1 1 0\n", 1, BadHeader),
+    (b"refscript 2", 2, BadConfig),
+    (b"refscript 2\nconfig 1 1 1 0 0\n", 2, BadConfig),
+    (b"refscript 2\nconfig 1 1 1 65537 0\n", 2, BadConfig),
+    (b"refscript 2\nconfig 9 1 1 65536 0\n", 2, BadConfig),
     (b"refscript 1 1\nconfig 1 1 1 1 0\n", 1, BadHeader),
     (b"refscript 1 # x\nconfig 1 1 1 1 0\n", 1, BadHeader),
     (b"Refscript 1\nconfig 1 1 1 1 0\n", 1, BadHeader),
@@ -265,7 +273,7 @@ fn a_line_may_have_200_bytes(rt: HostRuntime) -> Result<(), Fail> {
 }
 
 /// Texts that are read though they look odd, and numbers at their last value.
-pub static READ: [Case; 6] = [
+pub static READ: [Case; 7] = [
     Case {
         name: "spaces, leading zeros and a last line without its end",
         task: Task::Run,
@@ -296,6 +304,18 @@ pub static READ: [Case; 6] = [
 2 m8 poll q15 : refused 9 NoSuchActor
 3 m7 poll q16 : refused 10 BadQueue
 4 w8 scan : refused 9 NoSuchActor
+",
+        error: "",
+        scarce: &[],
+    },
+    Case {
+        name: "the greatest configuration of version 2",
+        task: Task::Run,
+        text: b"refscript 2\nconfig 8 8 16 65536 18446744073709551615\nm7 poll q15\nm8 poll q15\nw8 scan\n",
+        prints: b"reftrace 2
+1 m7 poll q15 : empty
+2 m8 poll q15 : refused 9 NoSuchActor
+3 w8 scan : refused 9 NoSuchActor
 ",
         error: "",
         scarce: &[],

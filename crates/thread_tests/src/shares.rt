@@ -6,7 +6,7 @@ ghost use Rattle.std.specs.Mem.{FitsInMemory};
 ghost use Rattle.thread_tests.specs.QueueRows.{queue_row};
 
 use calls::{Call, Do, Seats, Told, answer};
-use ref_base::{Config, Fault, MutNo, ObjNo, QueueNo, Reply, WorkerNo};
+use ref_base::{Config, Fault, MutNo, ObjNo, QueueNo, Reply, SpanRule, WorkerNo};
 use ref_clear::Notice;
 use ref_queue::Queue;
 use ref_share::{SharedHeap, SharedQueue, end_queue};
@@ -33,6 +33,7 @@ pub const CONFIG: Config = Config {
     queues: 1,
     cells: 8,
     span: 10,
+    rule: SpanRule::Fixed,
 };
 
 pub const M: MutNo = MutNo(0);

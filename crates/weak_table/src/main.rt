@@ -11,7 +11,9 @@ ghost use Rattle.weak_table.specs.Cleaners.{IsCleaner};
 
 use cleaner::Cleaner;
 use example_runtime::{Collector, HeapUser, Queues};
-use ref_base::{Config, Fault, MutNo, ObjNo, PlainStep, QueueNo, Reply, SlotNo, Strength};
+use ref_base::{
+    Config, Fault, MutNo, ObjNo, PlainStep, QueueNo, Reply, SlotNo, SpanRule, Strength,
+};
 use ref_share::SharedHeap;
 use std::collections::BTreeMap;
 use std::sync::atomic::{AtomicU64, Ordering};
@@ -30,6 +32,7 @@ const CONFIG: Config = Config {
     queues: 2,
     cells: 64,
     span: 0,
+    rule: SpanRule::Fixed,
 };
 
 const PROGRAM: MutNo = MutNo(0);

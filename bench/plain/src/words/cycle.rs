@@ -1,18 +1,20 @@
-//! What the collector does: the cycle.
+//! What the collector does: the cycle, and what it hands on of those that it cleared.
 
-use super::{Colour, Fault, Heap, Phase, Reference, Strength, Word, CELLS};
+use super::{Colour, Fault, Heap, Look, Phase, Reference, Span, Strength, Word, CELLS};
 use std::cmp::Reverse;
+use std::mem::take;
 
 const SWEPT_AT_ONCE: usize = 64;
 
 impl Heap {
-    /// Begins a cycle: what slots hold becomes grey.
+    /// Begins a cycle: what slots hold becomes grey, then what is held, by number, and then what is pending.
     pub fn begin(&mut self, now: u64) -> Result<u64, Fault> {
         self.check(Phase::Idle)?;
         if now < self.clock {
             return Err(Fault::ClockBack);
         }
         self.clock = now;
+        self.cycle_span = self.span_now();
         self.cycle += 1;
         self.phase = Phase::Marking;
         self.good = if self.cycle % 2 == 1 { Colour::A } else { Colour::B };
@@ -22,6 +24,8 @@ impl Heap {
                 self.slots[slot] = self.heal(self.slots[slot]);
             }
         }
+        self.shade_held();
+        self.shade_pending();
         Ok(self.cycle)
     }
 
@@ -50,22 +54,32 @@ impl Heap {
         Ok(self.pages.iter().map(|page| (page.taken & !page.marked).count_ones()).sum())
     }
 
-    /// Looks at a reference that this worker found, and answers its number and whether it is cleared.
-    pub fn clear_next(&mut self, worker: usize) -> Result<Option<(u32, bool)>, Fault> {
+    /// Looks at the first reference that this worker found. One whose referent is dead is cleared, and is pending if it
+    /// has a queue.
+    pub fn clear_next(&mut self, worker: usize) -> Result<Option<Look>, Fault> {
         self.check_worker(worker, Phase::Clearing)?;
-        let Some(place) = self.found[worker] else { return Ok(None) };
+        let Some(place) = self.found[worker].first else { return Ok(None) };
         let cell = &mut self.cells[place as usize];
-        self.found[worker] = cell.link.take();
-        let (no, reference) = (cell.no, cell.reference);
-        let referent = reference.map_or(Word::NULL, |reference| reference.referent);
-        let left = if referent.has(self.good) { referent } else { self.heal_referent(place as usize, referent) };
-        Ok(Some((no, left == Word::NULL)))
+        self.found[worker].first = cell.link.take();
+        let no = cell.no;
+        let Some(reference) = cell.reference.filter(|reference| reference.referent != Word::NULL) else {
+            return Ok(Some(Look::Skipped(no)));
+        };
+        let Reference { referent, queue, .. } = reference;
+        if referent.has(self.good) || self.heal_referent(place as usize, referent) != Word::NULL {
+            return Ok(Some(Look::Kept(no)));
+        }
+        self.cells[place as usize].reference = Some(Reference { referent: Word::NULL, ..reference });
+        if queue.is_some() {
+            self.pending[worker].push(&mut self.cells, place);
+        }
+        Ok(Some(Look::Cleared(no)))
     }
 
     /// Ends the clearing, and lists what is dead.
     pub fn end_clear(&mut self) -> Result<(), Fault> {
         self.check(Phase::Clearing)?;
-        if self.found.iter().any(Option::is_some) {
+        if self.found.iter().any(|found| found.first.is_some()) {
             return Err(Fault::ClearingLeft);
         }
         for (number, page) in self.pages.iter().enumerate() {
@@ -106,6 +120,30 @@ impl Heap {
         Ok(())
     }
 
+    /// Hands on the first that is pending of this worker: it is held now.
+    pub fn hand(&mut self, worker: usize) -> Result<Option<u32>, Fault> {
+        let pending = self.pending.get(worker).ok_or(Fault::NoSuchActor)?;
+        let Some(first) = pending.first else { return Ok(None) };
+        let place = self.lies_at(first as usize);
+        let cell = &mut self.cells[place];
+        self.pending[worker].first = cell.link.take();
+        cell.holds += 1;
+        self.holds += 1;
+        Ok(Some(cell.no))
+    }
+
+    /// Takes a hold of the object of this number back.
+    pub fn release(&mut self, no: u32) -> Result<(), Fault> {
+        let (_, place) = *self.entry(no).ok_or(Fault::ForeignHold)?;
+        let cell = &mut self.cells[place as usize];
+        if cell.no != no || cell.holds == 0 {
+            return Err(Fault::ForeignHold);
+        }
+        cell.holds -= 1;
+        self.holds -= 1;
+        Ok(())
+    }
+
     // ---- parts of calls
 
     pub(super) fn check(&self, phase: Phase) -> Result<(), Fault> {
@@ -117,17 +155,54 @@ impl Heap {
         self.check(phase)
     }
 
+    /// What a cycle that begins now makes of the span.
+    fn span_now(&self) -> u64 {
+        match self.span {
+            Span::Fixed(span) => span,
+            Span::Scaled(span) => {
+                let (free, cells) = ((self.room - self.count) as u128, self.room as u128);
+                (u128::from(span) * free / cells) as u64
+            }
+        }
+    }
+
+    fn shade_held(&mut self) {
+        if self.holds == 0 {
+            return;
+        }
+        for entry in 0..self.index.len() {
+            let (no, place) = self.index[entry];
+            let cell = &self.cells[place as usize];
+            if cell.no == no && cell.holds > 0 {
+                self.shade(place as usize);
+            }
+        }
+    }
+
+    /// Each chain is linked anew, since what stands in it may have moved.
+    fn shade_pending(&mut self) {
+        for worker in 0..self.pending.len() {
+            let mut next = take(&mut self.pending[worker]).first;
+            while let Some(place) = next {
+                let place = self.lies_at(place as usize);
+                next = self.cells[place].link.take();
+                self.shade(place);
+                self.pending[worker].push(&mut self.cells, place as u32);
+            }
+        }
+    }
+
     /// A soft reference that was got lately keeps its referent; the worker finds another whose referent isn't marked.
     fn scan_referent(&mut self, worker: usize, grey: u32, reference: Reference) {
         let Reference { strength, referent, stamp, .. } = reference;
         if referent.has(self.good) {
             return;
         }
-        let is_kept = strength == Strength::Soft && self.clock - stamp <= self.span;
+        let is_kept = strength == Strength::Soft && self.clock - stamp <= self.cycle_span;
         if is_kept || self.is_marked(self.lies_at(referent.place())) {
             self.heal_referent(grey as usize, referent);
         } else {
-            self.cells[grey as usize].link = self.found[worker].replace(grey);
+            self.found[worker].push(&mut self.cells, grey);
         }
     }
 }

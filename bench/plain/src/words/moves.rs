@@ -99,8 +99,7 @@ impl Heap {
     fn move_at(&mut self, from: usize) -> usize {
         let to = self.forwards[from] as usize;
         let cell = replace(&mut self.cells[from], super::Cell::FREE);
-        let at = self.index.partition_point(|entry| entry.0 < cell.no);
-        if let Some(entry) = self.index.get_mut(at) {
+        if let Some(entry) = self.entry(cell.no) {
             entry.1 = to as u32;
         }
         self.cells[to] = cell;

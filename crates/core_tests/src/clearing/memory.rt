@@ -16,7 +16,7 @@ use crate::arena::{all_that_is_left, limited};
 use crate::told::Told;
 use bumpalo::Bump;
 use ref_base::Cause::{Cycle, Own};
-use ref_base::{Config, Fault, Phase, Strength, Urgency, WorkerNo};
+use ref_base::{Config, Fault, Phase, SpanRule, Strength, Urgency, WorkerNo};
 use ref_clear::Heap;
 use ref_objects::Kind;
 use std::alloc::Global;
@@ -30,6 +30,7 @@ const SMALL: Config = Config {
     queues: 3,
     cells: 4,
     span: 10,
+    rule: SpanRule::Fixed,
 };
 
 /// How many bytes a heap of this size takes: 11,040 for each of its two pages, 16 for each cell of its size and for

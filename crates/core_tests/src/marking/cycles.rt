@@ -9,7 +9,7 @@ use super::Keep::{Adopt, Hold, Leak, Mint, Release};
 use super::Mutate::{Clear, CopySlot, DropSlot, Get, Load, New, Refer, RefersTo, Store};
 use super::{M, agree};
 use crate::told::Told;
-use ref_base::{Config, Fault, ObjNo, Phase, SlotNo, Strength, Urgency, WorkerNo};
+use ref_base::{Config, Fault, ObjNo, Phase, SlotNo, SpanRule, Strength, Urgency, WorkerNo};
 use ref_mark::Marker;
 use std::alloc::Global;
 use std::process::Abort;
@@ -263,6 +263,7 @@ fn with_a_field_across_pages(alloc: Global) -> Result<Marker, Fault> {
         queues: 1,
         cells: 128,
         span: 0,
+        rule: SpanRule::Fixed,
     };
     let mut heap = Marker::new(alloc, config, 1)?;
     heap.alloc_obj(M, SlotNo(0), 1)?;

@@ -2,7 +2,7 @@
 
 use super::MOST;
 use rationed::Rationed;
-use ref_base::{Config, Fault};
+use ref_base::{Config, Fault, SpanRule};
 use ref_clear::Heap;
 use ref_mark::Marker;
 use ref_move::MovingHeap;
@@ -20,6 +20,7 @@ const CONFIG: Config = Config {
     queues: 3,
     cells: 128,
     span: 10,
+    rule: SpanRule::Fixed,
 };
 
 /// Where nothing starts by itself.

@@ -3,7 +3,7 @@
 ghost use Rattle.std.specs.Prelude.{◌≡◌, true};
 ghost use Rattle.ref_mark.specs.CycleHeaps.{first_cycle_heap};
 
-use ref_base::{Config, MutNo, ObjNo, SlotNo, Strength, Urgency, WorkerNo};
+use ref_base::{Config, MutNo, ObjNo, SlotNo, SpanRule, Strength, Urgency, WorkerNo};
 use ref_mark::Marker;
 use ref_objects::{Entry, Start};
 use std::alloc::Global;
@@ -15,6 +15,7 @@ const CONFIG: Config = Config {
     queues: 1,
     cells: 4,
     span: 10,
+    rule: SpanRule::Fixed,
 };
 
 const START: Start = Start::FIRST;

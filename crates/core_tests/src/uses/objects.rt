@@ -4,7 +4,7 @@ ghost use Rattle.std.specs.Prelude.{◌≡◌, ◌≢◌, true};
 ghost use Rattle.ref_space.specs.Worklists.{empty_worklist};
 ghost use Rattle.ref_objects.specs.Grounds.{first_ground};
 
-use ref_base::{Config, MutNo, ObjNo, QueueNo, SlotNo, Strength};
+use ref_base::{Config, MutNo, ObjNo, QueueNo, SlotNo, SpanRule, Strength};
 use ref_objects::{Colour, Hold, Objects, Start, Worklist};
 use std::alloc::Global;
 use std::process::Abort;
@@ -15,6 +15,7 @@ const CONFIG: Config = Config {
     queues: 1,
     cells: 2,
     span: 10,
+    rule: SpanRule::Fixed,
 };
 
 const START: Start = Start::FIRST;

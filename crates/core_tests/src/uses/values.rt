@@ -2,7 +2,7 @@
 
 ghost use Rattle.std.specs.Prelude.{◌≡◌, true};
 
-use ref_base::{Config, Fault, ObjNo, Reply, keeps};
+use ref_base::{Config, Fault, ObjNo, Reply, SpanRule, keeps};
 use std::alloc::Global;
 
 /// A soft reference is kept whose stamp is the whole span before the clock.
@@ -22,6 +22,7 @@ fn nine_mutators_are_too_many() -> bool
         queues: 1,
         cells: 1,
         span: 0,
+        rule: SpanRule::Fixed,
     };
     config.check().is_err()
 }

@@ -4,7 +4,7 @@ mod draws;
 mod ways;
 
 use draws::Draws;
-use ref_base::{Config, Step};
+use ref_base::{Config, SpanRule, Step};
 use ref_objects::Start;
 use ref_world::World;
 use std::alloc::Global;
@@ -39,6 +39,7 @@ const SMALL: Config = Config {
     queues: 2,
     cells: 6,
     span: 3,
+    rule: SpanRule::Fixed,
 };
 
 /// The same, with 16 cells.
@@ -65,7 +66,13 @@ const LARGE_SIZES: [(Config, u64); 2] = [
 /// Other sizes.
 const SIZES: [(Config, u64); 9] = [
     (SMALL, 1),
-    (ROOMY, 2),
+    (
+        Config {
+            rule: SpanRule::Scaled,
+            ..ROOMY
+        },
+        2,
+    ),
     (Config { span: 0, ..ROOMY }, 3),
     (
         Config {
@@ -82,7 +89,8 @@ const SIZES: [(Config, u64); 9] = [
             workers: 3,
             queues: 3,
             cells: 32,
-            span: u64::MAX,
+            span: 30,
+            rule: SpanRule::Scaled,
         },
         5,
     ),

@@ -48,6 +48,11 @@ pub const fn weak(slot: u32, source: u32, queue: u32) -> Step {
     refer(Strength::Weak, slot, source, Some(QueueNo(queue)))
 }
 
+/// A soft reference in this slot to what this one holds, for this queue.
+pub const fn soft(slot: u32, source: u32, queue: u32) -> Step {
+    refer(Strength::Soft, slot, source, Some(QueueNo(queue)))
+}
+
 pub const fn store(object: u32, field: u32, value: u32) -> Step {
     Step::Plain(PlainStep::Store {
         mutator: M,

@@ -43,7 +43,7 @@ fn a_world_starts_only_where_its_numbers_can(rt: HostRuntime) {
         (129, start(1, 4_294_967_292), Some(Fault::BadConfig)),
         (128, start(u32::MAX, 1), None),
         (0, Start::FIRST, Some(Fault::BadConfig)),
-        (4_097, Start::FIRST, Some(Fault::BadConfig)),
+        (65_537, Start::FIRST, Some(Fault::BadConfig)),
     ];
     for (row, &(cells, start, want)) in table.iter().enumerate() {
         assert_eq!(rt; refusal(rt.alloc(), cells, start), want, "row {row}");

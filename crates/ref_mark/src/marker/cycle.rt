@@ -18,15 +18,15 @@ ghost use Rattle.ref_mark.specs.CycleHeaps.{shaded_all, shaded_if_any, whitened,
 
 use super::{MOST_WORKERS, Marker};
 use crate::chain::Chain;
-use ref_base::{Fault, ObjNo, Phase, Policy, Reply, Urgency, WorkerNo};
+use ref_base::{Fault, ObjNo, Phase, Reply, Urgency, WorkerNo};
 use ref_objects::{Colour, Entry};
 use std::alloc::Allocator;
 
 impl<A: Allocator + Copy> Marker<A> {
     /// Begins a cycle at this clock, and answers its number. All objects become white; then what the slots hold
-    /// becomes grey, mutator by mutator, and then what is held, by number. Tried in this order: `WrongPhase` where a
-    /// cycle hasn't ended, `ClockBack` where the clock is later, `NumbersSpent` after 2^64 - 1 cycles. In time of the
-    /// slots and, where something is held, of the objects.
+    /// becomes grey, mutator by mutator, and then what is held, by number. The cycle's span is settled by the cells
+    /// that are free now. Tried in this order: `WrongPhase` where a cycle hasn't ended, `ClockBack` where the clock is
+    /// later, `NumbersSpent` after 2^64 - 1 cycles. In time of the slots and, where something is held, of the objects.
     pub fn begin(&mut self, now: u64, urgency: Urgency) -> Result<u64, Fault>
         ensures { MarkerDoes self.old (Plain (Begin now urgency)) (reply_of Reply.Cycle result) self.new }
     {
@@ -102,7 +102,7 @@ impl<A: Allocator + Copy> Marker<A> {
         self.objects.begin_marks(Colour::of_cycle(self.cycle));
         self.objects.set_clock(now);
         self.phase = Phase::Marking;
-        self.policy = Policy::of(self.objects.config(), now, urgency);
+        self.policy = self.objects.policy(now, urgency);
     }
 
     // No worker has found anything.

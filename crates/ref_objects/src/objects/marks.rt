@@ -5,7 +5,8 @@ ghost use Rattle.ref_base.specs.Graphs.{object_at};
 ghost use Rattle.ref_base.specs.Heaps.{slot_at, reference_at};
 ghost use Rattle.ref_base.specs.Members.{has};
 ghost use Rattle.ref_base.specs.Refusals.{drop_refusal};
-ghost use Rattle.ref_base.specs.KeptPaths.{is_kept};
+ghost use Rattle.ref_base.specs.KeptPaths.{is_kept, policy_from};
+ghost use Rattle.ref_base.specs.CollectorRows.{free_cells};
 ghost use Rattle.ref_space.specs.Tables.{scanned_values};
 ghost use Rattle.ref_space.specs.Worklists.{entry_number, with_more};
 ghost use Rattle.ref_objects.specs.Grounds.{is_unmarked, ground_marked, marks_begun, unmarked};
@@ -15,7 +16,7 @@ ghost use Rattle.ref_base.specs.DoomedSets.{refers_into};
 
 use super::Objects;
 use crate::stage::Stage;
-use ref_base::{Fault, MutNo, ObjNo, Policy, SlotNo};
+use ref_base::{Fault, MutNo, ObjNo, Policy, SlotNo, Urgency};
 use ref_space::{Colour, Entry, Worklist};
 use std::alloc::Allocator;
 
@@ -109,6 +110,15 @@ impl<A: Allocator + Copy> Objects<A> {
         self.condemning = false;
         self.last = good;
         self.stage = Stage::Tuned;
+    }
+
+    /// What a cycle goes by that begins at this clock: where the configuration's rule scales the span, it does so by
+    /// the cells that are free now. In constant time.
+    pub fn policy(&self, now: u64, urgency: Urgency) -> Policy
+        ensures { result ≡ policy_from self.now.heap.config (free_cells self.now.heap) now urgency }
+    {
+        let free = self.config.cells - self.table.len() as u32;
+        Policy::of(self.config, free, now, urgency)
     }
 
     /// How many objects aren't marked. In constant time.

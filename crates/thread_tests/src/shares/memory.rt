@@ -106,8 +106,8 @@ fn what_finds_no_memory_is_not_made(rt: HostRuntime) -> Result<(), Fail> {
     Ok(())
 }
 
-/// A call behind a cycle in which references 2 and 3 were cleared, what it is told, and what the same call is told where
-/// it was refused at first.
+/// A call behind a cycle in which references 2 and 3 were cleared, what it is told, and what the same call is told
+/// where it was refused at first.
 #[derive(Clone, Copy)]
 struct Trial {
     name: &'static str,
@@ -164,8 +164,8 @@ fn expect(rt: &impl Abort, name: &str, met: u64, told: (Told, Told), want: (Told
     );
 }
 
-/// Makes the call with each request refused in turn: each time the notice of reference 2 comes back, and nothing stands.
-/// Answers how many requests it makes.
+/// Makes the call with each request refused in turn: each time the notice of reference 2 comes back, and nothing
+/// stands. Answers how many requests it makes.
 fn refuse_each<R: Wait + Abort>(
     rt: &R,
     memory: &Rationed<Global>,

@@ -214,7 +214,7 @@ fn a_heap_outside_the_limits_is_not_made(rt: HostRuntime) {
         },
         Config { cells: 0, ..CONFIG },
         Config {
-            cells: 4_097,
+            cells: 65_537,
             ..CONFIG
         },
     ];

@@ -1,4 +1,6 @@
-use Rattle.refrun.proofs.Common.{arith}
+use Rattle.refrun.proofs.Common.{arith, job_number, note_of, script_fault}
+use Rattle.refrun.specs.Traces.{PrintsTrace}
+use Rattle.refrun.proofs.TraceLemmas.{cut_off}
 use Rattle.refrun.proofs.trace.run_script.Goals as goal
 
 pub returns-in-Ok-clause-answer : goal.returns-in-Ok-clause-answer
@@ -8,7 +10,10 @@ pub returns-in-Ok-clause-refused : goal.returns-in-Ok-clause-refused
 returns-in-Ok-clause-refused g c = grind arith
 
 pub returns-clause-answer : goal.returns-clause-answer
-returns-clause-answer g c = grind arith
+returns-clause-answer g c =
+    cut_off (Unit {0}) _ (PrintsTrace job_number note_of c.args.jobs.items) script_fault _ _ _ _ _ _
+    c.in_ok-text.ensures.text c.as_slice.ensures.value c.in_ok-trace.ensures.prints c.as_bytes.ensures.value
+    (c.in-Err.ensures).err
 
 pub returns-clause-refused : goal.returns-clause-refused
 returns-clause-refused g c = grind arith

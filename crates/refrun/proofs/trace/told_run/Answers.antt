@@ -4,15 +4,15 @@ use Rattle.refrun.proofs.trace.told_run.Goals as goal
 
 pub loop-step-init : goal.loop-step-init
 loop-step-init g c = (
-  rw (c.in_ok-push_str.ensures.bytes, c.in_ok-text.ensures.bytes)
-      (tells_nothing_yet job_number note_of c.args.stage.now.world
+  rw (c.in_ok-push_str.ensures.bytes, c.in_ok-text.ensures.bytes, c.trace_title.ensures)
+      (tells_nothing_yet job_number note_of c.args.rule c.args.stage.now.world
       (jobs c.args.stage.now.table c.args.stage.now.left.items)),
   refl,
 )
 
 pub loop-step-preserved : goal.loop-step-preserved
 loop-step-preserved g c = (
-  tells_more job_number note_of _ _ _ _ _ _ c.args.steps.now c.loop-step.step-index c.loop-step.number
+  tells_more job_number note_of c.args.rule _ _ _ _ _ _ c.args.steps.now c.loop-step.step-index c.loop-step.number
       c.step-item.result c.step-reply.result _ _ c.loop-step.invariant.0 c.loop-step.invariant.1
       c.loop-step-test.true c.step-item.is c.step-reply.ensures c.in_ok-writeln.ensures.bytes,
   omega (arith, c.loop-step.invariant.1),
