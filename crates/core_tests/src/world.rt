@@ -4,6 +4,7 @@ mod asks;
 mod heap_steps;
 mod memory;
 mod random;
+mod rounds;
 mod rows;
 mod scale;
 mod starts;

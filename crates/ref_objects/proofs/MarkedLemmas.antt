@@ -52,7 +52,7 @@ module _ {s : Stored} (sound : IsSoundGround s) where
     pub sound_begun : IsSoundGround
         (record s { table = table_begun s.table good; condemning = false; last = good; stage = Tuned })
     sound_begun =
-        elim (cases_Bool (nat_lt s.table.round.number (2 ^ 64 - 1))) [
+        elim (cases_Bool (nat_lt s.table.round.number (2 ^ 8 - 1))) [
           | inl next ↦ simp next (search numbers_by-each)
           | inr spent ↦ simp spent (search numbers_by-each)
         ]
@@ -61,7 +61,7 @@ module _ {s : Stored} (sound : IsSoundGround s) where
         (record s { table = table_begun s.table good; condemning = false; last = good; stage = Tuned })
         ≡ marks_begun (seen_ground s) good
     seen_begun =
-        elim (cases_Bool (nat_lt s.table.round.number (2 ^ 64 - 1))) [
+        elim (cases_Bool (nat_lt s.table.round.number (2 ^ 8 - 1))) [
           | inl next ↦
               simp next
               (search (

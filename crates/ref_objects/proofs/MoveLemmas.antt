@@ -144,7 +144,7 @@ module _ {s : Stored} (objects : IsSoundObjects s) where
   pub moves_begun : (good : Colour) → (good ≡ R → ⊥)
       → AreSoundMoves (record s { table = table_begun s.table good; condemning = false; last = good; stage = Tuned })
   moves_begun good other =
-      elim (cases_Bool (nat_lt s.table.round.number (2 ^ 64 - 1))) [
+      elim (cases_Bool (nat_lt s.table.round.number (2 ^ 8 - 1))) [
         | inl next ↦ simp next here
         | inr spent ↦ simp spent here
       ]

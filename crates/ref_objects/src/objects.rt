@@ -34,8 +34,8 @@ use std::marker::Model;
 
 /// The objects of a heap: their fields and references, the slots of the mutators, and the holds that are out.
 ///
-/// All its memory is taken as it is made, and none by any other call: 11,040 bytes for each page of 64 cells, of which
-/// there are twice as many as the objects fill that there may be, and 128 for each mutator's slots. What a slot or a
+/// All its memory is taken as it is made, and none by any other call: 5,920 bytes for each page of 64 cells, of which
+/// there are twice as many as the objects fill that there may be, and 64 for each mutator's slots. What a slot or a
 /// field holds is found by its word, in constant time. An object is found by its number in logarithmic time, and in
 /// constant time where none with a greater number was freed before the gaps were last closed: so is each that was made
 /// since.

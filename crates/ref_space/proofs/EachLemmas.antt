@@ -250,7 +250,7 @@ module _ (old : Round) (new : Colour) (ways : Ways) (cells : List (Option Tabled
     (settled : IsSettled ways (occupants_of cells)) (small : length (occupants_of cells) ≤ 2 ^ 17)
     (new_apart : (place : ℕ) → is_chosen_place ways.pages.uses place ≡ true → ways.last ≡ new → ⊥) where
   -- the next
-  module _ (less : old.number < 2 ^ 64 - 1) {next : Round} (is : next ≡ record { number = old.number + 1; good = new })
+  module _ (less : old.number < 2 ^ 8 - 1) {next : Round} (is : next ≡ record { number = old.number + 1; good = new })
     where
       pub sound_next : {last room count index_room marked : ℕ}
           → IsSoundTable old cells es ways last room count index_room marked → IsSoundNaming old ways cells es slots
@@ -284,8 +284,8 @@ module _ (old : Round) (new : Colour) (ways : Ways) (cells : List (Option Tabled
           → seen_table next (tuned ways) cells es healed last room ≡ table_begun
           (seen_table old ways cells es slots last room) new
       seen_next rooted last room =
-          let own : nat_lt old.number (2 ^ 64 - 1) ≡ true =
-          lt-ltb old.number (2 ^ 64 - 1) less in
+          let own : nat_lt old.number (2 ^ 8 - 1) ≡ true =
+          lt-ltb old.number (2 ^ 8 - 1) less in
           ap (λ r. seen_table r (tuned ways) cells es healed last room) is
           ∙ ap (λ vs. record (seen_table (record { number = old.number + 1; good = new })
           (tuned ways) cells es slots last
@@ -318,12 +318,12 @@ module _ (old : Round) (new : Colour) (ways : Ways) (cells : List (Option Tabled
           (held_anew old.number old.good new ways (occupants_of cells)) (tabled_by cells es) naming.led);
     }
 
-    pub seen_anew : 2 ^ 64 - 1 ≤ old.number → Each (leads_by old.good ways (occupants_of cells) true) slots
+    pub seen_anew : 2 ^ 8 - 1 ≤ old.number → Each (leads_by old.good ways (occupants_of cells) true) slots
         → (last room : ℕ)
         → seen_table next (tuned ways) ds es healed last room ≡ table_begun
         (seen_table old ways cells es slots last room) new
     seen_anew spent rooted last room =
-        let own : nat_lt old.number (2 ^ 64 - 1) ≡ false = le-ltb old.number (2 ^ 64 - 1) spent in
+        let own : nat_lt old.number (2 ^ 8 - 1) ≡ false = le-ltb old.number (2 ^ 8 - 1) spent in
         ap (λ r. seen_table r (tuned ways) ds es healed last room) is
         ∙ ap (λ vs. record (seen_table (record { number = 1; good = new })
         (tuned ways) ds es slots last room) { slots = vs })

@@ -2,8 +2,9 @@
 -- own). Three colours, pages of 64 cells and where the bits stand are this project's profile.
 use Rattle.std.specs.Prelude.{◌≡◌, ℕ, ◌+◌, ◌-◌, ◌*◌, ◌/◌, ◌%◌, ◌^◌, ◌<◌, ◌≤◌, ◌==◌, nat_lt, nat_le, Bool, false}
 use Rattle.std.specs.Prelude.{if◌then◌else◌}
-use Rattle.std.proofs.Common.{ap, sym, ◌∙◌, inl, inr}
-use Rattle.std.proofs.lemmas.Bool.{cases_Bool, eqb-true}
+use Rattle.std.proofs.Common.{ap, ap₂, sym, refl, ◌∙◌, inl, inr, lt_trans}
+use Rattle.std.proofs.lemmas.Bool.{cases_Bool, eqb-true, ltb-true}
+use Rattle.std.proofs.lemmas.Nat.{div-mul-add, mod-mul-add, mod_below, div-add-mod'}
 use Rattle.std.specs.Prelude.{Option, Some, None}
 use Rattle.std.specs.Option.{is_some}
 use Rattle.ref_space.specs.declared.colour.Colour.{Colour}
@@ -68,6 +69,23 @@ bits-word_held bits =
       | inl null ↦ ap (λ b. bits_held (if b then None else Some bits)) null ∙ sym (eqb-true bits 0 null)
       | inr word ↦ ap (λ b. bits_held (if b then None else Some bits)) word
     ]
+
+-- a heap keeps its own words in 32 bits, as no heap has 2^30 cells: the colour in the two highest of them
+abbrev pub unpacked : ℕ → ℕ
+unpacked bits = bits / 2 ^ 30 * 2 ^ 62 + bits % 2 ^ 30
+
+abbrev pub packed : ℕ → ℕ
+packed word = word / 2 ^ 62 * 2 ^ 30 + word % 2 ^ 62
+
+-- what is unpacked tells its bits
+pub packed-unpacked : (bits : ℕ) → packed (bits_held (word_held (unpacked bits))) ≡ bits
+packed-unpacked bits =
+    let colour : ℕ = bits / 2 ^ 30 in
+    let place : ℕ = bits % 2 ^ 30 in
+    let below : place < 2 ^ 62 = lt_trans (mod_below bits (2 ^ 30) (ltb-true 0 (2 ^ 30) refl)) (ltb-true (2 ^ 30) (2 ^ 62) refl) in
+    ap packed (bits-word_held (unpacked bits))
+    ∙ ap₂ (λ (c p : ℕ). c * 2 ^ 30 + p) (div-mul-add colour (2 ^ 62) place below) (mod-mul-add colour (2 ^ 62) place below)
+    ∙ div-add-mod' bits (2 ^ 30)
 
 -- a word, as what is held
 abbrev pub word_in_colour : Colour → ℕ → ℕ → Option ℕ

@@ -4,6 +4,7 @@ pub mod Pages
 pub mod PageViews
 pub mod Tables
 pub mod Places
+pub mod Cells
 pub mod Naming
 pub mod Worklists
 pub mod Moves

@@ -4,7 +4,6 @@ use Rattle.std.specs.Prelude.{if◌then◌else◌, nat_lt, List, [], ◌∷◌, 
 use Rattle.std.specs.Prelude.{slice_set}
 use Rattle.std.specs.List.{filter}
 use Rattle.std.specs.Borrow.{Bor}
-use Rattle.ref_base.specs.Graphs.{Reference}
 use Rattle.ref_space.specs.Pages.{taken_of, opened, AreBetween, Packed, is_chosen_place}
 use Rattle.ref_space.specs.Moves.{Ways, AreFree, NoneLeaves, forward_of}
 use Rattle.std.specs.Option.{option_map, is_none, is_some}
@@ -15,18 +14,6 @@ use Rattle.ref_space.specs.Tables.{on_object}
 use Rattle.ref_space.specs.declared.round.Round.{Round}
 use Rattle.ref_space.specs.Naming.{occupants_of, target_by, leads_by, by_number, word_there, Each, EachHeld}
 use Rattle.ref_space.specs.declared.index.Entry.{Entry}
-
--- what a cell holds: an object, or nothing where it has no number
-abbrev pub tabled_in : Option ℕ → List (Option ℕ) → Option Reference → ℕ → ℕ → ℕ → ℕ → ℕ → Option Tabled
-tabled_in None fields reference holds marked_in healed_in link cleared_in = None
-tabled_in (Some n) fields reference holds marked_in healed_in link cleared_in = Some (record {
-  object = record { no = n; fields = fields; reference = reference };
-  holds = holds;
-  marked_in = marked_in;
-  healed_in = healed_in;
-  link = link;
-  cleared_in = cleared_in;
-})
 
 -- what the cell at a place holds: nothing where there is no such place
 abbrev pub cell_at : List (Option Tabled) → ℕ → Option Tabled

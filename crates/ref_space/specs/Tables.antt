@@ -347,7 +347,7 @@ brought t (Some n) = if has (left_of t) n then moved_from t (place_of_number t.o
 -- the table as a round begins, in which this colour is good: numbers of rounds begin anew once they are spent
 abbrev pub table_begun : Table → Colour → Table
 table_begun t good =
-    if nat_lt t.round.number (2 ^ 64 - 1)
+    if nat_lt t.round.number (2 ^ 8 - 1)
     then record t { ways = tuned t.ways; round = record { number = t.round.number + 1; good = good } }
     else record t {
       tabled = map with_nothing_done t.tabled;

@@ -1,7 +1,7 @@
 //! A place for one object.
 
 ghost use Rattle.std.specs.Prelude.{◌≡◌, ◌-◌, ◌^◌, ◌<◌, ◌≤◌, nat_lt, true, length};
-ghost use Rattle.std.specs.Option.{option_map};
+ghost use Rattle.std.specs.Option.{option_map, is_none};
 ghost use Rattle.ref_base.specs.Heaps.{with_field, with_reference, with_stamp, cleared};
 ghost use Rattle.ref_space.specs.Places.{is_of, is_held_as, is_unmarked_as, begun_cell, condemned_cell};
 ghost use Rattle.ref_space.specs.ColouredWords.{recoloured};
@@ -16,10 +16,12 @@ ghost use Rattle.ref_space.specs.Tables.{field_in_cell, field_held, anew_in, wit
 
 use crate::field_words::Words;
 use crate::kept::Kept;
+use crate::kind::Kind;
 use crate::round::Round;
 use crate::word::Word;
-use ref_base::ObjNo;
+use ref_base::{ObjNo, QueueNo};
 use std::marker::Model;
+use std::mem::size_of;
 
 /// What is written of an object.
 #[derive(Clone, Copy)]
@@ -36,23 +38,34 @@ pub enum Change {
     Link(u32),
 }
 
-/// A place for one object. In a clause it is the object with its holds, or nothing where it is free.
+/// A place for one object, in 80 bytes: a heap's time is mostly that of the memory which its cells fill. In a clause it
+/// is the object with its holds, or nothing where it is free.
 #[derive(Drop)]
 pub(crate) struct Cell {
-    // None where the cell is free: the rest then says nothing.
-    no: Option<ObjNo>,
+    // What most calls read stands in front.
     fields: Words,
-    reference: Option<Kept>,
-    holds: u64,
-    // The round in which it was marked last, or 0.
-    marked_in: u64,
-    // The round in which each word here had the good colour last, or 0.
-    healed_in: u64,
+    no: ObjNo,
+    // The word of the referent of a reference, or null once it is cleared.
+    referent: Word,
+    // The queue of a reference that has one.
+    queue: QueueNo,
     // The number of the object behind it in the list that it stands in, or 0.
     link: u32,
+    // Where it is free the rest says nothing; and where it is plain, what a reference has.
+    kind: Kind,
+    has_queue: bool,
+    // The round in which it was marked last, or 0.
+    marked_in: u8,
+    // The round in which each word here had the good colour last, or 0.
+    healed_in: u8,
+    // The clock at which a soft reference was made or last got.
+    stamp: u64,
+    holds: u64,
     // The cycle in which a worker cleared it last, or 0.
     cleared_in: u64,
 }
+
+const _: () = prove!(size_of::<Cell>() == 80);
 
 impl Model for Cell {
     ghost use Rattle.std.specs.Prelude.{Option};
@@ -60,9 +73,11 @@ impl Model for Cell {
 
     ghost Value = { Option Tabled };
 
-    ghost use Rattle.ref_space.specs.Places.{tabled_in};
+    ghost use Rattle.ref_space.specs.Cells.{tabled_in, number_by_kind, strength_of, reference_by, queue_if};
 
-    ghost view = { λ c. tabled_in c.no c.fields c.reference c.holds c.marked_in c.healed_in c.link c.cleared_in };
+    ghost view = { λ c. tabled_in (number_by_kind c.kind c.no) c.fields
+        (reference_by (strength_of c.kind) c.referent c.stamp (queue_if c.has_queue c.queue))
+        c.holds c.marked_in c.healed_in c.link c.cleared_in };
 }
 
 impl Cell {
@@ -72,13 +87,17 @@ impl Cell {
         ensures { result ≡ None }
     {
         Cell {
-            no: None,
             fields: Words::nulls(0),
-            reference: None,
-            holds: 0,
+            no: ObjNo(0),
+            referent: Word::null(),
+            queue: QueueNo(0),
+            link: 0,
+            kind: Kind::Free,
+            has_queue: false,
             marked_in: 0,
             healed_in: 0,
-            link: 0,
+            stamp: 0,
+            holds: 0,
             cleared_in: 0,
         }
     }
@@ -90,21 +109,42 @@ impl Cell {
         count: usize,
         reference: Option<Kept>,
         marked: bool,
-        round: u64,
+        round: u8,
     )
         requires { count ≤ 8 }
         ensures { self.new ≡ Some (made_entry round no count reference marked) }
     {
         *self = Cell {
-            no: Some(no),
             fields: Words::nulls(count),
-            reference,
-            holds: 0,
+            no,
+            referent: Word::null(),
+            queue: QueueNo(0),
+            link: 0,
+            kind: Kind::Plain,
+            has_queue: false,
             marked_in: if marked { round } else { 0 },
             healed_in: round,
-            link: 0,
+            stamp: 0,
+            holds: 0,
             cleared_in: 0,
         };
+        if let Some(kept) = reference {
+            self.kind = Kind::of(Some(kept.strength));
+            self.referent = kept.referent;
+            self.stamp = kept.stamp;
+            if let Some(queue) = kept.queue {
+                self.has_queue = true;
+                self.queue = queue;
+            }
+        }
+    }
+
+    /// Whether there is no object.
+    #[inline(always)]
+    fn is_free(&self) -> bool
+        ensures { result ≡ is_none self.now }
+    {
+        matches!(self.kind, Kind::Free)
     }
 
     /// Whether this is the cell of the object of this number.
@@ -112,20 +152,14 @@ impl Cell {
     pub(crate) fn is_of(&self, no: ObjNo) -> bool
         ensures { result ≡ is_of self.now no }
     {
-        match self.no {
-            Some(own) => own == no,
-            None => false,
-        }
+        !self.is_free() && self.no == no
     }
 
     /// Whether this is the cell of the object of this number, and that is held.
     pub(crate) fn is_held_as(&self, no: ObjNo) -> bool
         ensures { result ≡ is_held_as self.now no }
     {
-        match self.no {
-            Some(own) => own == no && self.holds > 0,
-            None => false,
-        }
+        self.is_of(no) && self.holds > 0
     }
 
     /// The fields of the object: none where the cell is free.
@@ -133,10 +167,10 @@ impl Cell {
     pub(crate) fn fields(&self) -> Words
         ensures { result ≡ tabled_fields self.now }
     {
-        match self.no {
-            Some(_) => self.fields.copied(),
-            None => Words::nulls(0),
+        if self.is_free() {
+            return Words::nulls(0);
         }
+        self.fields.copied()
     }
 
     /// How many fields the object has: none where the cell is free.
@@ -144,10 +178,10 @@ impl Cell {
     pub(crate) fn field_count(&self) -> usize
         ensures { result ≡ length (tabled_fields self.now) }
     {
-        match self.no {
-            Some(_) => self.fields.len(),
-            None => 0,
+        if self.is_free() {
+            return 0;
         }
+        self.fields.len()
     }
 
     /// What a field of the object holds: null also where there is no such field.
@@ -155,10 +189,10 @@ impl Cell {
     pub(crate) fn word(&self, field: usize) -> Word
         ensures { result ≡ field_held self.now field }
     {
-        match self.no {
-            Some(_) => self.fields.get(field),
-            None => Word::null(),
+        if self.is_free() {
+            return Word::null();
         }
+        self.fields.get(field)
     }
 
     /// Whether the object is held.
@@ -166,10 +200,7 @@ impl Cell {
     pub(crate) fn is_held(&self) -> bool
         ensures { result ≡ nat_lt 0 (holds_in self.now) }
     {
-        match self.no {
-            Some(_) => self.holds > 0,
-            None => false,
-        }
+        !self.is_free() && self.holds > 0
     }
 
     /// Writes a field of the object. False where there is no such field: then nothing changes.
@@ -178,28 +209,24 @@ impl Cell {
         ensures there { result ≡ has_field self.old field }
         ensures after { self.new ≡ option_map (on_object (with_field field value)) self.old }
     {
-        match self.no {
-            Some(_) => self.fields.set(field, value),
-            None => false,
+        if self.is_free() {
+            return false;
         }
+        self.fields.set(field, value)
     }
 
     /// Clears the reference, where the object is one.
     fn cut(&mut self)
         ensures { self.new ≡ option_map (on_object (with_reference cleared)) self.old }
     {
-        if let Some(reference) = &mut self.reference {
-            reference.referent = Word::null();
-        }
+        self.referent = Word::null();
     }
 
     /// Writes the stamp, where the object is a reference.
     fn set_stamp(&mut self, stamp: u64)
         ensures { self.new ≡ option_map (on_object (with_reference (with_stamp stamp))) self.old }
     {
-        if let Some(reference) = &mut self.reference {
-            reference.stamp = stamp;
-        }
+        self.stamp = stamp;
     }
 
     /// Writes this of the object.
@@ -221,12 +248,12 @@ impl Cell {
 
     /// Counts one more hold of the object, which has to be marked where that is told. False where there is no such
     /// object: then nothing changes.
-    pub(crate) fn add_hold(&mut self, if_marked: bool, round: u64) -> bool
+    pub(crate) fn add_hold(&mut self, if_marked: bool, round: u8) -> bool
         requires { holds_in self.old < 2 ^ 64 - 1 }
         ensures there { result ≡ may_hold round if_marked self.old }
         ensures after { self.new ≡ option_map (more_held_if round if_marked) self.old }
     {
-        let may_hold = self.no.is_some() && (self.marked_in == round || !if_marked);
+        let may_hold = !self.is_free() && (self.marked_in == round || !if_marked);
         if may_hold {
             self.holds += 1;
         }
@@ -250,7 +277,7 @@ impl Cell {
     pub(crate) fn number(&self) -> Option<ObjNo>
         ensures { result ≡ occupant_in self.now }
     {
-        self.no
+        if self.is_free() { None } else { Some(self.no) }
     }
 
     /// What a field of the object holds: none where there is no such field.
@@ -258,7 +285,7 @@ impl Cell {
     pub(crate) fn field(&self, field: usize) -> Option<Word>
         ensures { result ≡ field_in_cell self.now field }
     {
-        if self.no.is_some() && field < self.fields.len() {
+        if !self.is_free() && field < self.fields.len() {
             Some(self.fields.get(field))
         } else {
             None
@@ -270,10 +297,17 @@ impl Cell {
     pub(crate) fn kept(&self) -> Option<Kept>
         ensures { result ≡ tabled_reference self.now }
     {
-        match self.no {
-            Some(_) => self.reference,
-            None => None,
-        }
+        let strength = self.kind.strength()?;
+        Some(Kept {
+            strength,
+            referent: self.referent,
+            stamp: self.stamp,
+            queue: if self.has_queue {
+                Some(self.queue)
+            } else {
+                None
+            },
+        })
     }
 
     /// The referent of the object: null also where it is plain, or there is none.
@@ -292,10 +326,7 @@ impl Cell {
     pub(crate) fn link(&self) -> u32
         ensures { result ≡ tabled_link self.now }
     {
-        match self.no {
-            Some(_) => self.link,
-            None => 0,
-        }
+        if self.is_free() { 0 } else { self.link }
     }
 
     /// The cycle in which the object was cleared last: 0 where there is none.
@@ -303,66 +334,54 @@ impl Cell {
     pub(crate) fn cleared_in(&self) -> u64
         ensures { result ≡ tabled_cleared_in self.now }
     {
-        match self.no {
-            Some(_) => self.cleared_in,
-            None => 0,
-        }
+        if self.is_free() { 0 } else { self.cleared_in }
     }
 
     /// The cell has no object any more.
     pub(crate) fn vacate(&mut self)
         ensures { self.new ≡ None }
     {
-        self.no = None;
+        self.kind = Kind::Free;
     }
 
     /// Whether there is an object, and it is marked.
     #[inline(always)]
-    pub(crate) fn is_marked(&self, round: u64) -> bool
+    pub(crate) fn is_marked(&self, round: u8) -> bool
         ensures { result ≡ is_marked_in round self.now }
     {
-        match self.no {
-            Some(_) => self.marked_in == round,
-            None => false,
-        }
+        !self.is_free() && self.marked_in == round
     }
 
     /// Whether there is an object, and it isn't marked.
     #[inline(always)]
-    pub(crate) fn is_unmarked(&self, round: u64) -> bool
+    pub(crate) fn is_unmarked(&self, round: u8) -> bool
         ensures { result ≡ is_unmarked_in round self.now }
     {
-        match self.no {
-            Some(_) => self.marked_in != round,
-            None => false,
-        }
+        !self.is_free() && self.marked_in != round
     }
 
     /// Whether this is the cell of the object of this number, and that isn't marked.
-    pub(crate) fn is_unmarked_as(&self, no: ObjNo, round: u64) -> bool
+    pub(crate) fn is_unmarked_as(&self, no: ObjNo, round: u8) -> bool
         ensures { result ≡ is_unmarked_as round self.now no }
     {
-        match self.no {
-            Some(own) => own == no && self.marked_in != round,
-            None => false,
-        }
+        self.is_of(no) && self.marked_in != round
     }
 
     /// Marks the object, and answers its number where it wasn't marked.
     #[inline(always)]
-    pub(crate) fn mark(&mut self, round: u64) -> Option<ObjNo>
+    pub(crate) fn mark(&mut self, round: u8) -> Option<ObjNo>
         ensures answer { result ≡ anew_in round self.old }
         ensures after { self.new ≡ option_map (with_marked round) self.old }
     {
         let is_new = self.marked_in != round;
         self.marked_in = round;
-        if is_new { self.no } else { None }
+        if is_new { self.number() } else { None }
     }
 
     /// The object of this number refers to nothing from now on. True where it lies here and isn't marked; else nothing
     /// changes.
     #[inline(always)]
-    pub(crate) fn condemn(&mut self, no: ObjNo, round: u64) -> bool
+    pub(crate) fn condemn(&mut self, no: ObjNo, round: u8) -> bool
         ensures answer { result ≡ is_unmarked_as round self.old no }
         ensures after { self.new ≡ condemned_cell round no self.old }
     {
@@ -381,15 +400,13 @@ impl Cell {
             option_map (λ k. with_healed round.number (by_number (recoloured round.good) k)) self.old }
     {
         self.fields.recolour(round.good);
-        if let Some(reference) = &mut self.reference {
-            reference.referent = reference.referent.in_colour(round.good);
-        }
+        self.referent = self.referent.in_colour(round.good);
         self.healed_in = round.number;
     }
 
     /// The object has this referent, where it is a reference: it is healed in this round.
     #[inline(always)]
-    pub(crate) fn put_healed(&mut self, referent: Word, round: u64)
+    pub(crate) fn put_healed(&mut self, referent: Word, round: u8)
         ensures { self.new ≡ option_map (with_referent_healed referent round) self.old }
     {
         self.set_referent(referent);
@@ -401,9 +418,7 @@ impl Cell {
     pub(crate) fn set_referent(&mut self, referent: Word)
         ensures { self.new ≡ option_map (on_object (with_reference (with_referent referent))) self.old }
     {
-        if let Some(reference) = &mut self.reference {
-            reference.referent = referent;
-        }
+        self.referent = referent;
     }
 
     /// The object is as if it had never been marked or healed.

@@ -12,7 +12,8 @@ use std::marker::Model;
 #[derive(Drop)]
 pub(crate) struct Words {
     held: [Word; MOST_FIELDS],
-    count: usize,
+    // At most 8.
+    count: u8,
 }
 
 impl Model for Words {
@@ -34,7 +35,7 @@ impl Words {
     {
         Words {
             held: [Word::null(); MOST_FIELDS],
-            count,
+            count: count as u8,
         }
     }
 
@@ -47,7 +48,7 @@ impl Words {
         held.copy_from_slice(&self.held);
         Words {
             held,
-            count: self.len(),
+            count: self.count,
         }
     }
 
@@ -57,7 +58,7 @@ impl Words {
         ensures count { result ≡ length self.now }
         ensures few { result ≤ 8 }
     {
-        self.count
+        usize::from(self.count)
     }
 
     /// What a field holds: null also where there is no such field.

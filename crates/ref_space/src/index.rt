@@ -198,7 +198,7 @@ pub(crate) fn make_room<A: Allocator>(index: &mut Vec<Entry, A>, cells: &[Cell],
 // The entry's object refers to nothing from now on. True where it is still there, and isn't marked in this round; else
 // nothing changes.
 #[inline(always)]
-fn condemn_one(cells: &mut [Cell], entry: Entry, round: u64) -> bool
+fn condemn_one(cells: &mut [Cell], entry: Entry, round: u8) -> bool
     ensures answer { result ≡ condemns round entry cells.old }
     ensures after { cells.new ≡ condemned_at round entry cells.old }
 {
@@ -211,7 +211,7 @@ fn condemn_one(cells: &mut [Cell], entry: Entry, round: u64) -> bool
 pub(crate) fn condemn<A: Allocator>(
     cells: &mut [Cell],
     index: &[Entry],
-    round: u64,
+    round: u8,
     condemned: &mut Worklist<A>,
 )
     requires listed { AreIndexed cells.old index.now }

@@ -11,6 +11,7 @@ mod field_words;
 mod fields;
 mod index;
 mod kept;
+mod kind;
 pub mod laws;
 mod linked;
 mod page;

@@ -32,7 +32,7 @@ use ref_base::{Fault, ObjNo};
 use std::alloc::{AllocError, Allocator, Global};
 use std::marker::Model;
 
-/// The objects of a heap, each with a count of holds and a mark. All memory is taken by `new`: for each cell 160 bytes
+/// The objects of a heap, each with a count of holds and a mark. All memory is taken by `new`: for each cell 80 bytes
 /// of its own, 8 of the index and 4 for where what lay there moved, and 32 for each page of 64 cells. Twice as many
 /// pages are there as the objects fill that there may be, so that there is room for what moves.
 #[derive(Drop)]
@@ -256,7 +256,7 @@ impl<A: Allocator + Copy> Table<A> {
     }
 
     /// A round begins, in which this colour is good: the slots are healed, and no object is marked or healed. In time
-    /// of the slots; and, once in 2^64 - 1 rounds, of the cells.
+    /// of the slots; and, once in 255 rounds, of the cells.
     pub fn begin(&mut self, good: Colour)
         requires settled { left_of self.old ≡ [] }
         requires apart { has_chosen self.old.ways.pages.uses ≡ true → self.old.ways.last ≡ good → ⊥ }
@@ -265,7 +265,7 @@ impl<A: Allocator + Copy> Table<A> {
         heal_slots(&mut self.slots, &self.cells, &self.forwards, good);
         self.marked = 0;
         self.is_tuned = true;
-        if self.round.number < u64::MAX {
+        if self.round.number < u8::MAX {
             let number = self.round.number + 1;
             self.round = Round { number, good };
             return;

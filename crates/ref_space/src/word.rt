@@ -1,33 +1,36 @@
 //! What a slot or a field holds.
 
-ghost use Rattle.std.specs.Prelude.{◌≡◌, ◌-◌, ◌^◌, ◌<◌, None};
+ghost use Rattle.std.specs.Prelude.{◌≡◌, ◌+◌, ◌^◌, ◌<◌, None};
 ghost use Rattle.std.specs.Option.{is_none};
 ghost use Rattle.ref_space.specs.ColouredWords.{place_by, word_of_place, has_colour, recoloured, bits_at, IsIndexOf};
 
 use crate::colour::Colour;
-use crate::words::{has_colour, word_of};
 use std::marker::Model;
 
 /// What a slot or a field holds: null, or the coloured word of a cell. It has the cell's frame, counted from 1 on,
 /// where the format has the address of the frame's page. In a clause it is that word, if there is one.
 #[derive(Clone, Copy)]
 pub struct Word {
-    // 0 is null.
-    bits: u64,
+    // 0 is null. Else the colour's number in the two highest bits, and 64 more than the place of the cell in the others:
+    // half as many bits as the word has, so that an object's fields take half the memory.
+    bits: u32,
 }
 
 impl Model for Word {
     ghost use Rattle.std.specs.Prelude.{ℕ, Option, if◌then◌else◌, ◌==◌};
-    ghost use Rattle.ref_space.specs.ColouredWords.{word_held, bits_held, bits-word_held};
+    ghost use Rattle.ref_space.specs.ColouredWords.{word_held, bits_held, unpacked, packed, packed-unpacked};
 
     ghost Value = { Option ℕ };
 
-    ghost view = { λ w. word_held w.bits };
+    ghost view = { λ w. word_held (unpacked w.bits) };
 
-    ghost inverse = { λ v. record { bits = bits_held v } };
+    ghost inverse = { λ v. record { bits = packed (bits_held v) } };
 
-    ghost inverse_ok = { λ w h i. record { bits = bits-word_held w.bits i } };
+    ghost inverse_ok = { λ w h i. record { bits = packed-unpacked w.bits i } };
 }
+
+// How many places there may be: the bits below the colour tell so many, 64 of which are null's.
+const PLACES: u32 = 1 << 30;
 
 impl Word {
     /// Null. Takes no memory, in constant time, as all that words do.
@@ -41,10 +44,11 @@ impl Word {
     /// The word of the cell at this place, in this colour.
     #[inline(always)]
     pub fn of_place(colour: Colour, place: u32) -> Self
+        requires { place + 64 < 2 ^ 30 }
         ensures { result ≡ word_of_place colour place }
     {
         Word {
-            bits: word_of(colour, 1 + place / 64, place % 64),
+            bits: colour.number() * PLACES + 64 + place,
         }
     }
 
@@ -61,7 +65,7 @@ impl Word {
     pub fn has_colour(self, colour: Colour) -> bool
         ensures { result ≡ has_colour colour self }
     {
-        has_colour(self.bits, colour)
+        self.bits / PLACES == colour.number()
     }
 
     /// The word of the same cell in this colour, or null.
@@ -73,7 +77,7 @@ impl Word {
             return self;
         }
         Word {
-            bits: u64::from(colour.number()) * (1 << 62) + self.bits % (1 << 62),
+            bits: colour.number() * PLACES + self.bits % PLACES,
         }
     }
 
@@ -84,7 +88,9 @@ impl Word {
         if self.is_null() {
             return 0;
         }
-        (self.bits >> 62 << 62) + u64::from(address) * 64 + self.bits % 64
+        u64::from(self.bits / PLACES) * (1 << 62)
+            + u64::from(address) * 64
+            + u64::from(self.bits % 64)
     }
 
     /// Where its cell lies, by place: none of null.
@@ -92,7 +98,7 @@ impl Word {
         ensures { result ≡ place_by self }
     {
         // The bits of null are in front of each frame's.
-        (self.bits % (1 << 62)).checked_sub(64)
+        u64::from(self.bits % PLACES).checked_sub(64)
     }
 
     /// The same, and behind all places for null, so that one test serves for both.
@@ -100,6 +106,6 @@ impl Word {
     pub fn index(self) -> usize
         ensures { IsIndexOf (place_by self) result }
     {
-        (self.bits % (1 << 62)).wrapping_sub(64) as usize
+        ((self.bits % PLACES) as usize).wrapping_sub(64)
     }
 }

@@ -33,9 +33,9 @@ const SMALL: Config = Config {
     rule: SpanRule::Fixed,
 };
 
-/// How many bytes a heap of this size takes: 11,040 for each of its two pages, 16 for each cell of its size and for
-/// each worker, and 128 for the slots of its mutator.
-const SMALL_HEAP: usize = 2 * 11_040 + 4 * 16 + 2 * 16 + 128;
+/// How many bytes a heap of this size takes: 5,920 for each of its two pages, 16 for each cell of its size and for
+/// each worker, and 64 for the slots of its mutator.
+const SMALL_HEAP: usize = 2 * 5_920 + 4 * 16 + 2 * 16 + 64;
 
 /// The same, with cells that fill two pages: so there are four.
 const TWO_PAGES: Config = Config {
@@ -44,7 +44,7 @@ const TWO_PAGES: Config = Config {
 };
 
 /// How many bytes a heap of this size takes.
-const TWO_PAGES_HEAP: usize = 4 * 11_040 + 128 * 16 + 2 * 16 + 128;
+const TWO_PAGES_HEAP: usize = 4 * 5_920 + 128 * 16 + 2 * 16 + 64;
 
 /// Each call once, but for those of moves.
 const EACH_CALL: [(Call, Told); 41] = [
@@ -197,13 +197,13 @@ fn taken_by(alloc: Global, workers: u32) -> Result<usize, Fail> {
 }
 
 #[test]
-fn a_heap_takes_11_040_bytes_a_page_16_a_cell_and_16_a_worker(rt: HostRuntime) -> Result<(), Fail> {
-    // Twice as many pages as its cells fill, of which each has 160, 8 and 4 bytes for each of its 64 cells, and 32; and
+fn a_heap_takes_5_920_bytes_a_page_16_a_cell_and_16_a_worker(rt: HostRuntime) -> Result<(), Fail> {
+    // Twice as many pages as its cells fill, of which each has 80, 8 and 4 bytes for each of its 64 cells, and 32; and
     // the grey and the condemned list, of 8 bytes a cell.
-    let pages = 128 * (64 * (160 + 8 + 4) + 32);
+    let pages = 128 * (64 * (80 + 8 + 4) + 32);
     let lists = 4_096 * (8 + 8);
     // Beside them are the 16 slots of one mutator.
-    let slots = 128;
+    let slots = 64;
     let without_workers = pages + lists + slots;
     assert_eq!(rt;
         taken_by(rt.alloc(), 1)?,

@@ -19,9 +19,9 @@ use std::alloc::Allocator;
 use std::process::Abort;
 use std::test::Fail;
 
-/// How many bytes the objects of a heap of three cells take: 11,040 for each of its two pages, and 128 for the slots of
+/// How many bytes the objects of a heap of three cells take: 5,920 for each of its two pages, and 64 for the slots of
 /// its mutator.
-const OF_THREE_CELLS: usize = 2 * 11_040 + 128;
+const OF_THREE_CELLS: usize = 2 * 5_920 + 64;
 
 /// Each call once.
 const EACH_CALL: [(Call, Told); 29] = [

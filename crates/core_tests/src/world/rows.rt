@@ -24,6 +24,17 @@ pub const SELECT: Step = Step::Plain(PlainStep::Select);
 
 pub const END_MOVE: Step = Step::Plain(PlainStep::EndMove);
 
+pub const END_MARK: Step = Step::Plain(PlainStep::EndMark);
+
+pub const END_CLEAR: Step = Step::Plain(PlainStep::EndClear);
+
+pub const END_SWEEP: Step = Step::Plain(PlainStep::EndSweep);
+
+/// Worker 0 sweeps.
+pub const SWEEP: Step = Step::Plain(PlainStep::Sweep {
+    worker: WorkerNo(0),
+});
+
 pub const fn new(slot: u32, fields: u32) -> Step {
     Step::Plain(PlainStep::New {
         mutator: M,

@@ -1,10 +1,11 @@
 //! A heap of as many cells as there may be.
 
 use super::rows::{
-    begin, clear_next, cleared, drop_slot, new, object, refused, scan, scanned, soft,
+    END_CLEAR, END_MARK, END_SWEEP, SWEEP, begin, clear_next, cleared, drop_slot, new, object,
+    refused, scan, scanned, soft,
 };
 use super::{CONFIG, do_steps};
-use ref_base::{Config, Fault, PlainStep, Reply, SpanRule, Step, WorkerNo};
+use ref_base::{Config, Fault, Reply, SpanRule, Step};
 use ref_world::World;
 use std::process::Abort;
 use std::test::Fail;
@@ -18,16 +19,6 @@ const LARGEST: Config = Config {
     rule: SpanRule::Scaled,
     ..CONFIG
 };
-
-const END_MARK: Step = Step::Plain(PlainStep::EndMark);
-
-const END_CLEAR: Step = Step::Plain(PlainStep::EndClear);
-
-const END_SWEEP: Step = Step::Plain(PlainStep::EndSweep);
-
-const SWEEP: Step = Step::Plain(PlainStep::Sweep {
-    worker: WorkerNo(0),
-});
 
 /// The steps of a cycle that begins at this clock, in which objects 2 and 65,536, which slots hold, and then object 1,
 /// which soft reference 2 keeps, are all that is reached.

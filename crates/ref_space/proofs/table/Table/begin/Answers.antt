@@ -19,7 +19,7 @@ invariant_of-self g c =
           c.self.inside.index.items c.self.inside.slots.items slots
           (left_settled c.self.invariant c.self.view_is c.requires.settled) (few_places c.self.invariant)
           (apart_seen c.self.invariant c.self.view_is c.args.good c.requires.apart)
-          c.if-self-lt18446744073709551615.true refl
+          c.if-self-lt255.true refl
           c.self.invariant.0 c.self.invariant.1,
       naming_next c.self.inside.round c.args.good
           (ways_of c.self.inside.pages c.self.inside.forwards.items c.self.inside.last_good c.self.inside.is_tuned)
@@ -27,12 +27,12 @@ invariant_of-self g c =
           c.self.inside.index.items c.self.inside.slots.items slots
           (left_settled c.self.invariant c.self.view_is c.requires.settled) (few_places c.self.invariant)
           (apart_seen c.self.invariant c.self.view_is c.args.good c.requires.apart)
-          c.if-self-lt18446744073709551615.true refl
+          c.if-self-lt255.true refl
           c.self.invariant.1,
     )
 
-pub returns-then-self-lt18446744073709551615 : goal.returns-then-self-lt18446744073709551615
-returns-then-self-lt18446744073709551615 g c =
+pub returns-then-self-lt255 : goal.returns-then-self-lt255
+returns-then-self-lt255 g c =
     seen_next c.self.inside.round c.args.good
     (ways_of c.self.inside.pages c.self.inside.forwards.items c.self.inside.last_good c.self.inside.is_tuned)
     c.self.inside.cells.items
@@ -41,7 +41,7 @@ returns-then-self-lt18446744073709551615 g c =
     (sym c.self.inside.slots.ok.0) c.heal_slots.ensures c.deref_mut.ensures.value)
     (left_settled c.self.invariant c.self.view_is c.requires.settled) (few_places c.self.invariant)
     (apart_seen c.self.invariant c.self.view_is c.args.good c.requires.apart)
-    c.if-self-lt18446744073709551615.true refl c.self.invariant.1.rooted c.self.inside.last c.self.inside.room
+    c.if-self-lt255.true refl c.self.invariant.1.rooted c.self.inside.last c.self.inside.room
     ∙ ap (λ (t : Table). table_begun t c.args.good) c.self.view_is
 
 pub invariant_of-self-2 : goal.invariant_of-self-2
@@ -79,5 +79,5 @@ returns g c =
     (left_settled c.self.invariant c.self.view_is c.requires.settled) (few_places c.self.invariant)
     (apart_seen c.self.invariant c.self.view_is c.args.good c.requires.apart)
     each refl
-    c.if-self-lt18446744073709551615.false c.self.invariant.1.rooted c.self.inside.last c.self.inside.room
+    c.if-self-lt255.false c.self.invariant.1.rooted c.self.inside.last c.self.inside.room
     ∙ ap (λ (t : Table). table_begun t c.args.good) c.self.view_is

@@ -20,6 +20,14 @@ overflow_cast-place g c =
     (ap is_some c.leave-place.ensures.lies ∙ here) in
     omega (arith, within, c.self-in-Some.invariant.0.placed.small)
 
+pub of_place-requires : goal.of_place-requires
+of_place-requires g c =
+    let here = (resolves c.self.invariant c.self.view_is c.deref.ensures.value c.deref-2.ensures.value c.args.value
+    c.place_by.ensures c.in-Some.is).0 in
+    let within = within_here c.self-in-Some.invariant c.self-in-Some.view_is c.leave-place.result
+    (ap is_some c.leave-place.ensures.lies ∙ here) in
+    omega (arith, within, c.self-in-Some.invariant.0.placed.small)
+
 -- the object lies at that place
 here : (g : Over) (c : goal.After-of_place g)
     → (is_some (slice_index_or c.args.self.now.occupants c.in-Some.place None) ≡ true)

@@ -12,6 +12,11 @@ overflow_cast-place g c =
     let within = within_here c.self.invariant c.self.view_is c.args.place c.requires in
     omega (arith, within, c.self.invariant.0.placed.small)
 
+pub of_place-requires : goal.of_place-requires
+of_place-requires g c =
+    let within = within_here c.self.invariant c.self.view_is c.args.place c.requires in
+    omega (arith, within, c.self.invariant.0.placed.small)
+
 pub returns-clause-named : goal.returns-clause-named
 returns-clause-named g c =
     ap (target_of c.args.self.now) c.of_place.ensures
