@@ -88,33 +88,33 @@ pub enum Look {
 }
 
 #[derive(Clone, Copy, PartialEq, Eq)]
-#[repr(u64)]
+#[repr(u32)]
 enum Colour {
     A = 1,
     B = 2,
     R = 3,
 }
 
-/// Null, which is 0, or the word of a cell.
+/// Null, which is 0, or the word of a cell: its colour stands in the two highest bits.
 #[derive(Clone, Copy, PartialEq, Eq)]
-struct Word(u64);
+struct Word(u32);
 
 impl Word {
     const NULL: Word = Word(0);
-    const PLACE: u64 = (1 << 62) - 1;
+    const PLACE: u32 = (1 << 30) - 1;
 
     /// The first page, at address 1, has the places 0 to 63.
     fn of(colour: Colour, place: usize) -> Word {
-        Word((colour as u64) << 62 | (place + CELLS) as u64)
+        Word((colour as u32) << 30 | (place + CELLS) as u32)
     }
 
     /// Behind all places for null.
     fn place(self) -> usize {
-        (self.0 & Word::PLACE).wrapping_sub(CELLS as u64) as usize
+        ((self.0 & Word::PLACE) as usize).wrapping_sub(CELLS)
     }
 
     fn has(self, colour: Colour) -> bool {
-        self == Word::NULL || self.0 >> 62 == colour as u64
+        self == Word::NULL || self.0 >> 30 == colour as u32
     }
 }
 
@@ -131,20 +131,19 @@ struct Reference {
 struct Cell {
     /// The number of the object, or 0 where the cell is free.
     no: u32,
-    count: u32,
+    count: u8,
     fields: [Word; FIELDS],
     reference: Option<Reference>,
     /// Where the reference behind it in its chain lies.
     link: Option<u32>,
     holds: u64,
-    _rest: [u64; 5],
 }
 
-const _: () = assert!(size_of::<Cell>() == 160);
+const _: () = assert!(size_of::<Cell>() == 80);
 
 impl Cell {
     const FREE: Cell =
-        Cell { no: 0, count: 0, fields: [Word::NULL; FIELDS], reference: None, link: None, holds: 0, _rest: [0; 5] };
+        Cell { no: 0, count: 0, fields: [Word::NULL; FIELDS], reference: None, link: None, holds: 0 };
 
     fn field(&self, field: u32) -> Option<Word> {
         let fields = self.fields.get(..self.count as usize)?;
@@ -367,7 +366,7 @@ impl Heap {
         self.last += 1;
         self.count += 1;
         self.list(self.last, place as u32);
-        self.cells[place] = Cell { no: self.last, count: fields, reference, ..Cell::FREE };
+        self.cells[place] = Cell { no: self.last, count: fields as u8, reference, ..Cell::FREE };
         self.slots[into] = Word::of(self.good, place);
         Ok(self.last)
     }

@@ -1,5 +1,6 @@
 //! A queue, call by call.
 
+mod batches;
 mod memory;
 mod stories;
 

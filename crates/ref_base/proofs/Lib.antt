@@ -1,4 +1,5 @@
 pub mod Common
+pub mod FilledLemmas
 pub mod HasLaws
 pub mod PathLaws
 pub mod WorkedTraces

@@ -2,6 +2,7 @@ pub mod Limits
 pub mod Faults
 pub mod Texts
 pub mod Members
+pub mod Filled
 pub mod Graphs
 pub mod Paths
 pub mod Strengths
@@ -18,6 +19,7 @@ pub mod KeptPaths
 pub mod DoomedSets
 pub mod LeavingEdges
 pub mod QueueLists
+pub mod Outs
 pub mod Heaps
 pub mod Orderly
 pub mod Worlds

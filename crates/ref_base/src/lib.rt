@@ -4,6 +4,7 @@
 #![tactic(auto)]
 
 mod actor;
+mod batch;
 mod cause;
 mod config;
 mod fault;
@@ -11,7 +12,10 @@ mod graph;
 mod heap_step;
 pub mod laws;
 mod limits;
+mod nos;
 mod numbers;
+mod out;
+mod outs;
 mod parcel;
 mod phase;
 mod plain_step;
@@ -30,13 +34,17 @@ mod urgency;
 mod words;
 
 pub use actor::Actor;
+pub use batch::Batch;
 pub use cause::Cause;
 pub use config::Config;
 pub use fault::Fault;
 pub use graph::Graph;
 pub use heap_step::{HeapStep, HoldName};
-pub use limits::{MOST_FIELDS, SLOTS};
+pub use limits::{MOST_FIELDS, MOST_IN_BATCH, SLOTS};
+pub use nos::Nos;
 pub use numbers::{MutNo, ObjNo, QueueNo, SlotNo, WorkerNo};
+pub use out::{Done, Out};
+pub use outs::Outs;
 pub use parcel::Parcel;
 pub use phase::Phase;
 pub use plain_step::PlainStep;

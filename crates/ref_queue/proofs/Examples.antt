@@ -14,20 +14,20 @@ use Rattle.ref_queue.specs.declared.queue.Polled.TheVariants.{Took, Empty, Close
 -- ---- queues
 
 -- a parcel: the object that it reports, and its queue
-abbrev Slip : Type 0
+abbrev pub Slip : Type 0
 Slip = ℕ × ℕ
 
-abbrev object_of : Slip → ℕ
+abbrev pub object_of : Slip → ℕ
 object_of slip = slip.0
 
-abbrev queue_of : Slip → ℕ
+abbrev pub queue_of : Slip → ℕ
 queue_of slip = slip.1
 
 -- queue 1, out of which 7 was taken, and in which 8 stands
-abbrev one_stands : Lists Slip
+abbrev pub one_stands : Lists Slip
 one_stands = record { queue = 1; taken = 7 ∷ []; stands = (8, 1) ∷ []; closed = false }
 
-abbrev closed_queue : Lists Slip
+abbrev pub closed_queue : Lists Slip
 closed_queue = record one_stands { closed = true }
 
 it_is_added : AnswersPut object_of queue_of one_stands (9, 1) (Ok (Added 2))

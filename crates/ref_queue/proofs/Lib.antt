@@ -1,3 +1,5 @@
 pub mod QueueLemmas
+pub mod BatchLemmas
 pub mod TableLemmas
-mod Examples
+pub mod Examples
+mod BatchExamples

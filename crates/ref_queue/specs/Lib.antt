@@ -1,3 +1,4 @@
 pub mod QueueViews
 pub mod QueueAnswers
 pub mod CleanTables
+pub mod QueueBatches

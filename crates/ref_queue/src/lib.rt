@@ -13,4 +13,4 @@ mod queue;
 
 pub use clean_table::CleanTable;
 pub use job::{Action, Job, Ran};
-pub use queue::{Polled, Put, Queue};
+pub use queue::{Polled, PolledBatch, Put, Queue};

@@ -1,9 +1,9 @@
 //! The queue, and what its calls answer.
 
-ghost use Rattle.std.specs.Prelude.{◌≡◌, [], map, not, nat_eq, true, false, IfOk, OnErr};
+ghost use Rattle.std.specs.Prelude.{◌≡◌, ◌+◌, ◌≤◌, ◌<◌, ◌++◌, [], length, map, not, nat_eq, true, false, IfOk, OnErr};
 
 use indexmap::IndexSet;
-use ref_base::{Fault, ObjNo, Parcel, QueueNo};
+use ref_base::{Batch, Done, Fault, Nos, ObjNo, Outs, Parcel, QueueNo};
 use std::alloc::{Allocator, Global};
 use std::collections::VecDeque;
 use std::hash::{BuildHasherDefault, FoldHasher};
@@ -25,6 +25,17 @@ pub enum Put<T> {
 pub enum Polled<T> {
     /// The first that stood.
     Took(T),
+    /// Nothing stands, and something may come yet.
+    Empty,
+    /// Nothing stands, and nothing comes any more.
+    Closed,
+}
+
+/// What a poll of several answers.
+#[derive(Clone, Copy, Debug, PartialEq, Eq)]
+pub enum PolledBatch {
+    /// The numbers of the first that stood.
+    Took(Nos),
     /// Nothing stands, and something may come yet.
     Empty,
     /// Nothing stands, and nothing comes any more.
@@ -59,6 +70,8 @@ impl<T: Parcel, A: Allocator + Copy> Queue<T, A> {
     ghost use Rattle.std.specs.List.{IsDistinct};
     ghost use Rattle.ref_base.specs.QueueLists.{enqueued};
     ghost use Rattle.ref_queue.specs.QueueAnswers.{AnswersPut, after_put, IfTook, AnswersPoll};
+    ghost use Rattle.ref_queue.specs.QueueBatches.{AnswersBatch, after_batch, left_by, are_own, Become, EndsBatch};
+    ghost use Rattle.ref_queue.specs.QueueBatches.{after_each, not_added, Becomes, after_one, come_back, AnswersPolls};
 
     /// The queue of this number, open, with nothing ever put in. Takes no memory.
     pub fn new(alloc: A, queue: QueueNo) -> Self
@@ -122,6 +135,101 @@ impl<T: Parcel, A: Allocator + Copy> Queue<T, A> {
             None if self.is_closed => Polled::Closed,
             None => Polled::Empty,
         }
+    }
+
+    /// Puts the items of a batch in, one after the other, each as `put` does: they are `Added`, `Already` or `Closed`.
+    /// It ends at the first that is refused for want of memory, which is the last that is told; that one and those
+    /// behind it change nothing. What wasn't added stays in the batch, in order. `WrongQueue` where some item names
+    /// another queue: then nothing is done. In expected time of the items, amortized. Only what is added takes memory.
+    ///
+    /// That a collector hands its queues many references at once is as in ZGC; that a batch has at most 32 is this
+    /// project's profile.
+    pub fn put_batch<B: Allocator>(&mut self, batch: &mut Batch<T, B>) -> Result<Outs, Fault>
+        ensures answer { AnswersBatch T.object_of T.queue_of self.old batch.old result }
+        ensures after { self.new ≡ after_batch self.old batch.old result }
+        ensures left { batch.new ≡ left_by batch.old result }
+    {
+        if batch.is_for(self.queue) {
+            Ok(self.put_each(batch))
+        } else {
+            Err(Fault::WrongQueue)
+        }
+    }
+
+    // The same, where each item is for this queue.
+    fn put_each<B: Allocator>(&mut self, batch: &mut Batch<T, B>) -> Outs
+        requires { are_own T.object_of T.queue_of self.old batch.old ≡ true }
+        ensures count { result.before ≡ length (enqueued T.object_of self.old) }
+        ensures done { Become T.object_of T.queue_of self.old batch.old result.done }
+        ensures ends { EndsBatch batch.old result.done }
+        ensures after { self.new ≡ after_each self.old batch.old result.done }
+        ensures left { batch.new ≡ not_added batch.old result.done }
+    {
+        let mut outs = Outs::new(self.enqueued.as_slice().len() as u64);
+        let count = batch.len();
+        let mut is_refused = false;
+        for _item in 0..count {
+            if !is_refused {
+                if let Some(item) = batch.take_first() {
+                    let done = self.put_next(item, batch);
+                    outs.push(done);
+                    is_refused = done.is_refused();
+                }
+            }
+        }
+        // What came back stands behind what wasn't tried, and was in front of it.
+        batch.turn(count - outs.len());
+        outs
+    }
+
+    // Puts an item of a batch in. Where it isn't added it goes behind the others.
+    fn put_next<B: Allocator>(&mut self, item: T, batch: &mut Batch<T, B>) -> Done
+        requires own { T.queue_of item ≡ self.old.queue }
+        requires room { length batch.old < 32 }
+        ensures becomes { Becomes T.object_of T.queue_of self.old item result }
+        ensures after { self.new ≡ after_one self.old item result }
+        ensures back { batch.new ≡ batch.old ++ come_back item result }
+    {
+        match self.put(item) {
+            Ok(Put::Added(_position)) => Done::Added,
+            Ok(Put::Already(item)) => {
+                batch.push(item);
+                Done::Already
+            }
+            Ok(Put::Closed(item)) => {
+                batch.push(item);
+                Done::Closed
+            }
+            Err((fault, item)) => {
+                batch.push(item);
+                Done::Refused(fault)
+            }
+        }
+    }
+
+    /// Takes the first that stand, at most so many, into a batch, behind what is in it. In time of what is taken. Takes
+    /// no memory.
+    pub fn poll_batch<B: Allocator>(&mut self, most: usize, batch: &mut Batch<T, B>) -> PolledBatch
+        requires some { 1 ≤ most }
+        requires room { length batch.old + most ≤ 32 }
+        ensures { AnswersPolls T.object_of self.old most batch.old result self.new batch.new }
+    {
+        if self.standing.is_empty() {
+            let is_over = self.is_closed;
+            return if is_over {
+                PolledBatch::Closed
+            } else {
+                PolledBatch::Empty
+            };
+        }
+        let mut numbers = Nos::new();
+        for _item in 0..most {
+            if let Polled::Took(parcel) = self.poll() {
+                numbers.push(parcel.obj());
+                batch.push(parcel);
+            }
+        }
+        PolledBatch::Took(numbers)
     }
 
     /// Closes the queue: no put adds anything from now on. True exactly where it was open. In constant time. Takes no

@@ -43,7 +43,6 @@ pub mod TableSlots
 pub mod HealLemmas
 pub mod HealCells
 pub mod TableMarks
-pub mod FieldLemmas
 mod WordExamples
 mod PageExamples
 mod MoveExamples

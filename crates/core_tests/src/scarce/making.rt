@@ -2,7 +2,7 @@
 
 use super::MOST;
 use rationed::Rationed;
-use ref_base::{Config, Fault, SpanRule};
+use ref_base::{Batch, Config, Fault, SpanRule};
 use ref_clear::Heap;
 use ref_mark::Marker;
 use ref_move::MovingHeap;
@@ -31,7 +31,8 @@ const LATER: Start = Start {
 };
 
 /// What is made, and what it is called.
-const EACH: [(&str, Made); 13] = [
+const EACH: [(&str, Made); 14] = [
+    ("Batch::new", Made::Batch),
     ("Worklist::new", Made::Worklist),
     ("Pages::new", Made::Pages),
     ("Table::new", Made::Table),
@@ -49,6 +50,7 @@ const EACH: [(&str, Made); 13] = [
 
 #[derive(Clone, Copy)]
 enum Made {
+    Batch,
     Worklist,
     Pages,
     Table,
@@ -67,6 +69,7 @@ enum Made {
 /// Makes it, and drops it again.
 fn make<A: Allocator + Copy>(alloc: A, made: Made) -> Result<(), Fault> {
     match made {
+        Made::Batch => drop(Batch::<u32, A>::new(alloc)?),
         Made::Worklist => drop(Worklist::new(alloc, 3).map_err(|_| Fault::NoMemory)?),
         Made::Pages => drop(Pages::new(alloc, 2, 7).map_err(|_| Fault::NoMemory)?),
         Made::Table => drop(Table::new(alloc, 65, 32, 7)?),

@@ -1,5 +1,5 @@
 use Rattle.ref_space.proofs.Common.{arith, length-take-le}
-use Rattle.ref_space.proofs.FieldLemmas.{take-pushed}
+use Rattle.ref_base.proofs.FilledLemmas.{take-pushed}
 use Rattle.ref_space.proofs.fields.Fields.push.Goals as goal
 
 pub returns : goal.returns

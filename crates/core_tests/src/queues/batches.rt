@@ -1,0 +1,200 @@
+//! Batches that a queue takes and gives.
+
+use super::{Slip, of};
+use crate::scarce::MOST;
+use rationed::Rationed;
+use ref_base::{Batch, Fault, MOST_IN_BATCH, Nos, ObjNo, Out, Outs, QueueNo};
+use ref_queue::{PolledBatch, Queue};
+use std::alloc::{Allocator, Global};
+use std::process::Abort;
+use std::test::Fail;
+
+/// A batch of these slips.
+fn batch_of(alloc: Global, slips: &[Slip]) -> Result<Batch<Slip>, Fault> {
+    let mut batch = Batch::new(alloc)?;
+    for slip in slips {
+        if batch.len() < MOST_IN_BATCH {
+            batch.push(*slip);
+        }
+    }
+    Ok(batch)
+}
+
+/// The batch has just these slips, in order: they are taken out.
+fn holds(rt: &impl Abort, batch: &mut Batch<Slip>, slips: &[Slip]) {
+    for (place, slip) in slips.iter().enumerate() {
+        assert_eq!(rt; batch.take_first(), Some(*slip), "item {place}");
+    }
+    assert_eq!(rt; batch.take_first(), None);
+}
+
+/// These became of the items, and of no more.
+fn tell(rt: &impl Abort, outs: Outs, want: &[Out]) {
+    for (place, out) in want.iter().enumerate() {
+        assert_eq!(rt; outs.get(place), Some(*out), "item {place}");
+    }
+    assert_eq!(rt; outs.len(), want.len());
+}
+
+/// A poll of at most so many takes these, and no more.
+fn takes<A: Allocator + Copy>(
+    rt: &impl Abort,
+    alloc: Global,
+    queue: &mut Queue<Slip, A>,
+    most: usize,
+    slips: &[Slip],
+) -> Result<(), Fail> {
+    let mut batch = Batch::new(alloc)?;
+    if 1 <= most && most <= MOST_IN_BATCH {
+        match queue.poll_batch(most, &mut batch) {
+            PolledBatch::Took(numbers) => {
+                assert_eq!(rt; numbers.as_slice().len(), slips.len());
+                for (place, slip) in slips.iter().enumerate() {
+                    assert_eq!(rt; numbers.as_slice().get(place), Some(&ObjNo(slip.object)));
+                }
+            }
+            PolledBatch::Empty | PolledBatch::Closed => assert!(rt; slips.is_empty(), "it takes"),
+        }
+    }
+    holds(rt, &mut batch, slips);
+    Ok(())
+}
+
+#[test]
+fn items_go_in_one_by_one_and_come_out_in_order(rt: HostRuntime) -> Result<(), Fail> {
+    let mut queue = Queue::new(rt.alloc(), QueueNo(0));
+    let _first = queue.put(of(7));
+    let mut batch = batch_of(rt.alloc(), &[of(7), of(3), of(9), of(3)])?;
+    let outs = queue.put_batch(&mut batch)?;
+    let told = [Out::Already, Out::Added(1), Out::Added(2), Out::Already];
+    tell(&rt, outs, &told);
+    holds(&rt, &mut batch, &[of(7), of(3)]);
+    takes(&rt, rt.alloc(), &mut queue, 2, &[of(7), of(3)])?;
+    takes(&rt, rt.alloc(), &mut queue, 32, &[of(9)])?;
+    takes(&rt, rt.alloc(), &mut queue, 1, &[])?;
+    // Nothing is told of an empty batch.
+    tell(&rt, queue.put_batch(&mut batch)?, &[]);
+    Ok(())
+}
+
+#[test]
+fn polled_items_stand_behind_those_of_the_batch(rt: HostRuntime) -> Result<(), Fail> {
+    let mut queue = Queue::new(rt.alloc(), QueueNo(0));
+    let _first = queue.put(of(7));
+    let _second = queue.put(of(3));
+    let mut batch = batch_of(rt.alloc(), &[of(9)])?;
+    if batch.len() < MOST_IN_BATCH {
+        let polled = queue.poll_batch(1, &mut batch);
+        assert!(rt; matches!(polled, PolledBatch::Took(_)), "one is taken");
+    }
+    holds(&rt, &mut batch, &[of(9), of(7)]);
+    Ok(())
+}
+
+#[test]
+fn a_closed_queue_takes_no_batch_and_gives_what_stands(rt: HostRuntime) -> Result<(), Fail> {
+    let mut queue = Queue::new(rt.alloc(), QueueNo(0));
+    let _first = queue.put(of(7));
+    assert_eq!(rt; queue.poll_batch(1, &mut Batch::new(rt.alloc())?), took(7));
+    assert_eq!(rt;
+        queue.poll_batch(1, &mut Batch::new(rt.alloc())?),
+        PolledBatch::Empty
+    );
+    queue.close();
+    let mut batch = batch_of(rt.alloc(), &[of(4), of(7), of(5)])?;
+    let outs = queue.put_batch(&mut batch)?;
+    tell(&rt, outs, &[Out::Closed, Out::Already, Out::Closed]);
+    holds(&rt, &mut batch, &[of(4), of(7), of(5)]);
+    assert_eq!(rt;
+        queue.poll_batch(1, &mut Batch::new(rt.alloc())?),
+        PolledBatch::Closed
+    );
+    Ok(())
+}
+
+/// What a poll answers that took this one.
+fn took(object: u32) -> PolledBatch {
+    let mut numbers = Nos::new();
+    numbers.push(ObjNo(object));
+    PolledBatch::Took(numbers)
+}
+
+#[test]
+fn a_batch_with_an_item_for_another_queue_comes_back_whole(rt: HostRuntime) -> Result<(), Fail> {
+    let stray = Slip {
+        object: 8,
+        queue: 1,
+    };
+    let mut queue = Queue::new(rt.alloc(), QueueNo(0));
+    let mut batch = batch_of(rt.alloc(), &[of(3), stray, of(9)])?;
+    assert_eq!(rt; queue.put_batch(&mut batch), Err(Fault::WrongQueue));
+    holds(&rt, &mut batch, &[of(3), stray, of(9)]);
+    takes(&rt, rt.alloc(), &mut queue, 32, &[])
+}
+
+/// So many items are put in for the first time: more than the room that a queue takes first.
+const NEW: usize = 24;
+
+/// An item that was put in before, and then new ones.
+fn one_old_and_new(alloc: Global) -> Result<Batch<Slip>, Fault> {
+    let mut batch = batch_of(alloc, &[of(0)])?;
+    for object in 1..NEW + 1 {
+        if batch.len() < MOST_IN_BATCH {
+            batch.push(of(object as u32));
+        }
+    }
+    Ok(batch)
+}
+
+/// The old item is told as such, and each that was added behind those of before, from this position on, but the last
+/// where it was refused. How many were added.
+fn added(rt: &impl Abort, outs: Outs, before: usize, is_refused: bool) -> usize {
+    assert_eq!(rt; outs.get(0), Some(Out::Already));
+    let count = outs.len().saturating_sub(1 + usize::from(is_refused));
+    for place in 1..count.saturating_add(1) {
+        let position = before.saturating_add(place).saturating_sub(1) as u64;
+        assert_eq!(rt; outs.get(place), Some(Out::Added(position)), "item {place}");
+    }
+    if is_refused {
+        let last = outs.get(count.saturating_add(1));
+        assert_eq!(rt; last, Some(Out::Refused(Fault::NoMemory)));
+    }
+    count
+}
+
+/// Puts such a batch in with so many requests for memory met, and what is left of it once more with all met: what was
+/// refused and what wasn't tried goes in then, in order. Whether a request was refused.
+fn put_with(rt: &impl Abort, alloc: Global, met: u64) -> Result<bool, Fail> {
+    let memory = Rationed::new(alloc);
+    let mut queue = Queue::new(&memory, QueueNo(0));
+    let _first = queue.put(of(0));
+    let mut batch = one_old_and_new(alloc)?;
+    memory.ration(met);
+    let outs = queue.put_batch(&mut batch)?;
+    let was_refused = memory.lift();
+    let first = added(rt, outs, 1, was_refused);
+    let again = added(
+        rt,
+        queue.put_batch(&mut batch)?,
+        first.saturating_add(1),
+        false,
+    );
+    assert_eq!(rt; first.saturating_add(again), NEW, "all are added");
+    holds(rt, &mut batch, &[of(0)]);
+    for object in 0..NEW + 1 {
+        takes(rt, alloc, &mut queue, 1, &[of(object as u32)])?;
+    }
+    Ok(was_refused)
+}
+
+#[test]
+fn a_batch_ends_at_the_first_item_that_finds_no_memory(rt: HostRuntime) -> Result<(), Fail> {
+    for met in 0..MOST {
+        if !put_with(&rt, rt.alloc(), met)? {
+            assert!(rt; 1 < met, "it asks for memory more than once");
+            return Ok(());
+        }
+    }
+    assert!(rt; false, "a request is refused each time");
+    Ok(())
+}
