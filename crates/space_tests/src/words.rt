@@ -85,12 +85,14 @@ const PLACES: [(u32, u32, u64); 7] = [
     (0, 9, 0xc000_0000_0000_0240),
     (64, 7, 0xc000_0000_0000_01c0),
     (133, u32::MAX, 0xc000_003f_ffff_ffc5),
-    (u32::MAX - 64, 1, 0xc000_0000_0000_007f),
+    ((1 << 30) - 65, 1, 0xc000_0000_0000_007f),
 ];
 
 #[test]
 fn a_word_leads_to_a_place(rt: HostRuntime) {
     for (row, &(place, _, _)) in PLACES.iter().enumerate() {
+        // Which `of_place` asks of its callers.
+        assert!(rt; place < (1 << 30) - 64, "row {row}");
         for colour in [Colour::A, Colour::B, Colour::R] {
             let word = Word::of_place(colour, place);
             assert_eq!(rt; word.place(), Some(u64::from(place)), "row {row}");
@@ -103,6 +105,7 @@ fn a_word_leads_to_a_place(rt: HostRuntime) {
 #[test]
 fn its_bits_tell_the_address_of_its_page(rt: HostRuntime) {
     for (row, &(place, address, want)) in PLACES.iter().enumerate() {
+        assert!(rt; place < (1 << 30) - 64, "row {row}");
         let word = Word::of_place(Colour::R, place);
         assert_eq!(rt; word.bits_at(address), want, "row {row}");
         let in_a = word.in_colour(Colour::A);
