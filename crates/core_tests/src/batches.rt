@@ -61,7 +61,7 @@ fn numbers(count: u32) -> Nos {
 
 #[test]
 fn numbers_stand_in_order(rt: HostRuntime) {
-    assert_eq!(rt; numbers(0).as_slice(), [].as_slice());
+    assert!(rt; numbers(0).as_slice().is_empty());
     assert_eq!(rt; numbers(2).as_slice(), [ObjNo(1), ObjNo(2)].as_slice());
     assert_eq!(rt; numbers(40).as_slice().len(), 32);
     assert_eq!(rt; numbers(40).as_slice().last(), Some(&ObjNo(32)));
