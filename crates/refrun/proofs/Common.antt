@@ -59,9 +59,9 @@ pub use Rattle.refrun.specs.TextFaults.{Declarations, Place, Steps, end_fault, f
 pub use Rattle.refrun.specs.TextFaults.{place_after, place_fault, plain_fault, script_fault}
 pub use Rattle.refrun.specs.ToldLines.{is_plain_line, line_words, says_nothing, told}
 pub use Rattle.refrun.specs.Traces.{TellsRun, trace_text}
-pub use Rattle.refrun.specs.declared.fault.LineFault.{LineFault}
-pub use Rattle.refrun.specs.declared.fault.LineFault.TheVariants.{BadWord, DoubleObject, ExtraWord, MissingWord}
-pub use Rattle.refrun.specs.declared.fault.TextFault.{TextFault}
+pub use Rattle.ref_text.specs.declared.fault.LineFault.{LineFault}
+pub use Rattle.ref_text.specs.declared.fault.LineFault.TheVariants.{BadWord, DoubleObject, ExtraWord, MissingWord}
+pub use Rattle.ref_text.specs.declared.fault.TextFault.{TextFault}
 pub use Rattle.refrun.specs.declared.roles.Shared.{Shared}
 pub use Rattle.refrun.specs.declared.script_step.ScriptReply.{ScriptReply}
 pub use Rattle.refrun.specs.declared.script_step.ScriptRow.{ScriptRow}

@@ -8,8 +8,8 @@ use Rattle.refrun.proofs.Common.{ℕ, Config}
 use Rattle.ref_base.specs.declared.span_rule.SpanRule.{SpanRule}
 use Rattle.ref_base.specs.declared.span_rule.SpanRule.TheVariants.{Fixed, Scaled}
 use Rattle.refrun.specs.Versions.{header_rule, is_in_version}
-use Rattle.refrun.specs.declared.fault.LineFault.TheVariants.{UnknownStep, BadHeader, BadConfig, UnknownLine}
-use Rattle.refrun.specs.declared.fault.TextFault.TheVariants.{Line}
+use Rattle.ref_text.specs.declared.fault.LineFault.TheVariants.{UnknownStep, BadHeader, BadConfig, UnknownLine}
+use Rattle.ref_text.specs.declared.fault.TextFault.TheVariants.{Line}
 use Rattle.ref_base.specs.declared.step.Step.TheVariants as steps
 use Rattle.refrun.specs.declared.script_step.ScriptStep.TheVariants as scripts
 use Rattle.ref_base.specs.declared.strength.Strength.TheVariants as strengths

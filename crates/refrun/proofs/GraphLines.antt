@@ -10,7 +10,7 @@ use Rattle.ref_base.specs.Graphs.{Object, empty_graph, is_there, with_object, re
 use Rattle.refrun.specs.GraphReading.{AreNumbersOf, has_object, AddsObject, AddsDeclared, AddsAll, FailsAfter}
 use Rattle.refrun.proofs.DeclaredSpelt.{declared_without_fault, number_of_words}
 use Rattle.refrun.proofs.LineLemmas.{onsome_before}
-use Rattle.refrun.specs.declared.fault.TextFault.TheVariants as texts
+use Rattle.ref_text.specs.declared.fault.TextFault.TheVariants as texts
 
 -- ---- the numbers of a graph's objects
 

@@ -17,7 +17,6 @@ pub mod FaultLaws
 pub mod JobLemmas
 pub mod TraceLemmas
 pub mod ListingLemmas
-pub mod WriteLemmas
 pub mod ReadLemmas
 pub mod ListChecks
 pub mod NoEvidence

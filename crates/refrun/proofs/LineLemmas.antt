@@ -5,7 +5,7 @@ use Rattle.refrun.proofs.Common.{lines_of, Place, place_after, place_fault, faul
 use Rattle.refrun.proofs.Common.{is_plain_line, says_nothing, line_words, told, FailsFor, LineFault, TextFault}
 use Rattle.refrun.proofs.Common.{end_fault}
 use Rattle.std.proofs.lemmas.Bool.{false≢true}
-use Rattle.refrun.specs.declared.fault.TextFault.TheVariants as texts
+use Rattle.ref_text.specs.declared.fault.TextFault.TheVariants as texts
 
 -- a text's lines have the fault of a line and no other
 is_of_line : Option TextFault → Bool

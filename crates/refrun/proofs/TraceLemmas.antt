@@ -1,6 +1,6 @@
 -- The text of a trace so far, and the trace that a script's text prints.
 use Rattle.refrun.proofs.Common.{◌≡◌, ℕ, ◌+◌, ◌<◌, ◌≤◌, List, [], ◌∷◌, ◌++◌, length, take, get_or, Option, Some, None}
-use Rattle.refrun.proofs.Common.{codes, refl, sym, ap, subst, ◌∙◌, append_assoc, arith, length-map, take_more, le-leb}
+use Rattle.refrun.proofs.Common.{refl, sym, ap, subst, ◌∙◌, append_assoc, arith, length-map, take_more, le-leb}
 use Rattle.refrun.proofs.Common.{State, first_state, Config, Fault, Core, Stands, StageJobs, first_jobs, IsScriptRun}
 use Rattle.refrun.proofs.Common.{IsScriptRowOf, IsScript, lines_of, most_bytes, trace_text, TellsRun, ScriptReply}
 use Rattle.refrun.proofs.Common.{ScriptRow, ScriptStep}
@@ -10,9 +10,9 @@ use Rattle.ref_base.specs.declared.span_rule.SpanRule.{SpanRule}
 use Rattle.std.specs.Option.{IfSome}
 use Rattle.refrun.proofs.Common.{Err}
 use Rattle.refrun.specs.Answers.{AnswersText}
-use Rattle.refrun.specs.Streams.{AppendsPrefix}
-use Rattle.refrun.specs.declared.fault.TextFault.{TextFault}
-use Rattle.refrun.specs.declared.fault.TextFault.TheVariants.{CannotWrite}
+use Rattle.ref_text.specs.Streams.{AppendsPrefix}
+use Rattle.ref_text.specs.declared.fault.TextFault.{TextFault}
+use Rattle.ref_text.specs.declared.fault.TextFault.TheVariants.{CannotWrite}
 use Rattle.refrun.specs.Scripts.{AreScript}
 use Rattle.refrun.specs.Versions.{trace_title}
 use Rattle.refrun.specs.Traces.{PrintsTrace, numbered, script_steps_of, TellsTrace}

@@ -1,9 +1,9 @@
 -- What an answer says, whatever the text that was read is to print.
 use Rattle.std.specs.Prelude.{◌≡◌, ℕ, Bool, true, false, List, Option, Some, Result, Ok, Err, ◌⊎◌}
 use Rattle.std.specs.Io.KnownBytes.{Keeps, Appends}
-use Rattle.refrun.specs.Streams.{AppendsPrefix}
-use Rattle.refrun.specs.declared.fault.TextFault.{TextFault}
-use Rattle.refrun.specs.declared.fault.TextFault.TheVariants.{Line, TooLong, CannotRead, CannotWrite, NoMemory}
+use Rattle.ref_text.specs.Streams.{AppendsPrefix}
+use Rattle.ref_text.specs.declared.fault.TextFault.{TextFault}
+use Rattle.ref_text.specs.declared.fault.TextFault.TheVariants.{Line, TooLong, CannotRead, CannotWrite, NoMemory}
 
 -- What an answer says of the text that was read, by what it prints where it has no fault and by its fault where it has
 -- one, and of what had gone out before the call and has now.

@@ -4,9 +4,9 @@ use Rattle.std.specs.Prelude.{length, take, Option, Some, None, codes}
 use Rattle.std.specs.List.{list_all}
 use Rattle.std.specs.Str.{bytes_eq}
 use Rattle.refrun.specs.Numerals.{number_below}
-use Rattle.refrun.specs.declared.fault.LineFault.{LineFault}
-use Rattle.refrun.specs.declared.fault.LineFault.TheVariants.{UnknownLine, MissingWord, BadWord, ExtraWord}
-use Rattle.refrun.specs.declared.fault.LineFault.TheVariants.{DoubleObject}
+use Rattle.ref_text.specs.declared.fault.LineFault.{LineFault}
+use Rattle.ref_text.specs.declared.fault.LineFault.TheVariants.{UnknownLine, MissingWord, BadWord, ExtraWord}
+use Rattle.ref_text.specs.declared.fault.LineFault.TheVariants.{DoubleObject}
 
 -- how many words are wanted behind the name of a line, and how many more may stand there
 pub record Wanted : Type 0 where

@@ -7,8 +7,8 @@ use Rattle.refrun.specs.declared.declarations.Declaration.{Declaration}
 use Rattle.refrun.specs.declared.declarations.Declaration.TheVariants as lines
 use Rattle.refrun.specs.declared.declarations.Unread.{Unread}
 use Rattle.refrun.specs.declared.declarations.Unread.TheVariants.{Faulty, NoMemory}
-use Rattle.refrun.specs.declared.fault.LineFault.{LineFault}
-use Rattle.refrun.specs.declared.fault.LineFault.TheVariants.{BadWord}
+use Rattle.ref_text.specs.declared.fault.LineFault.{LineFault}
+use Rattle.ref_text.specs.declared.fault.LineFault.TheVariants.{BadWord}
 
 -- what a line of the program says
 abbrev pub declared_by : {A : Type 0} → Declaration A → Declared

@@ -6,7 +6,7 @@ use Rattle.refrun.specs.Declarations.{Declared, SpellsDeclared, declared_no, Non
 use Rattle.refrun.specs.GraphTexts.{SpellAll}
 use Rattle.refrun.specs.LineReading.{FailsFor}
 use Rattle.refrun.specs.TextFaults.{Declarations, place_fault, fault_or}
-use Rattle.refrun.specs.declared.fault.TextFault.{TextFault}
+use Rattle.ref_text.specs.declared.fault.TextFault.{TextFault}
 
 -- the numbers are those of the graph's objects
 abbrev pub AreNumbersOf : List ℕ → Graph → Type 0

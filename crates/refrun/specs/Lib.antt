@@ -1,4 +1,3 @@
-pub mod ExitStatuses
 pub mod Lines
 pub mod LineViews
 pub mod Numerals
@@ -15,8 +14,6 @@ pub mod GraphTexts
 pub mod TextFaults
 pub mod Versions
 pub mod LineReading
-pub mod Streams
-pub mod Reads
 pub mod Answers
 pub mod JobViews
 pub mod ScriptRuns

@@ -5,8 +5,8 @@ use Rattle.std.specs.List.{list_all}
 use Rattle.refrun.specs.Lines.{TextLine, lines_of, words_of}
 use Rattle.refrun.specs.TextFaults.{Place, place_after, place_fault, end_fault, fault_or, first_fault}
 use Rattle.refrun.specs.ToldLines.{is_plain_line, told}
-use Rattle.refrun.specs.declared.fault.TextFault.{TextFault}
-use Rattle.refrun.specs.declared.fault.TextFault.TheVariants as texts
+use Rattle.ref_text.specs.declared.fault.TextFault.{TextFault}
+use Rattle.ref_text.specs.declared.fault.TextFault.TheVariants as texts
 use Rattle.refrun.specs.declared.told.Told.{Told}
 
 -- want of memory, or the fault of the text

@@ -7,7 +7,7 @@ use Rattle.ref_base.specs.declared.reach.ObjectReach.{ObjectReach}
 use Rattle.refrun.specs.Answers.{AnswersText}
 use Rattle.refrun.specs.GraphTexts.{DeclaresGraph}
 use Rattle.refrun.specs.TextFaults.{graph_fault}
-use Rattle.refrun.specs.declared.fault.TextFault.{TextFault}
+use Rattle.ref_text.specs.declared.fault.TextFault.{TextFault}
 
 -- the line of an object: its number, a space, and the name of its strength
 abbrev pub listing_line : ObjectReach → List ℕ

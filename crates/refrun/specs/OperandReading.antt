@@ -6,8 +6,8 @@ use Rattle.refrun.specs.Lines.{words_of}
 use Rattle.refrun.specs.Spelling.{AreSpelt}
 use Rattle.refrun.specs.StepFaults.{fits}
 use Rattle.refrun.specs.StepForms.{Operand, Form, operands_in}
-use Rattle.refrun.specs.declared.fault.LineFault.{LineFault}
-use Rattle.refrun.specs.declared.fault.LineFault.TheVariants.{MissingWord, BadWord, ExtraWord}
+use Rattle.ref_text.specs.declared.fault.LineFault.{LineFault}
+use Rattle.ref_text.specs.declared.fault.LineFault.TheVariants.{MissingWord, BadWord, ExtraWord}
 use Rattle.refrun.specs.declared.operands.Operands.{Operands}
 
 -- the words that are left, whether one was missing, and whether one wasn't of its form

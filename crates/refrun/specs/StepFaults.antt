@@ -5,8 +5,8 @@ use Rattle.std.specs.Str.{bytes_eq}
 use Rattle.refrun.specs.Numerals.{number_below, number_behind}
 use Rattle.refrun.specs.StepForms.{Operand, Slot, Queue, QueueOrNone, Number, Clock, UrgencyName, operands_in}
 use Rattle.refrun.specs.StepForms.{forms_of_letter, turn_forms}
-use Rattle.refrun.specs.declared.fault.LineFault.{LineFault}
-use Rattle.refrun.specs.declared.fault.LineFault.TheVariants.{UnknownStep, MissingWord, BadWord, ExtraWord}
+use Rattle.ref_text.specs.declared.fault.LineFault.{LineFault}
+use Rattle.ref_text.specs.declared.fault.LineFault.TheVariants.{UnknownStep, MissingWord, BadWord, ExtraWord}
 
 -- the word is of the operand's form
 abbrev pub fits : Operand → List ℕ → Bool

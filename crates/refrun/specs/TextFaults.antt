@@ -14,10 +14,10 @@ use Rattle.refrun.specs.Scripts.{config_of}
 use Rattle.refrun.specs.StepFaults.{step_fault}
 use Rattle.refrun.specs.ToldLines.{is_short, says_nothing, line_words}
 use Rattle.refrun.specs.Versions.{header_rule, is_in_version}
-use Rattle.refrun.specs.declared.fault.LineFault.{LineFault}
-use Rattle.refrun.specs.declared.fault.LineFault.TheVariants.{LineTooLong, NotAscii, BadHeader, BadConfig}
-use Rattle.refrun.specs.declared.fault.TextFault.{TextFault}
-use Rattle.refrun.specs.declared.fault.TextFault.TheVariants as texts
+use Rattle.ref_text.specs.declared.fault.LineFault.{LineFault}
+use Rattle.ref_text.specs.declared.fault.LineFault.TheVariants.{LineTooLong, NotAscii, BadHeader, BadConfig}
+use Rattle.ref_text.specs.declared.fault.TextFault.{TextFault}
+use Rattle.ref_text.specs.declared.fault.TextFault.TheVariants as texts
 
 -- what is wanted of the next line that says something: of a script its header, its configuration, behind a header that
 -- named this rule of the span, or a step; of a graph text its header, or a declaration where the objects of these

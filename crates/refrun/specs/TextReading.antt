@@ -2,8 +2,8 @@
 use Rattle.std.specs.Prelude.{◌≡◌, ℕ, List, ◌++◌, length, Option, Some, Result, Ok, Err, Vec}
 use Rattle.std.specs.Io.KnownBytes.{Consumes, IsAtEnd}
 use Rattle.refrun.specs.TextFaults.{Place, fault_at}
-use Rattle.refrun.specs.declared.fault.TextFault.{TextFault}
-use Rattle.refrun.specs.declared.fault.TextFault.TheVariants.{Line, TooLong, CannotRead, CannotWrite, NoMemory}
+use Rattle.ref_text.specs.declared.fault.TextFault.{TextFault}
+use Rattle.ref_text.specs.declared.fault.TextFault.TheVariants.{Line, TooLong, CannotRead, CannotWrite, NoMemory}
 
 -- what reading answers of the text that was there to read
 abbrev pub ReadsText : {A : Type 0} → List ℕ → Result (Vec ℕ A) TextFault → Type 0

@@ -11,7 +11,7 @@ use Rattle.refrun.specs.ScriptSteps.{script_row_text}
 use Rattle.refrun.specs.Scripts.{IsScript}
 use Rattle.refrun.specs.TextFaults.{script_fault}
 use Rattle.refrun.specs.Versions.{trace_title}
-use Rattle.refrun.specs.declared.fault.TextFault.{TextFault}
+use Rattle.ref_text.specs.declared.fault.TextFault.{TextFault}
 use Rattle.refrun.specs.declared.script_step.ScriptRow.{ScriptRow}
 use Rattle.refrun.specs.declared.script_step.ScriptStep.{ScriptStep}
 

@@ -9,11 +9,11 @@ ghost use Rattle.refrun.specs.DeclarationFaults.{is_object, is_object_or_none, w
 ghost use Rattle.refrun.specs.DeclarationViews.{declared_by, FailsBy, ReadsFields, IsBadField};
 ghost use Rattle.refrun.specs.Lines.{words_of};
 
-use crate::fault::LineFault;
 use crate::lines::next_word;
 use crate::numerals::short_number;
 use crate::operands::{ends, operand};
 use ref_base::{MOST_FIELDS, ObjNo, Strength};
+use ref_text::LineFault;
 use std::alloc::{AllocFailed, Allocator};
 
 /// What a line of a graph text says.

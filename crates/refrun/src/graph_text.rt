@@ -11,9 +11,9 @@ ghost use Rattle.refrun.specs.TextFaults.{GraphHeader, Declarations, first_fault
 ghost use Rattle.refrun.specs.ToldLines.{is_plain_line, told};
 
 use crate::declarations::{Declaration, Unread, declaration_of};
-use crate::fault::{LineFault, TextFault};
 use crate::told::{is_titled, next_told};
 use ref_base::{Fault, Graph};
+use ref_text::{LineFault, TextFault};
 use std::alloc::Allocator;
 
 /// The graph that a text declares, or the fault of its first faulty line.

@@ -3,7 +3,6 @@
 
 mod declarations;
 mod evidence;
-mod fault;
 mod graph_text;
 mod jobs;
 pub mod laws;
@@ -16,8 +15,6 @@ mod reading;
 mod roles;
 mod script;
 mod script_step;
-mod sink;
-mod source;
 mod steps;
 mod stress_options;
 mod tally;
@@ -27,11 +24,11 @@ mod trace;
 mod version;
 
 pub use evidence::{Evidence, evidence_of};
-pub use fault::{LineFault, TextFault};
 pub use listing::strength_text;
 pub use lists::{Check, check_lists};
-pub use sink::{TextSink, ToWriter, WriteFailed};
-pub use source::{FromReader, ReadError, TextSource};
+pub use ref_text::{
+    FromReader, LineFault, ReadError, TextFault, TextSink, TextSource, ToWriter, WriteFailed,
+};
 pub use stress_options::StressOptions;
 pub use tally::{Counts, Tally};
 pub use threads::{StressLists, stress, stress_lists};

@@ -8,12 +8,10 @@ ghost use Rattle.refrun.specs.Lines.{lines_of, most_bytes};
 ghost use Rattle.refrun.specs.Listings.{AnswersStrengths, ListsStrengths, PrintsStrengths, listing_line, listing_text};
 ghost use Rattle.refrun.specs.TextFaults.{GraphHeader, first_fault, graph_fault};
 
-use crate::fault::TextFault;
 use crate::graph_text::declared_graph;
 use crate::reading::text_of;
-use crate::sink::{TextSink, WriteFailed};
-use crate::source::TextSource;
 use ref_base::{Graph, ObjectReach, strengths};
+use ref_text::{TextFault, TextSink, TextSource, WriteFailed};
 use std::alloc::{AllocError, Allocator};
 
 /// Reads a graph text, and writes how strongly each of its objects is reachable.

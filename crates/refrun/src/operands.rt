@@ -9,11 +9,11 @@ ghost use Rattle.refrun.specs.Numerals.{number_behind};
 ghost use Rattle.refrun.specs.OperandReading.{reading, unread, first_of, behind_first, is_over, fault_at_end, IsRead};
 ghost use Rattle.refrun.specs.StepForms.{Slot, Queue, QueueOrNone, Number, Clock, UrgencyName};
 
-use crate::fault::LineFault;
 use crate::lines::next_word;
 use crate::numerals::{long_number, short_number};
 use crate::script_step::ScriptStep;
 use ref_base::{QueueNo, SlotNo, Urgency};
+use ref_text::LineFault;
 
 /// The next operand, and the line behind it.
 pub fn operand(line: &[u8]) -> Result<(&[u8], &[u8]), LineFault>

@@ -5,8 +5,7 @@ ghost use Rattle.refrun.specs.Answers.{is_cannot_read};
 ghost use Rattle.refrun.specs.Lines.{most_bytes};
 ghost use Rattle.refrun.specs.TextReading.{ReadsText, ReadsMore, IsReadingFault, IsReadingFailure};
 
-use crate::fault::TextFault;
-use crate::source::TextSource;
+use ref_text::{TextFault, TextSource};
 use std::alloc::Allocator;
 
 /// The greatest length of a text, in bytes.

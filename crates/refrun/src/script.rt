@@ -13,7 +13,6 @@ ghost use Rattle.refrun.specs.TextFaults.{ScriptHeader, Steps, fault_or, first_f
 ghost use Rattle.refrun.specs.ToldLines.{is_plain_line, told};
 ghost use Rattle.refrun.specs.declared.script_step.ScriptStep.{ScriptStep};
 
-use crate::fault::{LineFault, TextFault};
 use crate::lines::next_word;
 use crate::numerals::{long_number, short_number};
 use crate::script_step::ScriptStep;
@@ -21,6 +20,7 @@ use crate::steps::step_of;
 use crate::told::next_told;
 use crate::version::{header_rule, is_in_version};
 use ref_base::{Config, SpanRule};
+use ref_text::{LineFault, TextFault};
 use std::alloc::Allocator;
 
 /// What a script says.

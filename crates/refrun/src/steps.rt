@@ -12,11 +12,11 @@ ghost use Rattle.refrun.specs.StepForms.{operands_in, forms_of_letter, job_forms
 ghost use Rattle.refrun.specs.StepForms.{reference_forms, notice_forms, worker_forms, turn_forms};
 ghost use Rattle.refrun.specs.StepForms.{Slot, QueueOrNone, Number};
 
-use crate::fault::LineFault;
 use crate::lines::next_word;
 use crate::operands::Operands;
 use crate::script_step::ScriptStep;
 use ref_base::{Actor, MutNo, PlainStep, Step, Strength, WorkerNo};
+use ref_text::LineFault;
 
 /// The step that a line spells, or the first of its faults by kind.
 pub fn step_of(line: &[u8]) -> Result<ScriptStep, LineFault>

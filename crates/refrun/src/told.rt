@@ -9,8 +9,8 @@ ghost use Rattle.refrun.specs.LineViews.{line_of};
 ghost use Rattle.refrun.specs.TextFaults.{Place, plain_fault, first_fault};
 ghost use Rattle.refrun.specs.ToldLines.{begins_remark, says_nothing, is_titled};
 
-use crate::fault::{LineFault, TextFault};
 use crate::lines::{Line, next_line, next_word};
+use ref_text::{LineFault, TextFault};
 
 /// A line that says something, where one is left, its number, and the text behind it.
 #[derive(Clone, Copy)]

@@ -10,16 +10,14 @@ ghost use Rattle.refrun.specs.TextFaults.{ScriptHeader, first_fault, script_faul
 ghost use Rattle.refrun.specs.Traces.{AnswersRun, PrintsTrace, TellsRun, TellsTrace};
 ghost use Rattle.refrun.specs.Answers.{KeepsUnlessDone, TellsFault, is_cannot_read, is_cannot_write};
 
-use crate::fault::TextFault;
 use crate::jobs::Stage;
 use crate::reading::text_of;
 use crate::script::{Script, script_of};
 use crate::script_step::{ScriptRow, ScriptStep};
-use crate::sink::{TextSink, WriteFailed};
-use crate::source::TextSource;
 use crate::version::trace_title;
 use ref_base::SpanRule;
 use ref_queue::{CleanTable, Job};
+use ref_text::{TextFault, TextSink, TextSource, WriteFailed};
 use ref_world::World;
 use std::alloc::{AllocError, Allocator};
 

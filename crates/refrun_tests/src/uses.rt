@@ -3,8 +3,8 @@
 ghost use Rattle.std.specs.Prelude.{◌≡◌, true, [], Some};
 ghost use Rattle.std.specs.Io.KnownBytes.{Keeps};
 ghost use Rattle.refrun.specs.Answers.{TellsFault};
-ghost use Rattle.refrun.specs.declared.fault.TextFault.TheVariants.{Line};
-ghost use Rattle.refrun.specs.declared.fault.LineFault.TheVariants.{ExtraWord, NotAscii, MissingWord};
+ghost use Rattle.ref_text.specs.declared.fault.TextFault.TheVariants.{Line};
+ghost use Rattle.ref_text.specs.declared.fault.LineFault.TheVariants.{ExtraWord, NotAscii, MissingWord};
 
 use crate::fakes::ReadsThenFails;
 use ref_base::ObjNo;

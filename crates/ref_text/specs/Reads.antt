@@ -1,9 +1,9 @@
 -- What a read that gave nothing says.
 use Rattle.std.specs.Prelude.{Bool, true, false, Result, Ok, Err}
-use Rattle.refrun.specs.declared.fault.TextFault.{TextFault}
-use Rattle.refrun.specs.declared.fault.TextFault.TheVariants as texts
-use Rattle.refrun.specs.declared.source.ReadError.{ReadError}
-use Rattle.refrun.specs.declared.source.ReadError.TheVariants.{Failed, NoMemory}
+use Rattle.ref_text.specs.declared.fault.TextFault.{TextFault}
+use Rattle.ref_text.specs.declared.fault.TextFault.TheVariants as texts
+use Rattle.ref_text.specs.declared.source.ReadError.{ReadError}
+use Rattle.ref_text.specs.declared.source.ReadError.TheVariants.{Failed, NoMemory}
 
 -- want of memory is no failure of the read
 abbrev pub is_failed_read : {T : Type 0} → Result T ReadError → Bool

@@ -1,5 +1,5 @@
-use Rattle.refrun.proofs.Common.{◌≡◌, ◌-◌, Keeps}
-use Rattle.refrun.proofs.source.FromReaderTextSource.read.Given as goal
+use Rattle.ref_text.proofs.Common.{◌≡◌, ◌-◌, Keeps}
+use Rattle.ref_text.proofs.source.FromReaderTextSource.read.Given as goal
 
 abbrev pub invariant-loop-self : goal.invariant-loop-self
 invariant-loop-self g l = Keeps (g.R.Read.remaining l.fn.self.reader) (g.R.Read.remaining l.self.reader) ×

@@ -63,7 +63,7 @@ pub enum TextFault {
 
 impl From<AllocError> for TextFault {
     ghost use Rattle.std.specs.Prelude.{◌≡◌};
-    ghost use Rattle.refrun.specs.declared.fault.TextFault.TheVariants.{NoMemory};
+    ghost use Rattle.ref_text.specs.declared.fault.TextFault.TheVariants.{NoMemory};
 
     ghost from_gives = { λ _ e. e ≡ NoMemory };
 
@@ -74,7 +74,7 @@ impl From<AllocError> for TextFault {
 
 impl<T: Drop> From<AllocFailed<T>> for TextFault {
     ghost use Rattle.std.specs.Prelude.{◌≡◌};
-    ghost use Rattle.refrun.specs.declared.fault.TextFault.TheVariants.{NoMemory};
+    ghost use Rattle.ref_text.specs.declared.fault.TextFault.TheVariants.{NoMemory};
 
     ghost from_gives = { λ _ e. e ≡ NoMemory };
 
@@ -85,7 +85,7 @@ impl<T: Drop> From<AllocFailed<T>> for TextFault {
 
 impl From<ReadError> for TextFault {
     ghost use Rattle.std.specs.Prelude.{◌≡◌};
-    ghost use Rattle.refrun.specs.Reads.{fault_of_read};
+    ghost use Rattle.ref_text.specs.Reads.{fault_of_read};
 
     ghost from_gives = { λ error e. e ≡ fault_of_read error };
 
@@ -99,7 +99,7 @@ impl From<ReadError> for TextFault {
 
 impl TextFault {
     ghost use Rattle.std.specs.Prelude.{◌≡◌};
-    ghost use Rattle.refrun.specs.ExitStatuses.{exit_status_of};
+    ghost use Rattle.ref_text.specs.ExitStatuses.{exit_status_of};
 
     /// The exit status of a program that ends with this fault: 5 for want of memory, and else 3. Takes no memory.
     pub fn exit_status(self) -> u8

@@ -1,7 +1,7 @@
 -- The exit statuses of the program (this project's profile).
 use Rattle.std.specs.Prelude.{ℕ}
-use Rattle.refrun.specs.declared.fault.TextFault.{TextFault}
-use Rattle.refrun.specs.declared.fault.TextFault.TheVariants.{Line, TooLong, CannotRead, CannotWrite, NoMemory}
+use Rattle.ref_text.specs.declared.fault.TextFault.{TextFault}
+use Rattle.ref_text.specs.declared.fault.TextFault.TheVariants.{Line, TooLong, CannotRead, CannotWrite, NoMemory}
 
 abbrev pub exit_status_of : TextFault → ℕ
 exit_status_of (Line k fault) = 3

@@ -1,6 +1,6 @@
-use Rattle.refrun.proofs.Common.{arith, err_from_is_err_and}
-use Rattle.refrun.proofs.WriteLemmas.{written_more, written_prefix, written_then}
-use Rattle.refrun.proofs.sink.ToWriterTextSink.write_text.Goals as goal
+use Rattle.ref_text.proofs.Common.{arith, err_from_is_err_and}
+use Rattle.ref_text.proofs.WriteLemmas.{written_more, written_prefix, written_then}
+use Rattle.ref_text.proofs.sink.ToWriterTextSink.write_text.Goals as goal
 
 pub returns-in_err-count-clause-err : goal.returns-in_err-count-clause-err
 returns-in_err-count-clause-err g c =

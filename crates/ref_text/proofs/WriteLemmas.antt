@@ -1,8 +1,8 @@
 -- A text that goes out in several writes.
-use Rattle.refrun.proofs.Common.{arith, ◌≡◌, ℕ, List, [], ◌++◌, length, take, drop, Option, Some, None, ap, ◌∙◌}
-use Rattle.refrun.proofs.Common.{append_assoc, Keeps, append-nil, take-append-drop, take-append_seam}
+use Rattle.ref_text.proofs.Common.{arith, ◌≡◌, ℕ, List, [], ◌++◌, length, take, drop, Option, Some, None, ap, ◌∙◌}
+use Rattle.ref_text.proofs.Common.{append_assoc, Keeps, append-nil, take-append-drop, take-append_seam}
 use Rattle.std.specs.Io.KnownBytes.{Appends}
-use Rattle.refrun.specs.Streams.{AppendsPrefix}
+use Rattle.ref_text.specs.Streams.{AppendsPrefix}
 
 pub appends_then : (a b c : Option (List ℕ)) (x y : List ℕ) → Appends a b x → Appends b c y → Appends a c (x ++ y)
 appends_then None b c x y h k = tt

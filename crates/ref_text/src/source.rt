@@ -3,7 +3,7 @@
 ghost use Rattle.std.specs.Prelude.{◌≡◌, ◌||◌, ◌<◌, ◌≤◌, false};
 ghost use Rattle.std.specs.Io.{ReadsAtMost};
 ghost use Rattle.std.specs.Io.KnownBytes.{ReadConsumes};
-ghost use Rattle.refrun.specs.Reads.{is_failed_read};
+ghost use Rattle.ref_text.specs.Reads.{is_failed_read};
 
 use std::io::{ErrorKind, Read};
 

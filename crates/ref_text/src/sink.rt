@@ -2,7 +2,7 @@
 
 ghost use Rattle.std.specs.Prelude.{◌≡◌, ◌<◌, ◌≤◌, ◌||◌, [], length, take, IfOk, OnOk, OnErr, is_err, false};
 ghost use Rattle.std.specs.Io.KnownBytes.{Appends};
-ghost use Rattle.refrun.specs.Streams.{AppendsPrefix};
+ghost use Rattle.ref_text.specs.Streams.{AppendsPrefix};
 
 use std::io::Write;
 

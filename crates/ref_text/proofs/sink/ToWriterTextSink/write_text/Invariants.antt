@@ -1,6 +1,6 @@
-use Rattle.refrun.proofs.Common.{◌≡◌, length}
-use Rattle.refrun.proofs.WriteLemmas.{HasWritten}
-use Rattle.refrun.proofs.sink.ToWriterTextSink.write_text.Given as goal
+use Rattle.ref_text.proofs.Common.{◌≡◌, length}
+use Rattle.ref_text.proofs.WriteLemmas.{HasWritten}
+use Rattle.ref_text.proofs.sink.ToWriterTextSink.write_text.Given as goal
 
 abbrev pub invariant-loop-rest : goal.invariant-loop-rest
 invariant-loop-rest g l = HasWritten (g.W.Write.contents l.fn.self.writer)

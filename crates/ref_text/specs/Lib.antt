@@ -1,0 +1,3 @@
+pub mod Streams
+pub mod Reads
+pub mod ExitStatuses
