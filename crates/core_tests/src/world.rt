@@ -1,6 +1,7 @@
 //! A world, step by step.
 
 mod asks;
+mod batches;
 mod heap_steps;
 mod memory;
 mod random;

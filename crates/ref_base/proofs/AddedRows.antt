@@ -3,6 +3,9 @@ use Rattle.ref_base.proofs.Common.{arith, ◌≡◌, ℕ, Bool, true, false, Lis
 use Rattle.ref_base.proofs.Common.{refl, enqueued, was_put, put_into, taken_from, was_closed, Notice, object_of}
 use Rattle.ref_base.proofs.Common.{hand_of, queue_at, replayed, State, first_state, PutsInto, Puts, IsAnswer, IsRun}
 use Rattle.ref_base.proofs.Common.{IsLegal, IsProven, Config, Actor, Fault, Row}
+use Rattle.ref_base.proofs.Common.{sym, ap, ◌∙◌, subst, AllByRecursion, added_among, PutsAll}
+use Rattle.ref_base.specs.Outs.{Outs}
+use Rattle.ref_base.proofs.BatchParts.{all_added}
 use Rattle.ref_base.proofs.LegalQueues.{first_run_changes}
 use Rattle.ref_base.proofs.ProvenTraces.{legal_proven}
 use Rattle.ref_base.proofs.OutTraces.{legal_others}
@@ -71,3 +74,56 @@ pub added_proven : (config : Config) (front back : List Row) (who : Actor) (posi
 added_proven config front back who position legal =
     let told = in_front config front back who position legal in
     (told.2.notice, told.2.rest, grind (arith, legal_others, same_hand), grind (arith, legal_proven))
+
+-- ---- a put of all notices of a hand
+
+-- what it tells of the state before it
+pub record TellsAll (a : State) (who : Actor) (before : ℕ) : Type 0 where
+  pub notice : Notice
+  pub rest : List Notice
+  pub hand : hand_of a.world who ≡ notice ∷ rest
+  pub before_is : before ≡ length (enqueued object_of (queue_at a.world notice.queue))
+
+all_of_hand : (a b : State) (who : Actor) (hand : List Notice) (outs : Outs) → hand_of a.world who ≡ hand
+    → PutsAll a who hand (replies.Outs outs) b → TellsAll a who outs.before
+all_of_hand a b who [] outs is row = absurd row
+all_of_hand a b who (notice ∷ rest) outs is row = record {
+  notice = notice;
+  rest = rest;
+  hand = is;
+  before_is =
+      let same : outs ≡ row.0 = let told : replies.Outs outs ≡ replies.Outs row.0 = row.3.0 in cc in
+      ap (λ (o : Outs). o.before) same ∙ row.2.1;
+}
+
+answer_tells_all : (a b : State) (who : Actor) (outs : Outs) (fault : Option Fault)
+    → IsAnswer a fault (steps.Puts who) (replies.Outs outs) b → TellsAll a who outs.before
+answer_tells_all a b who outs (Some fault) row = let no = row.0 in absurd cc
+answer_tells_all a b who outs None row = all_of_hand a b who (hand_of a.world who) outs refl row
+
+-- the number of what was put in before it is what its queue had got
+pub outs_position : (config : Config) (front back : List Row) (who : Actor) (outs : Outs)
+    → IsLegal config (front ++ record { step = steps.Puts who; reply = replies.Outs outs } ∷ back)
+    → (notice : Notice) × (rest : List Notice) × (hand_of (replayed config front) who ≡ notice ∷ rest)
+    × (outs.before ≡ length (put_into notice.queue front))
+outs_position config front back who outs legal =
+    let parts = cut (first_state config) front _ legal.0 legal.1 in
+    let a : State = parts.0 in
+    let told : TellsAll a who outs.before = answer_tells_all a parts.2.0 who outs _ parts.2.1 in (
+      told.notice,
+      told.rest,
+      sym (same_hand (replayed config front) a.world who (legal_others config front a parts.1)) ∙ told.hand,
+      told.before_is ∙ ap length (legal_lists config front a told.notice.queue parts.1).1,
+    )
+
+-- each that was added comes from the rows
+pub outs_proven : (config : Config) (front back : List Row) (who : Actor) (outs : Outs)
+    → IsLegal config (front ++ record { step = steps.Puts who; reply = replies.Outs outs } ∷ back)
+    → AllByRecursion (IsProven front) (added_among (hand_of (replayed config front) who) outs.done)
+outs_proven config front back who outs legal =
+    let parts = cut (first_state config) front _ legal.0 legal.1 in
+    let a : State = parts.0 in
+    all_added (IsProven front) (hand_of (replayed config front) who) outs.done
+    (subst (AllByRecursion (IsProven front)) (same_hand (replayed config front) a.world who (legal_others config front
+    a parts.1))
+    ((legal_proven config front a parts.1).hands who))

@@ -8,7 +8,8 @@ use Rattle.ref_base.proofs.Common.{HeapAccepts, Cycle, Reply, if_told, after_hea
 use Rattle.ref_base.specs.CollectorRows.{Makes}
 use Rattle.ref_base.proofs.Outcomes.{IsNoEnd, outcome, heap_outcome}
 use Rattle.ref_base.proofs.Places.{all_push}
-use Rattle.ref_base.proofs.CarryLaws.{all_map, all_without, Carries, Lasts, notice_from, all_without_first}
+use Rattle.ref_base.proofs.Common.{List, [], ◌∷◌, notice_from, handed_each, unhooked}
+use Rattle.ref_base.proofs.CarryLaws.{all_map, all_without, Carries, Lasts, all_without_first}
 use Rattle.ref_base.proofs.CarryLaws.{carries_changed, carries_pending, given}
 use Rattle.ref_base.specs.declared.heap_step.HeapStep.TheVariants as heap
 use Rattle.ref_base.specs.declared.plain_step.PlainStep.TheVariants as plain
@@ -52,6 +53,17 @@ module _ (O : Object → Type 0) (P : Notice → Type 0) (C : ℕ → Type 0) wh
     record At (w : World) : Type 0 where
       pub carries : Carries O P C w
 
+    hands_on : (w : World) → Carries O P C w → (k n : ℕ) → Carries O P C (handed_on w k n)
+    hands_on w carries k n =
+        carries_pending O P C w k (without_pending (pending_of w k) n)
+        (all_without_first (λ p. P (notice_from k p)) (λ (p : Pending). p.object) (pending_of w k) n
+        (carries.pendings k)) carries
+
+    hands_each : (w : World) → Carries O P C w → (k : ℕ) (notices : List Notice) → At (handed_each w k notices)
+    hands_each w carries k [] = record { carries = carries }
+    hands_each w carries k (notice ∷ rest) =
+        hands_each (handed_on w k notice.object) (hands_on w carries k notice.object) k rest
+
     module _ (w : World) (carries : Carries O P C w) where
       told : {T : Type 0} (of : Option T) (change : T → World) (v : World) → At v → ((t : T) → At (change t))
           → At (if_told of change v)
@@ -85,19 +97,19 @@ module _ (O : Object → Type 0) (P : Notice → Type 0) (C : ℕ → Type 0) wh
       unhooks : (m s n : ℕ) → At (with_heap w (with_hold (cut w.heap m s) n))
       unhooks m s n = record { carries = (cuts m s).carries }
 
-      hands_on : (k n : ℕ) → At (handed_on w k n)
-      hands_on k n = record {
-        carries = carries_pending O P C w k (without_pending (pending_of w k) n)
-            (all_without_first (λ p. P (notice_from k p)) (λ (p : Pending). p.object) (pending_of w k) n
-            (carries.pendings k)) carries;
-      }
+      unhooks_any : (m s : ℕ) (nothing : Bool) (notices : List Notice)
+          → At (if nothing then with_heap w (cut w.heap m s) else unhooked w m s notices)
+      unhooks_any m s true notices = cuts m s
+      unhooks_any m s false [] = before
+      unhooks_any m s false (notice ∷ rest) = unhooks m s notice.object
 
       slots : (os : Heap) → At (with_heap w (record os { objects = w.heap.objects }))
       slots h = record { carries = carries }
 
       after_carries : (step : NamedStep) (reply : Reply) → MakesNothing step → At (after_heap w step reply)
       after_carries (heap.Plain (plain.New m d k)) reply no_end = absurd no_end
-      after_carries step reply no_end = search (told, done, before, stores, cuts, gets, unhooks, hands_on, slots)
+      after_carries step reply no_end =
+          search (told, done, before, stores, cuts, gets, unhooks_any, hands_each w carries, slots)
 
     looks : (a : State) (k : ℕ) (reply : Reply) → Anew a (heap.Plain (plain.ClearNext k)) reply → Carries O P C a.world
         → Carries O P C (outcome a (heap.Plain (plain.ClearNext k)) reply).world

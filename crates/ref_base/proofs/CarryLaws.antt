@@ -4,7 +4,7 @@ use Rattle.ref_base.proofs.Common.{arith, ◌≡◌, ℕ, List, [], ◌∷◌, m
 use Rattle.ref_base.proofs.Common.{slice_index_or, slice_set, AllByRecursion, Object, changed_at, changed_in}
 use Rattle.ref_base.proofs.Common.{with_reference, cleared, got_at, with_field, Lists, new_queue, World, Notice}
 use Rattle.ref_base.proofs.Common.{Pending, with_heap, with_hand, with_queue, State, Gives, Actor, Mutator, Worker}
-use Rattle.ref_base.proofs.Common.{Cycle, Reply, without}
+use Rattle.ref_base.proofs.Common.{Reply, without, notice_from}
 use Rattle.ref_base.specs.Members.{without_first}
 use Rattle.ref_base.proofs.Places.{set_each}
 use Rattle.ref_base.proofs.RowForms.{ticked_world}
@@ -27,15 +27,6 @@ all_without P ns [] all = tt
 all_without P ns (o ∷ os) all = grind (arith, all_without P ns os all.1)
 
 -- ---- what is carried
-
--- the notice that a worker gives of what is pending
-abbrev pub notice_from : ℕ → Pending → Notice
-notice_from k p = record { object = p.object; queue = p.queue; cause = Cycle p.cycle k }
-
--- it holds of the notice that was told, if one was
-abbrev pub OfTold : (Notice → Type 0) → Option Notice → Type 0
-OfTold P None = Unit {0}
-OfTold P (Some notice) = P notice
 
 -- O holds of each object, P of each notice that is out or that a worker will give, and C of the cycle that goes on
 pub record CarriesIn (O : Object → Type 0) (P : Notice → Type 0) (C : ℕ → Type 0) (os : List Object)

@@ -5,7 +5,8 @@ use Rattle.ref_base.proofs.Common.{object_at, is_there, numbers, IsRising, is_so
 use Rattle.ref_base.proofs.Common.{reference_at, changed_reference, cleared, got_at, World, Notice, Pending, State}
 use Rattle.ref_base.proofs.Common.{first_state, IsRow, IsRun, doomed_at, shown, referent_of, EndsMark, HeapAccepts}
 use Rattle.ref_base.proofs.Common.{NamedStep, Config, Reply, Row}
-use Rattle.ref_base.proofs.CarryLaws.{AnyCycle, Carries, Lasts, notice_from}
+use Rattle.ref_base.proofs.CarryLaws.{AnyCycle, Carries, Lasts}
+use Rattle.ref_base.proofs.Common.{notice_from}
 use Rattle.ref_base.proofs.CarryHeaps.{Anew, heap_carries}
 use Rattle.ref_base.proofs.CountedTraces.{legal_counted}
 use Rattle.ref_base.proofs.NewClears.{is_there-rising, has-new_clears}

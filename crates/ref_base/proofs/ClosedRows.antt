@@ -5,9 +5,13 @@ use Rattle.ref_base.proofs.Common.{length, Option, Some, None, sym, ap, ◌∙�
 use Rattle.ref_base.proofs.Common.{object_at, plain_object, any_referent, targets_of, Heap, slot_at, with_slot}
 use Rattle.ref_base.proofs.Common.{with_reference, got_at, got, cut, stored, made, nulls, new_reference, changed_in}
 use Rattle.ref_base.proofs.Common.{with_hold, without_hold, World, Pending, pending_of, with_heap, with_pending}
-use Rattle.ref_base.proofs.Common.{told_object, Notice, told_notice, told_cycle, begun, with_phase, NamedStep, pended}
+use Rattle.ref_base.proofs.Common.{told_object, Notice, told_notices, told_cycle, begun, with_phase, NamedStep, pended}
+use Rattle.ref_base.proofs.Common.{map, handed_each, unhooked, one_handed, all_handed, batch_of}
+use Rattle.ref_base.proofs.Common.{GivesAnewIf, Loads, Gets, is_in, Marking}
+use Rattle.ref_base.proofs.BatchParts.{all_batch}
+use Rattle.ref_base.specs.Told.{is_nothing}
 use Rattle.ref_base.proofs.Common.{handed_on, without_pending, after_heap, State, Gives, Unhooks, Holds, Scans}
-use Rattle.ref_base.proofs.Common.{ClearsNext, HandsOn, Sweeps, HeapAccepts, value_reply, list_at, field_in}
+use Rattle.ref_base.proofs.Common.{ClearsNext, Sweeps, HeapAccepts, value_reply, list_at, field_in}
 use Rattle.ref_base.proofs.Common.{referent_got, reference_of, heap_refusal, Own, Cycle, Phase, Clearing, Urgency}
 use Rattle.ref_base.proofs.Common.{Reply, Strength, if_told}
 use Rattle.std.proofs.Common.{min}
@@ -60,39 +64,80 @@ module _ (V : ℕ → Type 0) where
 
   -- ---- what a reply names
 
-  told_is : (answer reply : Reply) → reply ≡ answer → OfValue V (named_by answer) → OfValue V (named_by reply)
-  told_is answer reply is holds = subst (λ (r : Reply). OfValue V (named_by r)) (sym is) holds
+  names_one : (k : ℕ) (ps : List Pending) → AllByRecursion (λ p. V p.object) ps
+      → AllByRecursion V (named_by (one_handed k (take 1 ps)))
+  names_one k [] all = tt
+  names_one k (p ∷ ps) all = (all.0, tt)
 
-  value_is : (value : Option ℕ) → OfValue V value → OfValue V (named_by (value_reply value))
+  objects_of : (ps : List Pending) → AllByRecursion (λ p. V p.object) ps → AllByRecursion V (map (λ p. p.object) ps)
+  objects_of [] all = tt
+  objects_of (p ∷ ps) all = (all.0, objects_of ps all.1)
+
+  names_all : (k : ℕ) (ps : List Pending) → AllByRecursion (λ p. V p.object) ps
+      → AllByRecursion V (named_by (all_handed k ps))
+  names_all k [] all = tt
+  names_all k (p ∷ ps) all = objects_of (p ∷ ps) all
+
+  told_of : (q cycle k : ℕ) (ns : List ℕ) → AllByRecursion V ns
+      → AllByRecursion (λ (x : Notice). V x.object)
+      (map (λ n. record { object = n; queue = q; cause = Cycle cycle k }) ns)
+  told_of q cycle k [] all = tt
+  told_of q cycle k (n ∷ ns) all = (all.0, told_of q cycle k ns all.1)
+
+  -- so it holds of what each notice reports
+  told_named : (reply : Reply) → AllByRecursion V (named_by reply)
+      → AllByRecursion (λ (x : Notice). V x.object) (told_notices reply)
+  told_named (replies.Notice n q cause) all = (all.0, tt)
+  told_named (replies.Notices ns q cycle k) all = told_of q cycle k ns all
+  told_named reply all = tt
+
+  told_is : (answer reply : Reply) → reply ≡ answer → AllByRecursion V (named_by answer)
+      → AllByRecursion V (named_by reply)
+  told_is answer reply is holds = subst (λ (r : Reply). AllByRecursion V (named_by r)) (sym is) holds
+
+  object_is : (n : ℕ) (reply : Reply) → reply ≡ replies.Object n → V n → AllByRecursion V (named_by reply)
+  object_is n reply told is = told_is (replies.Object n) reply told (is, tt)
+
+  value_is : (value : Option ℕ) → OfValue V value → AllByRecursion V (named_by (value_reply value))
   value_is None is = tt
-  value_is (Some n) is = is
+  value_is (Some n) is = (is, tt)
 
   module _ (a b : State) (closed : IsClosed V a.world) where
     unhooks : (m s : ℕ) (held queue : Option ℕ) (reply : Reply) → OfValue V held → Unhooks a m s held queue reply b
-        → OfValue V (named_by reply)
+        → AllByRecursion V (named_by reply)
     unhooks m s None queue reply is row = told_is replies.Nothing reply row.0 tt
     unhooks m s (Some n) None reply is row = told_is replies.Nothing reply row.0 tt
-    unhooks m s (Some n) (Some q) reply is row = told_is (replies.Notice n q Own) reply row.0 is
+    unhooks m s (Some n) (Some q) reply is row = told_is (replies.Notice n q Own) reply row.0 (is, tt)
 
-    holds : (held : Option ℕ) (reply : Reply) → OfValue V held → Holds a held reply b → OfValue V (named_by reply)
+    holds : (held : Option ℕ) (reply : Reply) → OfValue V held → Holds a held reply b
+        → AllByRecursion V (named_by reply)
     holds None reply is row = absurd row
-    holds (Some n) reply is row = told_is (replies.Object n) reply row.0 is
+    holds (Some n) reply is row = told_is (replies.Object n) reply row.0 (is, tt)
 
-    scans : (k : ℕ) (reply : Reply) → Scans a k reply b → OfValue V (named_by reply)
+    anew : (marks : Bool) (n : ℕ) (c : State) (reply : Reply) → V n → GivesAnewIf marks (replies.Object n) c reply b
+        → AllByRecursion V (named_by reply)
+    anew true n c reply is row = object_is n reply row.0 is
+    anew false n c reply is row = object_is n reply row.0 is
+
+    loads_named : (m d : ℕ) (value : Option ℕ) (reply : Reply) → OfValue V value → Loads a m d value reply b
+        → AllByRecursion V (named_by reply)
+    loads_named m d None reply is row = told_is replies.Null reply row.0 tt
+    loads_named m d (Some n) reply is row = anew (is_in a.world.phase Marking) n _ reply is row
+
+    gets_named : (m d s : ℕ) (value : Option ℕ) (reply : Reply) → OfValue V value → Gets a m d s value reply b
+        → AllByRecursion V (named_by reply)
+    gets_named m d s None reply is row = told_is replies.Null reply row.0 tt
+    gets_named m d s (Some n) reply is row = anew (is_in a.world.phase Marking) n _ reply is row
+
+    scans : (k : ℕ) (reply : Reply) → Scans a k reply b → AllByRecursion V (named_by reply)
     scans k (replies.Scanned n) row = tt
     scans k reply row = told_is replies.Nothing reply row.1.0 tt
 
-    looks : (k : ℕ) (found : List ℕ) (reply : Reply) → ClearsNext a k found reply b → OfValue V (named_by reply)
+    looks : (k : ℕ) (found : List ℕ) (reply : Reply) → ClearsNext a k found reply b → AllByRecursion V (named_by reply)
     looks k [] reply row = told_is replies.Nothing reply row.0 tt
     looks k (n ∷ rest) reply row = grind arith
 
-    hands_on : (k : ℕ) (ps : List Pending) (reply : Reply) → AllByRecursion (λ p. V p.object) ps
-        → HandsOn a k ps reply b → OfValue V (named_by reply)
-    hands_on k [] reply all row = told_is replies.Nothing reply row.0 tt
-    hands_on k (p ∷ ps) reply all row =
-        told_is (replies.Notice p.object p.queue (Cycle p.cycle k)) reply row.0 all.0
-
-    sweeps : (doomed : List ℕ) (reply : Reply) → Sweeps a doomed reply b → OfValue V (named_by reply)
+    sweeps : (doomed : List ℕ) (reply : Reply) → Sweeps a doomed reply b → AllByRecursion V (named_by reply)
     sweeps [] reply row = told_is replies.Nothing reply row.0 tt
     sweeps (n ∷ ns) reply row = told_is (replies.Swept (min 64 (length (n ∷ ns)))) reply row.0 tt
 
@@ -101,19 +146,48 @@ module _ (V : ℕ → Type 0) where
 
     -- it holds of what the reply names, where it holds of the number of what is made
     pub named_is : (step : NamedStep) (reply : Reply) → (made_number step reply ≡ Some a.next → V a.next)
-        → heap_refusal a step ≡ None → HeapAccepts a step reply b → OfValue V (named_by reply)
+        → heap_refusal a step ≡ None → HeapAccepts a step reply b → AllByRecursion V (named_by reply)
     named_is (heap.Plain (plain.New m d k)) reply next none row =
-        told_is (replies.Object a.next) reply row.0 (next (ap told_object row.0))
+        told_is (replies.Object a.next) reply row.0 (next (ap told_object row.0), tt)
     named_is (heap.Plain (plain.Refer m strength d s q k)) reply next none row =
-        told_is (replies.Object a.next) reply row.0 (next (ap told_object row.0))
+        told_is (replies.Object a.next) reply row.0 (next (ap told_object row.0), tt)
+    named_is (heap.Plain (plain.Load m d s i)) reply next none row =
+        let held : Option ℕ = slot_at a.world.heap m s in
+        loads_named m d (field_in a.world.heap held i) reply (field_is a.world held i _ (slot_is m s) closed refl) row
+    named_is (heap.Plain (plain.Get m d s)) reply next none row =
+        let held : Option ℕ = slot_at a.world.heap m s in
+        gets_named m d s (referent_got (reference_of a.world.heap held)) reply (got_is a.world held _ (slot_is m s)
+        closed refl)
+        row
+    named_is (heap.Hand k) reply next none row =
+        let ps : List Pending = pending_of a.world k in
+        told_is (one_handed k (take 1 ps)) reply row.0 (names_one k ps (closed.pendings k))
+    named_is (heap.Hands k max batch) reply next none row =
+        let ps : List Pending = pending_of a.world k in
+        told_is (all_handed k (batch_of max ps)) reply row.0
+        (names_all k (batch_of max ps) (all_batch (λ p. V p.object) max ps (closed.pendings k)))
     named_is step reply next none row =
-        grind (arith, told_is, field_is, value_is, slot_is, got_is, unhooks, holds, scans, looks, hands_on, sweeps)
+        grind (arith, told_is, object_is, field_is, value_is, slot_is, got_is, unhooks, holds, scans, looks, sweeps)
 
   -- ---- where a row leads
 
   -- it is so of this world, as a record that search can see
   record At (w : World) : Type 0 where
     pub closed : IsClosed V w
+
+  gives : (w : World) → IsClosed V w → (k n : ℕ) → V n → IsClosed V (handed_on w k n)
+  gives w closed k n is =
+      let left : List Pending = without_pending (pending_of w k) n in
+      closed_hold V (with_pending w k left) n is
+      (closed_pending V w k left
+      (all_without_first (λ p. V p.object) (λ (p : Pending). p.object) (pending_of w k) n (closed.pendings k))
+      closed)
+
+  gives_each : (w : World) → IsClosed V w → (k : ℕ) (notices : List Notice)
+      → AllByRecursion (λ (x : Notice). V x.object) notices → At (handed_each w k notices)
+  gives_each w closed k [] all = record { closed = closed }
+  gives_each w closed k (notice ∷ rest) all =
+      gives_each (handed_on w k notice.object) (gives w closed k notice.object all.0) k rest all.1
 
   module _ (w : World) (closed : IsClosed V w) where
     before : At w
@@ -159,15 +233,6 @@ module _ (V : ℕ → Type 0) where
       closed = closed_slot V (with_heap w (without_hold w.heap n)) m d (Some n) is (closed_fewer V w n closed);
     }
 
-    gives : (k n : ℕ) → V n → At (handed_on w k n)
-    gives k n is =
-        let left : List Pending = without_pending (pending_of w k) n in record {
-          closed = closed_hold V (with_pending w k left) n is
-              (closed_pending V w k left
-              (all_without_first (λ p. V p.object) (λ (p : Pending). p.object) (pending_of w k) n (closed.pendings k))
-              closed);
-        }
-
     plain_targets : (i k n : ℕ) → has (targets_of any_referent (Some (plain_object i (nulls k)))) n ≡ true → V n
     plain_targets i k n target = grind (arith, has-cases, no_nulls)
 
@@ -179,21 +244,23 @@ module _ (V : ℕ → Type 0) where
     done true u after = after
     done false u after = before
 
-    objects : (reply : Reply) (change : ℕ → World) → OfValue V (named_by reply) → ((n : ℕ) → V n → At (change n))
+    objects : (reply : Reply) (change : ℕ → World) → AllByRecursion V (named_by reply) → ((n : ℕ) → V n → At (change n))
         → At (if_told (told_object reply) change w)
-    objects (replies.Object n) change is after = after n is
+    objects (replies.Object n) change is after = after n is.0
     objects reply change is after = before
 
-    values : (reply : Reply) (change : Option ℕ → World) → OfValue V (named_by reply)
+    values : (reply : Reply) (change : Option ℕ → World) → AllByRecursion V (named_by reply)
         → ((value : Option ℕ) → OfValue V value → At (change value)) → At (if_told (told_value reply) change w)
-    values (replies.Object n) change is after = after (Some n) is
+    values (replies.Object n) change is after = after (Some n) is.0
     values replies.Null change is after = after None tt
     values reply change is after = before
 
-    notices : (reply : Reply) (change : Notice → World) → OfValue V (named_by reply)
-        → ((notice : Notice) → V notice.object → At (change notice)) → At (if_told (told_notice reply) change w)
-    notices (replies.Notice n q cause) change is after = after (record { object = n; queue = q; cause = cause }) is
-    notices reply change is after = before
+    unhooks_any : (m s : ℕ) (nothing : Bool) (notices : List Notice)
+        → AllByRecursion (λ (x : Notice). V x.object) notices
+        → At (if nothing then with_heap w (cut w.heap m s) else unhooked w m s notices)
+    unhooks_any m s true notices all = cuts m s
+    unhooks_any m s false [] all = before
+    unhooks_any m s false (notice ∷ rest) all = cuts_holding m s notice.object all.0
 
     begins : (free now : ℕ) (how : Urgency) (reply : Reply)
         → At (if_told (told_cycle reply) (λ n. begun w free now how n) w)
@@ -208,20 +275,24 @@ module _ (V : ℕ → Type 0) where
     phases phase = record { closed = assumption closed }
 
     -- a row that looks at nothing leads to the world that its replay gives, and there it is so
-    after_closed : (step : NamedStep) (reply : Reply) → IsNoLook step → OfValue V (named_by reply)
+    after_closed : (step : NamedStep) (reply : Reply) → IsNoLook step → AllByRecursion V (named_by reply)
         → At (after_heap w step reply)
     after_closed (heap.Plain (plain.New m d k)) reply no_look is = search (objects, makes, plain_targets)
     after_closed (heap.Plain (plain.Refer m strength d s q k)) reply no_look is =
         search (objects, makes, reference_targets)
     after_closed (heap.Plain (plain.ClearNext k)) reply no_look is = absurd no_look
-    after_closed (heap.Unhook m s) reply no_look is = grind (arith, cuts, before, notices, cuts_holding)
+    after_closed (heap.Unhook m s) reply no_look is =
+        unhooks_any m s (is_nothing reply) (told_notices reply) (told_named reply is)
+    after_closed (heap.Hand k) reply no_look is =
+        gives_each w closed k (told_notices reply) (told_named reply is)
+    after_closed (heap.Hands k max batch) reply no_look is =
+        gives_each w closed k (told_notices reply) (told_named reply is)
     after_closed step reply no_look is =
         search (
           before,
           done,
           objects,
           values,
-          notices,
           begins,
           counts,
           phases,
@@ -232,7 +303,6 @@ module _ (V : ℕ → Type 0) where
           holds_one,
           releases,
           adopts,
-          gives,
           is,
           tt,
         )

@@ -2,6 +2,8 @@
 use Rattle.ref_base.proofs.Common.{arith, ◌≡◌, ℕ, List, Option, Some, None, refl, ap, ◌∙◌, Object, Heap, slot_at}
 use Rattle.ref_base.proofs.Common.{reference_at, registered_in, changed_in, with_reference, cleared, got_at, got, cut}
 use Rattle.ref_base.proofs.Common.{one_more, World, NamedStep, pended, State, HeapAccepts, holds_after, Reply}
+use Rattle.ref_base.proofs.Common.{[], ◌∷◌, Notice, told_notices, handed_each, handed_on, unhooked}
+use Rattle.ref_base.specs.CountedHolds.{more_of_each, more_of_first}
 use Rattle.ref_base.proofs.Outcomes.{outcome, heap_outcome}
 use Rattle.ref_base.proofs.ReplayKeeps.{told_keeps, done_keeps}
 use Rattle.ref_base.specs.declared.heap_step.HeapStep.TheVariants as heap
@@ -26,10 +28,20 @@ holds_pended : (w : World) (k n : ℕ) (queue : Option ℕ) → holds_of (pended
 holds_pended w k n None = refl
 holds_pended w k n (Some q) = refl
 
+holds_unhooked : (w : World) (m s : ℕ) (notices : List Notice)
+    → holds_of (unhooked w m s notices) ≡ more_of_first (holds_of w) notices
+holds_unhooked w m s [] = refl
+holds_unhooked w m s (notice ∷ rest) = ap (λ hs. one_more hs notice.object) (holds_cut w.heap m s)
+
+holds_handed : (w : World) (k : ℕ) (notices : List Notice)
+    → holds_of (handed_each w k notices) ≡ more_of_each (holds_of w) notices
+holds_handed w k [] = refl
+holds_handed w k (notice ∷ rest) = holds_handed (handed_on w k notice.object) k rest
+
 outcome_holds : (a : State) (step : NamedStep) (reply : Reply)
     → holds_of (outcome a step reply).world ≡ holds_after a.world.heap.holds step reply
-outcome_holds a (heap.Unhook m s) (replies.Notice n q cause) = ap (λ hs. one_more hs n) (holds_cut a.world.heap m s)
 outcome_holds a (heap.Unhook m s) replies.Nothing = holds_cut a.world.heap m s
+outcome_holds a (heap.Unhook m s) reply = holds_unhooked a.world m s (told_notices reply)
 outcome_holds a (heap.Hold m s) (replies.Object n) = refl
 outcome_holds a (heap.Adopt m d hold) (replies.Object n) = refl
 outcome_holds a (heap.Release hold) replies.Done = refl
@@ -37,7 +49,8 @@ outcome_holds a (heap.Plain (plain.ClearNext k)) (replies.Cleared n) =
     holds_pended a.world k n (registered_in (reference_at a.world.heap n))
 outcome_holds a (heap.Plain (plain.ClearNext k)) (replies.Kept n) = refl
 outcome_holds a (heap.Plain (plain.ClearNext k)) (replies.Skipped n) = refl
-outcome_holds a (heap.Hand k) (replies.Notice n q cause) = refl
+outcome_holds a (heap.Hand k) reply = holds_handed a.world k (told_notices reply)
+outcome_holds a (heap.Hands k max batch) reply = holds_handed a.world k (told_notices reply)
 outcome_holds a (heap.Plain (plain.Sweep k)) (replies.Swept count) = refl
 outcome_holds a step reply = grind (arith, told_keeps, done_keeps, holds_got, holds_cut)
 

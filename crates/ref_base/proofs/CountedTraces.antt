@@ -1,11 +1,19 @@
 -- In every legal trace each notice that is out is a hold that the heap counts, row by row.
 use Rattle.ref_base.proofs.Common.{arith, ◌≡◌, ℕ, ◌<◌, Bool, true, false, List, [], ◌∷◌, length, Option, Some, None}
-use Rattle.ref_base.proofs.Common.{refl, sym, ap, ◌∙◌, subst, and_parts, one_more, one_fewer, World, Notice, Pending}
-use Rattle.ref_base.proofs.Common.{SameOthers, hand_of, queue_at, with_hand, NamedStep, hold_of, spending, handed}
+use Rattle.ref_base.proofs.Common.{refl, sym, ap, ◌∙◌, subst, and_parts, one_fewer, World, Notice, Pending}
+use Rattle.ref_base.proofs.Common.{SameOthers, hand_of, queue_at, NamedStep, hold_of, spending, handed}
 use Rattle.ref_base.proofs.Common.{State, first_state, Gives, with_handed, AcceptsAsking, Unhooks, HandsOn, PutsInto}
 use Rattle.ref_base.proofs.Common.{Puts, Polls, Closes, closed_queue, with_world, Accepts, IsAnswer, IsRow, IsRun}
 use Rattle.ref_base.proofs.Common.{unless_full, refusal, is_mutator, has_slot, AreCounted, holds_after, Config, Actor}
-use Rattle.ref_base.proofs.Common.{Mutator, Worker, Own, Cycle, Fault, Step, Reply, Row, heap_step, with_rest}
+use Rattle.ref_base.proofs.Common.{Mutator, Worker, Own, Fault, Step, Reply, Row, heap_step, with_rest}
+use Rattle.ref_base.proofs.Common.{inl, inr, ◌++◌, map, take, drop, take-append-drop, AllByRecursion, object_of}
+use Rattle.ref_base.proofs.Common.{notice_from, told_notices, taking, put_in, took, PutsAll, one_taken, one_handed}
+use Rattle.ref_base.proofs.Common.{all_handed, batch_of, fits, pending_of, is_actor}
+use Rattle.ref_base.specs.CountedHolds.{more_of_each}
+use Rattle.ref_base.specs.Refusals.{is_queue, is_worker}
+use Rattle.ref_base.specs.declared.out.Done.TheVariants.{Added}
+use Rattle.ref_base.proofs.BatchParts.{tells_one, tells_all}
+use Rattle.ref_base.proofs.RowLaws.{worker_within, queue_within}
 use Rattle.ref_base.proofs.CountedRows.{heap_holds}
 use Rattle.ref_base.proofs.CountedWorlds.{counted_given, counted_spent, counted_put, counted_took, counted_closed}
 use Rattle.ref_base.proofs.CountedWorlds.{first_counted}
@@ -35,22 +43,14 @@ quiet : (a b : State) (asked : NamedStep) (step : Step) (reply : Reply) → IsRe
     → ((hs : List ℕ) → holds_after hs asked reply ≡ hs) → ((w : World) → handed w step reply ≡ w) → AreCounted b.world
 quiet a b asked step reply is counted row still same_hands = grind (arith, heap_keeps, heap_holds)
 
--- one that gives nothing
-gives_nothing : (a c b : State) (asked : NamedStep) (step : Step) (reply : Reply) → SameOthers a.world c.world
-    → c.world.heap.holds ≡ holds_after a.world.heap.holds asked reply → reply ≡ replies.Nothing
-    → holds_after a.world.heap.holds asked replies.Nothing ≡ a.world.heap.holds
-    → handed c.world step replies.Nothing ≡ c.world → b ≡ with_handed c step reply → AreCounted a.world
-    → AreCounted b.world
-gives_nothing a c b asked step reply others held is still same_hands left counted = grind arith
-
--- one that gives a notice into an empty hand
-gives_notice : (a c b : State) (who : Actor) (notice : Notice) (asked : NamedStep) (step : Step) (answer reply : Reply)
-    → SameOthers a.world c.world → HasHand a.world who → hand_of a.world who ≡ []
+-- one that gives notices into an empty hand, if it gives any
+gives_notices : (a c b : State) (who : Actor) (notices : List Notice) (asked : NamedStep) (step : Step)
+    (answer reply : Reply) → SameOthers a.world c.world → HasHand a.world who → hand_of a.world who ≡ []
     → c.world.heap.holds ≡ holds_after a.world.heap.holds asked reply → reply ≡ answer
-    → holds_after a.world.heap.holds asked answer ≡ one_more a.world.heap.holds notice.object
-    → handed c.world step answer ≡ with_hand c.world who (notice ∷ []) → b ≡ with_handed c step reply
+    → holds_after a.world.heap.holds asked answer ≡ more_of_each a.world.heap.holds notices
+    → handed c.world step answer ≡ taking c.world who notices → b ≡ with_handed c step reply
     → AreCounted a.world → AreCounted b.world
-gives_notice a c b who notice asked step answer reply others has free held is more into left counted =
+gives_notices a c b who notices asked step answer reply others has free held is more into left counted =
     grind (arith, counted_given)
 
 -- one that spends a hand's first notice
@@ -71,23 +71,25 @@ unhooks : (a c b : State) (m s : ℕ) (held queue : Option ℕ) (reply : Reply) 
     → Unhooks a m s held queue reply c → b ≡ with_handed c (steps.Unhook m s) reply → AreCounted a.world
     → AreCounted b.world
 unhooks a c b m s None queue reply others has free holds row left counted =
-    gives_nothing a c b (heap.Unhook m s) (steps.Unhook m s) reply others holds row.0 refl refl left counted
+    gives_notices a c b (Mutator m) [] (heap.Unhook m s) (steps.Unhook m s) replies.Nothing reply others has free holds
+    row.0 refl refl left counted
 unhooks a c b m s (Some n) None reply others has free holds row left counted =
-    gives_nothing a c b (heap.Unhook m s) (steps.Unhook m s) reply others holds row.0 refl refl left counted
+    gives_notices a c b (Mutator m) [] (heap.Unhook m s) (steps.Unhook m s) replies.Nothing reply others has free holds
+    row.0 refl refl left counted
 unhooks a c b m s (Some n) (Some q) reply others has free holds row left counted =
-    gives_notice a c b (Mutator m) (record { object = n; queue = q; cause = Own }) (heap.Unhook m s) (steps.Unhook m s)
-    (replies.Notice n q Own) reply others has free holds row.0 refl refl left counted
+    gives_notices a c b (Mutator m) (record { object = n; queue = q; cause = Own } ∷ []) (heap.Unhook m s)
+    (steps.Unhook m s) (replies.Notice n q Own) reply others has free holds row.0 refl refl left counted
 
-hands : (a c b : State) (k : ℕ) (ps : List Pending) (reply : Reply) → SameOthers a.world c.world
-    → k < length a.world.worker_hands → hand_of a.world (Worker k) ≡ []
-    → c.world.heap.holds ≡ holds_after a.world.heap.holds (heap.Hand k) reply
-    → HandsOn a k ps reply c → b ≡ with_handed c (steps.Hand k) reply → AreCounted a.world → AreCounted b.world
-hands a c b k [] reply others has free holds row left counted =
-    gives_nothing a c b (heap.Hand k) (steps.Hand k) reply others holds row.0 refl refl left counted
-hands a c b k (p ∷ ps) reply others has free holds row left counted =
-    gives_notice a c b (Worker k) (record { object = p.object; queue = p.queue; cause = Cycle p.cycle k })
-    (heap.Hand k) (steps.Hand k) (replies.Notice p.object p.queue (Cycle p.cycle k)) reply others has free holds row.0
-    refl refl left counted
+hands : (a c b : State) (k : ℕ) (asked : NamedStep) (step : Step) (answer : Reply) (ps : List Pending) (reply : Reply)
+    → SameOthers a.world c.world → k < length a.world.worker_hands → hand_of a.world (Worker k) ≡ []
+    → c.world.heap.holds ≡ holds_after a.world.heap.holds asked reply
+    → holds_after a.world.heap.holds asked answer ≡ more_of_each a.world.heap.holds (told_notices answer)
+    → handed c.world step answer ≡ taking c.world (Worker k) (told_notices answer)
+    → told_notices answer ≡ map (notice_from k) ps → HandsOn a k answer ps reply c → b ≡ with_handed c step reply
+    → AreCounted a.world → AreCounted b.world
+hands a c b k asked step answer ps reply others has free holds more into tells row left counted =
+    gives_notices a c b (Worker k) (map (notice_from k) ps) asked step answer reply others has free holds row.0
+    (more ∙ ap (more_of_each a.world.heap.holds) tells) (into ∙ ap (taking c.world (Worker k)) tells) left counted
 
 adopts : (a b : State) (m d : ℕ) (hand : List Notice) (reply : Reply) → m < length a.world.mutator_hands
     → hand_of a.world (Mutator m) ≡ hand
@@ -113,23 +115,50 @@ releases a b who (notice ∷ rest) reply has is row counted =
 
 -- ---- queues
 
+-- a hand names queues that are there
+hand_within : (w : World) (who : Actor) → IsSound w
+    → AllByRecursion (λ (x : Notice). x.queue < length w.queues) (hand_of w who)
+hand_within w who sound =
+    subst (λ count. AllByRecursion (λ (x : Notice). x.queue < count) (hand_of w who)) (sym sound.queues)
+    (sound.hands_below who)
+
 puts_into : (a b : State) (who : Actor) (notice : Notice) (rest : List Notice) (again shut : Bool) (reply : Reply)
-    → HasHand a.world who → hand_of a.world who ≡ notice ∷ rest → notice.queue < length a.world.queues
-    → PutsInto again shut a who notice rest reply b → AreCounted a.world → AreCounted b.world
-puts_into a b who notice rest true shut reply has is within row counted = given a b replies.Already reply row counted
-puts_into a b who notice rest false true reply has is within row counted = given a b replies.Closed reply row counted
-puts_into a b who notice rest false false reply has is within row counted = grind (arith, counted_put)
+    → IsSound a.world → HasHand a.world who → PutsInto again shut a who notice rest reply b → AreCounted a.world
+    → AreCounted b.world
+puts_into a b who notice rest true shut reply sound has row counted = given a b replies.Already reply row counted
+puts_into a b who notice rest false true reply sound has row counted = given a b replies.Closed reply row counted
+puts_into a b who notice rest false false reply sound has row counted =
+    elim row [
+      | inl added ↦
+          given (with_world a (put_in a.world who (Added ∷ []))) b _ reply added
+          (counted_put a.world who (Added ∷ []) has (hand_within a.world who sound) counted)
+      | inr refused ↦ in_world b a.world (ap (λ (s : State). s.world) refused.1) counted
+    ]
 
 puts : (a b : State) (who : Actor) (hand : List Notice) (reply : Reply) → IsSound a.world → HasHand a.world who
-    → hand_of a.world who ≡ hand → Puts a who hand reply b → AreCounted a.world → AreCounted b.world
-puts a b who [] reply sound has is row counted = absurd row
-puts a b who (notice ∷ rest) reply sound has is row counted = grind (arith, puts_into)
+    → Puts a who hand reply b → AreCounted a.world → AreCounted b.world
+puts a b who [] reply sound has row counted = absurd row
+puts a b who (notice ∷ rest) reply sound has row counted =
+    puts_into a b who notice rest _ _ reply sound has row counted
 
-polls : (a b : State) (m q : ℕ) (stands : List Notice) (reply : Reply) → m < length a.world.mutator_hands
-    → hand_of a.world (Mutator m) ≡ [] → q < length a.world.queues → (queue_at a.world q).stands ≡ stands
-    → Polls a m q stands reply b → AreCounted a.world → AreCounted b.world
-polls a b m q [] reply has free within is row counted = given a b _ reply row counted
-polls a b m q (notice ∷ rest) reply has free within is row counted = search (given, counted_took)
+puts_all : (a b : State) (who : Actor) (hand : List Notice) (reply : Reply) → IsSound a.world → HasHand a.world who
+    → PutsAll a who hand reply b → AreCounted a.world → AreCounted b.world
+puts_all a b who [] reply sound has row counted = absurd row
+puts_all a b who (notice ∷ rest) reply sound has row counted =
+    given (with_world a (put_in a.world who row.0.done)) b (replies.Outs row.0) reply row.3
+    (counted_put a.world who row.0.done has (hand_within a.world who sound) counted)
+
+polls : (a b : State) (m q max : ℕ) (tell : List ℕ → Reply) (taken : List Notice) (reply : Reply)
+    → m < length a.world.mutator_hands → hand_of a.world (Mutator m) ≡ [] → q < length a.world.queues
+    → take max (queue_at a.world q).stands ≡ taken → Polls a m q tell taken reply b → AreCounted a.world
+    → AreCounted b.world
+polls a b m q max tell [] reply has free within is row counted = given a b _ reply row counted
+polls a b m q max tell (notice ∷ rest) reply has free within is row counted =
+    let stands : List Notice = (queue_at a.world q).stands in
+    let ns : List ℕ = map object_of (notice ∷ rest) in
+    given (with_world a (took a.world m q ns)) b (tell ns) reply row
+    (counted_took a.world m q (notice ∷ rest) (drop max stands) has free within
+    (sym (take-append-drop max stands) ∙ ap (λ (xs : List Notice). xs ++ drop max stands) is) counted)
 
 closes : (a b : State) (q : ℕ) (shut : Bool) (reply : Reply) → q < length a.world.queues → Closes a q shut reply b
     → AreCounted a.world → AreCounted b.world
@@ -154,11 +183,40 @@ accepted a b (steps.Unhook m s) reply sound counted h row =
     (empty_hand (hand_of a.world (Mutator m)) _ first.1) (heap_holds a row.0 (heap.Unhook m s) reply row.1) row.1 row.2
     counted
 accepted a b (steps.Put who) reply sound counted h row = grind (arith, puts, actor_has a.world who sound)
-accepted a b (steps.Poll m q) reply sound counted h row = grind (arith, polls)
+accepted a b (steps.Puts who) reply sound counted h row =
+    let first = unless_passes (is_actor a.world.heap who) _ _ h in
+    puts_all a b who (hand_of a.world who) reply sound (actor_has a.world who sound first.0) row counted
+accepted a b (steps.Poll m q) reply sound counted h row =
+    let first = unless_passes (is_mutator a.world.heap m) _ _ h in
+    let second = unless_passes (is_queue a.world.heap q) _ _ first.1 in
+    polls a b m q 1 one_taken (take 1 (queue_at a.world q).stands) reply (mutator_within a.world m sound first.0)
+    (empty_hand (hand_of a.world (Mutator m)) None second.1) (queue_within a.world q sound second.0) refl row counted
+accepted a b (steps.Polls m q max) reply sound counted h row =
+    let first = unless_passes (is_mutator a.world.heap m) _ _ h in
+    let second = unless_passes (is_queue a.world.heap q) _ _ first.1 in
+    let third = unless_passes (fits max (length (hand_of a.world (Mutator m)))) _ _ second.1 in
+    polls a b m q max replies.TookSome (take max (queue_at a.world q).stands) reply
+    (mutator_within a.world m sound first.0) (empty_hand (hand_of a.world (Mutator m)) None third.1)
+    (queue_within a.world q sound second.0) refl row counted
 accepted a b (steps.Adopt m d) reply sound counted h row = grind (arith, adopts)
 accepted a b (steps.Release who) reply sound counted h row = grind (arith, releases, actor_has a.world who sound)
 accepted a b (steps.Close m q) reply sound counted h row = grind (arith, closes)
-accepted a b (steps.Hand k) reply sound counted h row = grind (arith, hands a row.0 b k)
+accepted a b (steps.Hand k) reply sound counted h row =
+    let first = unless_passes (is_worker a.world.heap k) _ _ h in
+    let ps = pending_of a.world k in
+    let keeps = heap_keeps a row.0 (heap.Hand k) reply tt row.1 in
+    hands a row.0 b k (heap.Hand k) (steps.Hand k) (one_handed k (take 1 ps)) (take 1 ps) reply keeps.others
+    (worker_within a.world k sound first.0) (empty_hand (hand_of a.world (Worker k)) _ first.1)
+    (heap_holds a row.0 (heap.Hand k) reply row.1) refl refl (tells_one k ps) row.1 row.2 counted
+accepted a b (steps.Hands k max) reply sound counted h row =
+    let first = unless_passes (is_worker a.world.heap k) _ _ h in
+    let second = unless_passes (fits max (length (hand_of a.world (Worker k)))) _ _ first.1 in
+    let ps = pending_of a.world k in
+    let asked : NamedStep = heap.Hands k max [] in
+    let keeps = heap_keeps a row.0 asked reply tt row.1 in
+    hands a row.0 b k asked (steps.Hands k max) (all_handed k (batch_of max ps)) (batch_of max ps) reply keeps.others
+    (worker_within a.world k sound first.0) (empty_hand (hand_of a.world (Worker k)) _ second.1)
+    (heap_holds a row.0 asked reply row.1) refl refl (tells_all k max ps) row.1 row.2 counted
 accepted a b step reply sound counted h row =
     quiet a b (asked_of (heap_step a.world step)) step reply tt counted row (λ _. refl) (λ _. refl)
 

@@ -7,7 +7,10 @@ use Rattle.ref_base.specs.KeptPaths.{policy_from, is_kept, IsKept}
 use Rattle.ref_base.specs.declared.strength.Strength.TheVariants.{Soft}
 use Rattle.ref_base.proofs.Common.{refl, false≢true}
 use Rattle.ref_base.proofs.ClosedSets.{closed_has}
-use Rattle.ref_base.proofs.WorkedTraces.{row, config_of, scaled_config_of}
+use Rattle.ref_base.proofs.WorkedTraces.{row, outs, config_of, scaled_config_of}
+use Rattle.ref_base.proofs.Common.{Pending, Worker, Cycle, IsRow}
+use Rattle.ref_base.specs.declared.fault.Fault.TheVariants.{BadConfig}
+use Rattle.ref_base.specs.declared.out.Done.TheVariants as done
 use Rattle.ref_base.specs.declared.plain_step.PlainStep.TheVariants as plain
 use Rattle.ref_base.specs.declared.step.Step.TheVariants as steps
 use Rattle.ref_base.specs.declared.reply.Reply.TheVariants as replies
@@ -259,3 +262,65 @@ begun_in_a_move =
 
 begun_in_a_move_is_not_legal : ¬ (IsLegal (config_of 1) begun_in_a_move)
 begun_in_a_move_is_not_legal legal = grind arith
+
+-- ---- batches
+
+-- a worker has cleared these
+abbrev waiting_for_hands : List Pending → State
+waiting_for_hands ps =
+    record (first_state (config_of 1)) { world = record (first_world (config_of 1)) { pending = ps ∷ [] } }
+
+abbrev pending : ℕ → ℕ → ℕ → Pending
+pending n q cycle = record { object = n; queue = q; cycle = cycle }
+
+-- one hand takes references of two cycles
+no_hand_crosses_a_cycle : (b : State)
+    → ¬ (IsRow (waiting_for_hands (pending 2 0 1 ∷ pending 6 0 2 ∷ []))
+    (row (steps.Hands 0 32) (replies.Notices (2 ∷ 6 ∷ []) 0 1 0)) b)
+no_hand_crosses_a_cycle b is =
+    let told : replies.Notices (2 ∷ 6 ∷ []) 0 1 0 ≡ replies.Notices (2 ∷ []) 0 1 0 = is.1.0 in absurd cc
+
+-- or of two queues
+no_hand_crosses_a_queue : (b : State)
+    → ¬ (IsRow (waiting_for_hands (pending 2 0 1 ∷ pending 6 1 1 ∷ []))
+    (row (steps.Hands 0 32) (replies.Notices (2 ∷ 6 ∷ []) 0 1 0)) b)
+no_hand_crosses_a_queue b is =
+    let told : replies.Notices (2 ∷ 6 ∷ []) 0 1 0 ≡ replies.Notices (2 ∷ []) 0 1 0 = is.1.0 in absurd cc
+
+-- or fewer than go together and were asked for
+no_hand_leaves_what_goes_with_it : (b : State)
+    → ¬ (IsRow (waiting_for_hands (pending 2 0 1 ∷ pending 6 0 1 ∷ []))
+    (row (steps.Hands 0 32) (replies.Notices (2 ∷ []) 0 1 0)) b)
+no_hand_leaves_what_goes_with_it b is =
+    let told : replies.Notices (2 ∷ []) 0 1 0 ≡ replies.Notices (2 ∷ 6 ∷ []) 0 1 0 = is.1.0 in absurd cc
+
+-- more than 32 are asked for
+no_hand_is_of_33 : (b : State)
+    → ¬ (IsRow (waiting_for_hands (pending 2 0 1 ∷ [])) (row (steps.Hands 0 33) (replies.Notices (2 ∷ []) 0 1 0)) b)
+no_hand_is_of_33 b is = let told : replies.Notices (2 ∷ []) 0 1 0 ≡ replies.Refused BadConfig = is.0 in absurd cc
+
+-- a worker's hand holds notices of 2 and 6
+abbrev holding_two : State
+holding_two = record (first_state (config_of 1)) {
+  world = record (first_world (config_of 1)) {
+    worker_hands = (
+        record { object = 2; queue = 0; cause = Cycle 1 0 } ∷ record { object = 6; queue = 0; cause = Cycle 1 0 } ∷ []
+        ) ∷ [];
+  };
+}
+
+-- a put of both goes on after an item that was refused
+no_put_goes_on_after_a_refused_item : (b : State)
+    → ¬ (IsRow holding_two
+    (row (steps.Puts (Worker 0)) (replies.Outs (outs 0 (done.Refused NoMemory ∷ done.Added ∷ [])))) b)
+no_put_goes_on_after_a_refused_item b is =
+    let told : replies.Outs (outs 0 (done.Refused NoMemory ∷ done.Added ∷ [])) ≡ replies.Outs is.0 = is.3.0 in
+    let same : is.0 ≡ outs 0 (done.Refused NoMemory ∷ done.Added ∷ []) = cc in
+    let over : (done.Added ∷ []) ≡ [] = rw same at is.2.3 in absurd cc
+
+-- or ends before one was refused
+no_put_stops_where_nothing_is_refused : (b : State)
+    → ¬ (IsRow holding_two (row (steps.Puts (Worker 0)) (replies.Outs (outs 0 (done.Added ∷ [])))) b)
+no_put_stops_where_nothing_is_refused b is =
+    let told : replies.Outs (outs 0 (done.Added ∷ [])) ≡ replies.Outs is.0 = is.3.0 in
+    let same : is.0 ≡ outs 0 (done.Added ∷ []) = cc in absurd (rw same at is.2.3)

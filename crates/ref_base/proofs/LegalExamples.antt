@@ -3,11 +3,13 @@ use Rattle.ref_base.proofs.Common.{true, false, refl, [], ◌∷◌, inl, inr, I
 use Rattle.std.proofs.lemmas.Bool.{ltb-true as below}
 use Rattle.ref_base.proofs.DoomChecks.{may_doom}
 use Rattle.ref_base.proofs.ClosedSets.{are_in-has}
-use Rattle.ref_base.proofs.LegalSteps.{none_left, mark_ends, legal, stop, ◌⨾◌}
+use Rattle.ref_base.proofs.LegalSteps.{Rows, none_left, mark_ends, legal, stop, ◌⨾◌, ◌and_then◌}
+use Rattle.ref_base.proofs.Common.{State, first_state}
 use Rattle.ref_base.proofs.WorkedTraces.{config_of, two_enqueued_in_order, death_reported_after_a_cycle}
 use Rattle.ref_base.proofs.WorkedTraces.{order_of_refusals, first_leaving_edge, soft_kept_within_the_span}
 use Rattle.ref_base.proofs.WorkedTraces.{cleared_for_every_mutator_at_once, get_keeps_the_referent}
 use Rattle.ref_base.proofs.WorkedTraces.{two_workers_in_clearing_order, objects_move_once_a_cycle}
+use Rattle.ref_base.proofs.WorkedTraces.{two_workers_cleared, two_workers_by_batches, memory_wants_within_a_batch}
 use Rattle.ref_base.proofs.WorkedTraces.{scaled_config_of, soft_scaled_by_what_is_free}
 
 two_enqueued_in_order_is_legal : IsLegal (config_of 1) two_enqueued_in_order
@@ -72,57 +74,65 @@ get_keeps_the_referent_is_legal = legal (config_of 1) get_keeps_the_referent (
     ⨾ (_, (refl, refl), refl)
     ⨾ stop)
 
+abbrev two_workers_clear : (a : State) × Rows (first_state (config_of 2)) two_workers_cleared a
+two_workers_clear = (
+  _,
+  (_, (refl, refl), refl)
+      ⨾ (_, (refl, refl), refl)
+      ⨾ (_, (refl, refl), refl)
+      ⨾ (_, (refl, refl), refl)
+      ⨾ (_, (refl, refl), refl)
+      ⨾ (_, (refl, refl), refl)
+      ⨾ (_, (refl, refl), refl)
+      ⨾ (_, (refl, (true, refl, λ _. (2, (inl ([], (refl, refl)), below _ _ refl, refl)))), refl)
+      ⨾ (
+        _,
+        (
+          refl,
+          (inl ([], (refl, refl)), below _ _ refl, refl),
+          (true, refl, λ _. (4, (inl ([], (refl, refl)), below _ _ refl, refl))),
+        ),
+        refl,
+      )
+      ⨾ (
+        _,
+        (
+          refl,
+          (inl ([], (refl, refl)), below _ _ refl, refl),
+          (true, refl, λ _. (6, (inl ([], (refl, refl)), below _ _ refl, refl))),
+        ),
+        refl,
+      )
+      ⨾ (_, (refl, (inl ([], (refl, refl)), below _ _ refl, refl), (false, refl, none_left)), refl)
+      ⨾ (
+        _,
+        mark_ends _ ((2 ∷ 6 ∷ []) ∷ (4 ∷ []) ∷ [])
+            (may_doom _ _ _ (1 ∷ 3 ∷ 5 ∷ []) (2 ∷ 4 ∷ 6 ∷ []) refl refl (
+              inl refl,
+              (
+                inr (inl ([], (refl, refl))),
+                (
+                  inl refl,
+                  (inr (inl ([], (refl, refl))), (inl refl, (inr (inl ([], (refl, refl))), tt))),
+                ),
+              ),
+            ) refl)
+            (refl, (refl, tt)) (are_in-has (2 ∷ 6 ∷ 4 ∷ []) (2 ∷ 4 ∷ 6 ∷ []) refl),
+        refl,
+      )
+      ⨾ (_, (refl, refl), refl)
+      ⨾ (_, (refl, refl), refl)
+      ⨾ (_, (refl, refl), refl)
+      ⨾ (_, (refl, refl), refl)
+      ⨾ stop,
+)
+
 two_workers_in_clearing_order_is_legal : IsLegal (config_of 2) two_workers_in_clearing_order
-two_workers_in_clearing_order_is_legal = legal (config_of 2) two_workers_in_clearing_order (
+two_workers_in_clearing_order_is_legal =
+    legal (config_of 2) two_workers_in_clearing_order
+    (two_workers_clear.1 and_then (
     (_, (refl, refl), refl)
     ⨾ (_, (refl, refl), refl)
-    ⨾ (_, (refl, refl), refl)
-    ⨾ (_, (refl, refl), refl)
-    ⨾ (_, (refl, refl), refl)
-    ⨾ (_, (refl, refl), refl)
-    ⨾ (_, (refl, refl), refl)
-    ⨾ (_, (refl, (true, refl, λ _. (2, (inl ([], (refl, refl)), below _ _ refl, refl)))), refl)
-    ⨾ (
-      _,
-      (
-        refl,
-        (inl ([], (refl, refl)), below _ _ refl, refl),
-        (true, refl, λ _. (4, (inl ([], (refl, refl)), below _ _ refl, refl))),
-      ),
-      refl,
-    )
-    ⨾ (
-      _,
-      (
-        refl,
-        (inl ([], (refl, refl)), below _ _ refl, refl),
-        (true, refl, λ _. (6, (inl ([], (refl, refl)), below _ _ refl, refl))),
-      ),
-      refl,
-    )
-    ⨾ (_, (refl, (inl ([], (refl, refl)), below _ _ refl, refl), (false, refl, none_left)), refl)
-    ⨾ (
-      _,
-      mark_ends _ ((2 ∷ 6 ∷ []) ∷ (4 ∷ []) ∷ [])
-          (may_doom _ _ _ (1 ∷ 3 ∷ 5 ∷ []) (2 ∷ 4 ∷ 6 ∷ []) refl refl (
-            inl refl,
-            (
-              inr (inl ([], (refl, refl))),
-              (
-                inl refl,
-                (inr (inl ([], (refl, refl))), (inl refl, (inr (inl ([], (refl, refl))), tt))),
-              ),
-            ),
-          ) refl)
-          (refl, (refl, tt)) (are_in-has (2 ∷ 6 ∷ 4 ∷ []) (2 ∷ 4 ∷ 6 ∷ []) refl),
-      refl,
-    )
-    ⨾ (_, (refl, refl), refl)
-    ⨾ (_, (refl, refl), refl)
-    ⨾ (_, (refl, refl), refl)
-    ⨾ (_, (refl, refl), refl)
-    ⨾ (_, (refl, refl), refl)
-    ⨾ (_, (refl, refl), refl)
     ⨾ inl (refl, refl)
     ⨾ (_, (refl, refl), refl)
     ⨾ inl (refl, refl)
@@ -132,7 +142,40 @@ two_workers_in_clearing_order_is_legal = legal (config_of 2) two_workers_in_clea
     ⨾ (refl, refl)
     ⨾ (_, (refl, refl), refl)
     ⨾ (refl, refl)
-    ⨾ stop)
+    ⨾ stop))
+
+two_workers_by_batches_is_legal : IsLegal (config_of 2) two_workers_by_batches
+two_workers_by_batches_is_legal =
+    legal (config_of 2) two_workers_by_batches
+    (two_workers_clear.1 and_then (
+    (_, (refl, refl), refl)
+    ⨾ (_, (refl, refl), refl)
+    ⨾ inl (refl, refl)
+    ⨾ (_, refl, (refl, refl, (refl, ((refl, refl, refl), tt)), tt), (refl, refl))
+    ⨾ (refl, refl)
+    ⨾ (_, (refl, refl), refl)
+    ⨾ (refl, refl)
+    ⨾ (_, (refl, refl), refl)
+    ⨾ (_, refl, (refl, refl, ((refl, refl, refl), tt), tt), (refl, refl))
+    ⨾ (refl, refl)
+    ⨾ (refl, refl)
+    ⨾ (refl, refl)
+    ⨾ (_, (refl, refl), refl)
+    ⨾ (_, (refl, refl), refl)
+    ⨾ (refl, refl)
+    ⨾ (_, (refl, refl), refl)
+    ⨾ (refl, refl)
+    ⨾ stop))
+
+memory_wants_within_a_batch_is_legal : IsLegal (config_of 2) memory_wants_within_a_batch
+memory_wants_within_a_batch_is_legal =
+    legal (config_of 2) memory_wants_within_a_batch
+    (two_workers_clear.1 and_then (
+    (_, (refl, refl), refl)
+    ⨾ (_, refl, (refl, refl, ((refl, refl, refl), ((refl, (refl, refl, refl)), tt)), refl), (refl, refl))
+    ⨾ (_, refl, (refl, refl, ((refl, refl, refl), tt), tt), (refl, refl))
+    ⨾ (refl, refl)
+    ⨾ stop))
 
 soft_kept_within_the_span_is_legal : IsLegal (config_of 1) soft_kept_within_the_span
 soft_kept_within_the_span_is_legal = legal (config_of 1) soft_kept_within_the_span (

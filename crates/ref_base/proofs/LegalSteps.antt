@@ -1,5 +1,6 @@
 -- How one shows of a concrete trace that it is legal, row by row.
-use Rattle.ref_base.proofs.Common.{◌≡◌, ℕ, true, false, refl, List, [], ◌∷◌, length, false≢true, State, first_state}
+use Rattle.ref_base.proofs.Common.{◌≡◌, ℕ, true, false, refl, List, [], ◌∷◌, ◌++◌, length, false≢true, State}
+use Rattle.ref_base.proofs.Common.{first_state}
 use Rattle.ref_base.proofs.Common.{IsLegal, Config, has, new_clears, MayDoom, graph_of, joined, EndsMark, AreFound}
 use Rattle.ref_base.proofs.Common.{mark_ended, doomed_at, IsRow, IsRun, Row}
 use Rattle.ref_base.specs.declared.reply.Reply.TheVariants.{Doomed}
@@ -20,6 +21,12 @@ infixr 20 ◌⨾◌
 pub data Rows : State → List Row → State → Type 0 where
   stop : {a : State} → Rows a [] a
   ◌⨾◌ : {a b c : State} {row : Row} {rows : List Row} → IsRow a row b → Rows b rows c → Rows a (row ∷ rows) c
+
+infixr 10 ◌and_then◌
+-- some rows, and then more
+pub ◌and_then◌ : {a b c : State} {rows more : List Row} → Rows a rows b → Rows b more c → Rows a (rows ++ more) c
+stop and_then more = more
+(first ⨾ rest) and_then more = first ⨾ (rest and_then more)
 
 pub run_of : {a c : State} {rows : List Row} → Rows a rows c → IsRun a rows c
 run_of stop = refl

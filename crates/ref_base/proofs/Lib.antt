@@ -11,6 +11,7 @@ pub mod SearchLaws
 pub mod StrengthLaws
 pub mod KeptLaws
 pub mod Places
+pub mod BatchParts
 pub mod QueueChanges
 pub mod SoundWorlds
 pub mod QueueLaws

@@ -7,7 +7,9 @@ use Rattle.ref_base.proofs.Common.{is_done, is_selected, NamedStep, pended, afte
 use Rattle.ref_base.proofs.Common.{on_heap, with_world, Loads, Gets, Unhooks, Holds, Scans, ClearsNext, HandsOn, Sweeps}
 use Rattle.ref_base.proofs.Common.{Selects, Moves, EndsMove, HeapAccepts, value_reply, looked_at, list_at, begun_state}
 use Rattle.ref_base.proofs.Common.{without, is_in, Marking, Reply}
-use Rattle.ref_base.proofs.Common.{if_told, told_cycle, begun}
+use Rattle.ref_base.proofs.Common.{if_told, told_cycle, begun, map, Notice}
+use Rattle.ref_base.proofs.Common.{told_notices, handed_each, notice_from, one_handed, all_handed, batch_of, pending_of}
+use Rattle.ref_base.proofs.BatchParts.{tells_one, tells_all}
 use Rattle.ref_base.specs.Worlds.{with_swept}
 use Rattle.ref_base.specs.CollectorRows.{looked, free_cells}
 use Rattle.ref_base.specs.declared.heap_step.HeapStep.TheVariants as heap
@@ -137,10 +139,12 @@ looks_at : (a b : State) (k : ℕ) (found : List ℕ) (reply : Reply) → list_a
 looks_at a b k [] reply is row = given a a b (heap.Plain (plain.ClearNext k)) replies.Nothing reply row refl
 looks_at a b k (n ∷ rest) reply is row = looks a b k n rest reply is row
 
-hands_on : (a b : State) (k : ℕ) (ps : List Pending) (reply : Reply) → HandsOn a k ps reply b
-    → Leads a (heap.Hand k) reply b
-hands_on a b k [] reply row = given a a b (heap.Hand k) replies.Nothing reply row refl
-hands_on a b k (p ∷ ps) reply row = given a _ b (heap.Hand k) _ reply row refl
+hands_on : (a b : State) (k : ℕ) (step : NamedStep) (answer : Reply) (ps : List Pending) (reply : Reply)
+    → HandsOn a k answer ps reply b → told_notices answer ≡ map (notice_from k) ps
+    → outcome a step answer ≡ with_world a (handed_each a.world k (told_notices answer)) → Leads a step reply b
+hands_on a b k step answer ps reply row tells leads =
+    given a _ b step answer reply row
+    (ap (λ (ns : List Notice). with_world a (handed_each a.world k ns)) (sym tells) ∙ sym leads)
 
 sweeps : (a b : State) (k : ℕ) (doomed : List ℕ) (reply : Reply) → a.doomed ≡ doomed → Sweeps a doomed reply b
     → Leads a (heap.Plain (plain.Sweep k)) reply b
@@ -170,7 +174,13 @@ heap_becomes a b (heap.Plain (plain.Begin now how)) reply no_end row =
 heap_becomes a b (heap.Plain (plain.Scan k)) reply no_end row = scans a b k reply row
 heap_becomes a b (heap.Plain plain.EndMark) reply no_end row = absurd no_end
 heap_becomes a b (heap.Plain (plain.ClearNext k)) reply no_end row = looks_at a b k _ reply refl row
-heap_becomes a b (heap.Hand k) reply no_end row = hands_on a b k _ reply row
+heap_becomes a b (heap.Hand k) reply no_end row =
+    let ps = pending_of a.world k in
+    hands_on a b k (heap.Hand k) (one_handed k (take 1 ps)) (take 1 ps) reply row (tells_one k ps) refl
+heap_becomes a b (heap.Hands k max batch) reply no_end row =
+    let ps = pending_of a.world k in
+    hands_on a b k (heap.Hands k max batch) (all_handed k (batch_of max ps)) (batch_of max ps) reply row
+    (tells_all k max ps) refl
 heap_becomes a b (heap.Plain (plain.Sweep k)) reply no_end row = sweeps a b k a.doomed reply refl row
 heap_becomes a b (heap.Plain plain.Select) reply no_end row = selects a b reply row
 heap_becomes a b (heap.Plain (plain.MoveNext k)) reply no_end row = moves a b k reply row

@@ -1,5 +1,6 @@
 -- How a queue's lists change, whatever stands in it.
-use Rattle.ref_base.proofs.Common.{◌≡◌, ℕ, zero, suc, ◌+◌, Bool, true, false, ◌||◌, List, [], ◌∷◌, ◌++◌, length, refl}
+use Rattle.ref_base.proofs.Common.{◌≡◌, ℕ, zero, suc, ◌+◌, Bool, true, false, ◌||◌, List, [], ◌∷◌, ◌++◌, length, map}
+use Rattle.ref_base.proofs.Common.{refl}
 use Rattle.ref_base.proofs.Common.{ap, append_assoc, arith, nat_eq, slice_index_or, append-nil, map-append}
 use Rattle.ref_base.proofs.Common.{IsDistinct-push, Lists, new_queue, new_queues, enqueued, was_put, with_parcel}
 use Rattle.ref_base.proofs.Common.{with_taken}
@@ -36,6 +37,11 @@ module _ {T : Type 0} (object_of : T → ℕ) where
   pub changes_took : (lists : Lists T) (notice : T) (rest : List T) → lists.stands ≡ notice ∷ rest
       → QueueChanges lists (with_taken object_of lists notice rest) [] (object_of notice ∷ []) false
   changes_took lists notice rest first = grind (arith, append_assoc, append-nil)
+
+  pub changes_took_some : (lists : Lists T) (front rest : List T) → lists.stands ≡ front ++ rest
+      → QueueChanges lists (record lists { taken = lists.taken ++ map object_of front; stands = rest }) []
+      (map object_of front) false
+  changes_took_some lists front rest first = grind (arith, map-append, append_assoc, append-nil)
 
   -- a queue may be closed again, and then nothing changes
   pub changes_closed : (lists : Lists T) (closes : Bool) → true ≡ (lists.closed || closes)

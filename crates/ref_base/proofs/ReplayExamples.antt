@@ -11,6 +11,8 @@ use Rattle.ref_base.proofs.WorkedTraces.{config_of, two_enqueued_in_order, death
 use Rattle.ref_base.proofs.WorkedTraces.{get_keeps_the_referent, two_workers_in_clearing_order}
 use Rattle.ref_base.proofs.WorkedTraces.{soft_kept_within_the_span, cleared_for_every_mutator_at_once}
 use Rattle.ref_base.proofs.WorkedTraces.{first_leaving_edge, objects_move_once_a_cycle}
+use Rattle.ref_base.proofs.WorkedTraces.{two_workers_by_batches, memory_wants_within_a_batch}
+use Rattle.ref_base.proofs.Common.{◌++◌, Worker}
 
 -- a reference with no fields, registered with queue 0
 abbrev reference : ℕ → Strength → Option ℕ → ℕ → Object
@@ -192,3 +194,29 @@ each_object_stays_as_it_was : graph_of (after_rows 12) ≡ record {
   roots = 1 ∷ 2 ∷ 2 ∷ 3 ∷ [];
 }
 each_object_stays_as_it_was = refl
+
+-- ---- two workers, by batches
+
+abbrev delivered_at_once : World
+delivered_at_once = replayed (config_of 2) two_workers_by_batches
+
+the_programs_notice_was_put_in_first : put_into 0 two_workers_by_batches ≡ 2 ∷ 6 ∷ 4 ∷ []
+the_programs_notice_was_put_in_first = refl
+
+two_were_taken_at_once : taken_from 0 two_workers_by_batches ≡ 2 ∷ 6 ∷ 4 ∷ []
+two_were_taken_at_once = refl
+
+the_second_of_them_was_adopted : slot_at delivered_at_once.heap 0 4 ≡ Some 6
+the_second_of_them_was_adopted = refl
+
+all_hands_are_empty : delivered_at_once.mutator_hands ++ delivered_at_once.worker_hands ≡ [] ∷ [] ∷ [] ∷ []
+all_hands_are_empty = refl
+
+-- what finds no memory stays in the hand, behind nothing and in front of what wasn't tried
+what_finds_no_memory_stays :
+    hand_of (replayed (config_of 2) (take 18 memory_wants_within_a_batch)) (Worker 0)
+    ≡ record { object = 6; queue = 0; cause = Cycle 1 0 } ∷ []
+what_finds_no_memory_stays = refl
+
+both_were_put_in_by_then : put_into 0 memory_wants_within_a_batch ≡ 2 ∷ 6 ∷ []
+both_were_put_in_by_then = refl

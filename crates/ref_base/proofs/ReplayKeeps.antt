@@ -4,10 +4,12 @@ use Rattle.ref_base.proofs.Common.{arith, ◌≡◌, ℕ, Bool, true, false, if�
 use Rattle.ref_base.proofs.Common.{None, refl, sym, ap, ◌∙◌, is_some, map-append, append-nil, Object, numbers}
 use Rattle.ref_base.proofs.Common.{plain_object, if_any, slot_at, reference_at, registered_in, changed_in}
 use Rattle.ref_base.proofs.Common.{with_reference, cleared, got_at, got, cut, nulls, World, Notice, with_heap, hand_of}
-use Rattle.ref_base.proofs.Common.{with_hand, told_object, is_done, told_notice, told_taken, NamedStep, handed, taking}
+use Rattle.ref_base.proofs.Common.{with_hand, told_object, is_done, told_notices, told_taken, told_dones, NamedStep}
+use Rattle.ref_base.proofs.Common.{handed, taking, handed_on, handed_each, unhooked, standing, took, with_hold}
+use Rattle.ref_base.proofs.Common.{with_queue, with_parcel, queue_at, added_among, not_added, Done}
 use Rattle.ref_base.proofs.Common.{if_told, after_heap, after_queues, pended, put_in, Actor, Mutator, Worker, Step}
 use Rattle.ref_base.proofs.Common.{Reply}
-use Rattle.ref_base.specs.Told.{is_added, told_cleared}
+use Rattle.ref_base.specs.Told.{told_cleared}
 use Rattle.ref_base.proofs.Lookups.{numbers-changed}
 use Rattle.ref_base.proofs.ReplayUnder.{made_number}
 use Rattle.ref_base.specs.declared.heap_step.HeapStep.TheVariants as heap
@@ -24,10 +26,20 @@ module _ {R : Type 0} (get : World → R) where
   done_keeps true change w keeps = keeps
   done_keeps false change w keeps = refl
 
-  unhooked_keeps : (v w : World) (nothing : Bool) (told : Option Notice) (change : Notice → World) → get v ≡ get w
-      → ((notice : Notice) → get (change notice) ≡ get w) → get (if nothing then v else if_told told change w) ≡ get w
-  unhooked_keeps v w true told change same keeps = same
-  unhooked_keeps v w false told change same keeps = told_keeps told change w keeps
+  unhooked_keeps : (w : World) (m s : ℕ) (nothing : Bool) (told : List Notice)
+      → get (with_heap w (cut w.heap m s)) ≡ get w
+      → ((n : ℕ) → get (with_heap w (with_hold (cut w.heap m s) n)) ≡ get w)
+      → get (if nothing then with_heap w (cut w.heap m s) else unhooked w m s told) ≡ get w
+  unhooked_keeps w m s true told same keeps = same
+  unhooked_keeps w m s false [] same keeps = refl
+  unhooked_keeps w m s false (notice ∷ rest) same keeps = keeps notice.object
+
+  -- what a hand of one keeps a hand of several keeps
+  pub each_keeps : ((v : World) (k n : ℕ) → get (handed_on v k n) ≡ get v) → (w : World) (k : ℕ)
+      (notices : List Notice) → get (handed_each w k notices) ≡ get w
+  each_keeps keeps w k [] = refl
+  each_keeps keeps w k (notice ∷ rest) =
+      each_keeps keeps (handed_on w k notice.object) k rest ∙ keeps w k notice.object
 
 -- ---- all but objects, slots, holds, what waits and how many objects were swept
 
@@ -49,6 +61,7 @@ EndsNoPhase step = Unit {0}
 abbrev pub PendsNone : NamedStep → Type 0
 PendsNone (heap.Plain (plain.ClearNext k)) = ⊥
 PendsNone (heap.Hand k) = ⊥
+PendsNone (heap.Hands k max batch) = ⊥
 PendsNone step = Unit {0}
 
 frame_changed : (w : World) (held : Option ℕ) (f : Object → Object)
@@ -100,7 +113,8 @@ same_stage w (heap.Plain plain.EndSweep) reply no_end = absurd no_end
 same_stage w (heap.Plain plain.Select) reply no_end = absurd no_end
 same_stage w (heap.Plain plain.EndMove) reply no_end = absurd no_end
 same_stage w (heap.Plain (plain.ClearNext k)) reply no_end = grind arith
-same_stage w (heap.Hand k) reply no_end = told_keeps stage_of (told_notice reply) _ w (λ notice. refl)
+same_stage w (heap.Hand k) reply no_end = each_keeps stage_of (λ _ _ _. refl) w k (told_notices reply)
+same_stage w (heap.Hands k max batch) reply no_end = each_keeps stage_of (λ _ _ _. refl) w k (told_notices reply)
 same_stage w step reply no_end =
     ap (λ (v : World). record v { pending = [] }) (same_frame w step reply no_end tt)
 
@@ -152,6 +166,7 @@ numbers_same w step reply no_end =
       told_keeps numbers_of,
       done_keeps numbers_of,
       unhooked_keeps numbers_of,
+      each_keeps numbers_of,
       numbers_in,
       numbers_cut,
       numbers_got,
@@ -186,7 +201,14 @@ same_swept w (heap.Plain (plain.ClearNext k)) reply no_sweep =
     told_keeps swept_in (told_cleared reply) _ w
     (λ n. swept_pended _ k n (registered_in (reference_at w.heap n)))
 same_swept w step reply no_sweep =
-    search (told_keeps swept_in, done_keeps swept_in, unhooked_keeps swept_in, no_sweep, refl)
+    search (
+      told_keeps swept_in,
+      done_keeps swept_in,
+      unhooked_keeps swept_in,
+      each_keeps swept_in,
+      no_sweep,
+      refl,
+    )
 
 -- ---- hands and queues
 
@@ -198,24 +220,37 @@ hand_keeps : (w : World) (who : Actor) (hand : List Notice) → but_hands (with_
 hand_keeps w (Mutator m) hand = refl
 hand_keeps w (Worker k) hand = refl
 
-taking_keeps : (w : World) (who : Actor) (told : Option Notice) → but_hands (taking w who told) ≡ but_hands w
-taking_keeps w who None = refl
-taking_keeps w who (Some notice) = hand_keeps w who (notice ∷ [])
+taking_keeps : (w : World) (who : Actor) (told : List Notice) → but_hands (taking w who told) ≡ but_hands w
+taking_keeps w who [] = refl
+taking_keeps w who (notice ∷ rest) = hand_keeps w who (notice ∷ rest)
 
 pub handed_keeps : (w : World) (step : Step) (reply : Reply) → but_hands (handed w step reply) ≡ but_hands w
-handed_keeps w (steps.Unhook m s) reply = taking_keeps w (Mutator m) (told_notice reply)
-handed_keeps w (steps.Hand k) reply = taking_keeps w (Worker k) (told_notice reply)
+handed_keeps w (steps.Unhook m s) reply = taking_keeps w (Mutator m) (told_notices reply)
+handed_keeps w (steps.Hand k) reply = taking_keeps w (Worker k) (told_notices reply)
+handed_keeps w (steps.Hands k max) reply = taking_keeps w (Worker k) (told_notices reply)
 handed_keeps w (steps.Adopt m d) reply = done_keeps but_hands (is_some (told_object reply)) _ w refl
 handed_keeps w (steps.Release who) reply = done_keeps but_hands (is_done reply) _ w (hand_keeps w who _)
 handed_keeps w step reply = refl
 
-put_keeps : (w : World) (who : Actor) (hand : List Notice) → but_hands (put_in w who hand) ≡ but_hands w
+standing_keeps : (w : World) (notices : List Notice) → but_hands (standing w notices) ≡ but_hands w
+standing_keeps w [] = refl
+standing_keeps w (notice ∷ rest) =
+    standing_keeps (with_queue w notice.queue (with_parcel (queue_at w notice.queue) notice)) rest
+
+pub put_keeps : (w : World) (who : Actor) (ds : List Done) → but_hands (put_in w who ds) ≡ but_hands w
 put_keeps w who [] = refl
-put_keeps w (Mutator m) (notice ∷ rest) = refl
-put_keeps w (Worker k) (notice ∷ rest) = refl
+put_keeps w who (d ∷ ds) =
+    hand_keeps (standing w (added_among (hand_of w who) (d ∷ ds))) who (not_added (hand_of w who) (d ∷ ds))
+    ∙ standing_keeps w (added_among (hand_of w who) (d ∷ ds))
+
+took_keeps : (w : World) (m q : ℕ) (ns : List ℕ) → but_hands (took w m q ns) ≡ but_hands w
+took_keeps w m q [] = refl
+took_keeps w m q (n ∷ ns) = refl
 
 pub queues_keep : (w : World) (step : Step) (reply : Reply) → but_hands (after_queues w step reply) ≡ but_hands w
-queues_keep w (steps.Put who) reply = done_keeps but_hands (is_added reply) _ w (put_keeps w who (hand_of w who))
-queues_keep w (steps.Poll m q) reply = told_keeps but_hands (told_taken reply) _ w (λ n. refl)
+queues_keep w (steps.Put who) reply = put_keeps w who (told_dones reply)
+queues_keep w (steps.Puts who) reply = put_keeps w who (told_dones reply)
+queues_keep w (steps.Poll m q) reply = took_keeps w m q (told_taken reply)
+queues_keep w (steps.Polls m q max) reply = took_keeps w m q (told_taken reply)
 queues_keep w (steps.Close m q) reply = done_keeps but_hands (is_done reply) _ w refl
 queues_keep w step reply = refl

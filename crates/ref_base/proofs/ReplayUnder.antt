@@ -2,7 +2,9 @@
 use Rattle.ref_base.proofs.Common.{arith, ◌≡◌, ℕ, Bool, true, false, if◌then◌else◌, List, [], ◌∷◌, Option, Some, None}
 use Rattle.ref_base.proofs.Common.{refl, ap, is_some, stored, has, Object, slot_at, got, cut, made, with_hold}
 use Rattle.ref_base.proofs.Common.{changed_in, with_reference, cleared, with_field, World, Notice, with_heap, with_hand}
-use Rattle.ref_base.proofs.Common.{told_object, is_done, told_notice, told_taken, NamedStep, heap_step, handed, taking}
+use Rattle.ref_base.proofs.Common.{told_object, is_done, told_notices, told_taken, told_dones, NamedStep, heap_step}
+use Rattle.ref_base.proofs.Common.{handed, taking, handed_on, handed_each, unhooked, standing, took, hand_of, Heap}
+use Rattle.ref_base.proofs.Common.{with_queue, with_parcel, queue_at, added_among, not_added, Done}
 use Rattle.ref_base.proofs.Common.{with_rest, if_told, after_heap, after_queues, put_in, under, heap_under, Actor}
 use Rattle.ref_base.proofs.Common.{Mutator, Worker, Step, Reply}
 use Rattle.ref_base.specs.Told.{is_mark_end}
@@ -80,15 +82,19 @@ module _ (gone : List ℕ) (these : ℕ → Bool) where
       ≡ under gone these (with_heap w (made w.heap m d o))
   made_under w m d o kept stays = search seen_push
 
-  unhooked_under : (w : World) (m s : ℕ) (nothing : Bool) (told : Option Notice)
-      → (let unhooked = with_heap (under gone these w) (cut (heap_under gone these w.heap) m s) in
-      if nothing then unhooked
-      else if_told told (λ notice. with_heap unhooked (with_hold unhooked.heap notice.object)) (under gone these w))
-      ≡ under gone these (let unhooked = with_heap w (cut w.heap m s) in
-      if nothing then unhooked
-      else if_told told (λ notice. with_heap unhooked (with_hold unhooked.heap notice.object)) w)
+  unhooked_under : (w : World) (m s : ℕ) (nothing : Bool) (told : List Notice)
+      → (if nothing then with_heap (under gone these w) (cut (heap_under gone these w.heap) m s)
+      else unhooked (under gone these w) m s told)
+      ≡ under gone these (if nothing then with_heap w (cut w.heap m s) else unhooked w m s told)
   unhooked_under w m s true told = ap (with_heap w) (cuts w m s)
-  unhooked_under w m s false told = search (told_under, cuts)
+  unhooked_under w m s false [] = refl
+  unhooked_under w m s false (notice ∷ rest) =
+      ap (λ (h : Heap). with_heap w (with_hold h notice.object)) (cuts w m s)
+
+  each_under : (w : World) (k : ℕ) (notices : List Notice)
+      → handed_each (under gone these w) k notices ≡ under gone these (handed_each w k notices)
+  each_under w k [] = refl
+  each_under w k (notice ∷ rest) = each_under (handed_on w k notice.object) k rest
 
   -- a row of a heap goes through, where what it makes is neither gone nor one of these
   pub heap_through : (w : World) (step : NamedStep) (reply : Reply) → IsNoLook step → IsNoBegin step
@@ -100,7 +106,8 @@ module _ (gone : List ℕ) (these : ℕ → Bool) where
   heap_through w (heap.Plain plain.EndMark) reply no_end old apart = done_under (is_mark_end reply) _ _ w refl
   heap_through w (heap.Plain (plain.Begin now how)) reply no_end old apart = absurd old
   heap_through w step reply no_end old apart =
-      search (told_under, done_under, unhooked_under, stores_under, cuts_under, gets_under, no_end, refl)
+      search
+      (told_under, done_under, unhooked_under, each_under, stores_under, cuts_under, gets_under, no_end, refl)
 
   -- ---- hands and queues
 
@@ -109,10 +116,10 @@ module _ (gone : List ℕ) (these : ℕ → Bool) where
   hand_under w (Mutator m) hand = refl
   hand_under w (Worker k) hand = refl
 
-  taking_under : (w : World) (who : Actor) (told : Option Notice)
+  taking_under : (w : World) (who : Actor) (told : List Notice)
       → taking (under gone these w) who told ≡ under gone these (taking w who told)
-  taking_under w who None = refl
-  taking_under w who (Some notice) = hand_under w who (notice ∷ [])
+  taking_under w who [] = refl
+  taking_under w who (notice ∷ rest) = hand_under w who (notice ∷ rest)
 
   rest_under : (w : World) (who : Actor) → with_rest (under gone these w) who ≡ under gone these (with_rest w who)
   rest_under w (Mutator m) = refl
@@ -121,23 +128,43 @@ module _ (gone : List ℕ) (these : ℕ → Bool) where
   -- what a row leaves in the hands goes through
   pub handed_through : (w : World) (step : Step) (reply : Reply)
       → handed (under gone these w) step reply ≡ under gone these (handed w step reply)
-  handed_through w (steps.Unhook m s) reply = taking_under w (Mutator m) (told_notice reply)
-  handed_through w (steps.Hand k) reply = taking_under w (Worker k) (told_notice reply)
+  handed_through w (steps.Unhook m s) reply = taking_under w (Mutator m) (told_notices reply)
+  handed_through w (steps.Hand k) reply = taking_under w (Worker k) (told_notices reply)
+  handed_through w (steps.Hands k max) reply = taking_under w (Worker k) (told_notices reply)
   handed_through w (steps.Adopt m d) reply = done_under (is_some (told_object reply)) _ _ w refl
   handed_through w (steps.Release who) reply = done_under (is_done reply) _ _ w (rest_under w who)
   handed_through w step reply = refl
 
-  put_under : (w : World) (who : Actor) (hand : List Notice)
-      → put_in (under gone these w) who hand ≡ under gone these (put_in w who hand)
+  standing_under : (w : World) (notices : List Notice)
+      → standing (under gone these w) notices ≡ under gone these (standing w notices)
+  standing_under w [] = refl
+  standing_under w (notice ∷ rest) =
+      standing_under (with_queue w notice.queue (with_parcel (queue_at w notice.queue) notice)) rest
+
+  put_under : (w : World) (who : Actor) (ds : List Done)
+      → put_in (under gone these w) who ds ≡ under gone these (put_in w who ds)
   put_under w who [] = refl
-  put_under w (Mutator m) (notice ∷ rest) = refl
-  put_under w (Worker k) (notice ∷ rest) = refl
+  put_under w (Mutator m) (d ∷ ds) =
+      let hand = hand_of w (Mutator m) in
+      ap (λ (v : World). with_hand v (Mutator m) (not_added hand (d ∷ ds)))
+      (standing_under w (added_among hand (d ∷ ds)))
+  put_under w (Worker k) (d ∷ ds) =
+      let hand = hand_of w (Worker k) in
+      ap (λ (v : World). with_hand v (Worker k) (not_added hand (d ∷ ds)))
+      (standing_under w (added_among hand (d ∷ ds)))
+
+  took_under : (w : World) (m q : ℕ) (ns : List ℕ)
+      → took (under gone these w) m q ns ≡ under gone these (took w m q ns)
+  took_under w m q [] = refl
+  took_under w m q (n ∷ ns) = refl
 
   -- so does a row of queues
   pub queues_through : (w : World) (step : Step) (reply : Reply)
       → after_queues (under gone these w) step reply ≡ under gone these (after_queues w step reply)
-  queues_through w (steps.Put who) reply = search (done_under, put_under)
-  queues_through w (steps.Poll m q) reply = told_under (told_taken reply) _ _ w (λ n is. refl)
+  queues_through w (steps.Put who) reply = put_under w who (told_dones reply)
+  queues_through w (steps.Puts who) reply = put_under w who (told_dones reply)
+  queues_through w (steps.Poll m q) reply = took_under w m q (told_taken reply)
+  queues_through w (steps.Polls m q max) reply = took_under w m q (told_taken reply)
   queues_through w (steps.Close m q) reply = done_under (is_done reply) _ _ w refl
   queues_through w step reply = refl
 

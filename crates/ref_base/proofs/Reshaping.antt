@@ -4,7 +4,9 @@ use Rattle.ref_base.proofs.Common.{length, Option, Some, None, is_some, true≢f
 use Rattle.ref_base.proofs.Common.{object_at, is_there, Heap, reference_in, registered_in, changed_at}
 use Rattle.ref_base.proofs.Common.{changed_reference, cleared, Pending, NamedStep, State, on_heap, unless, has_slot}
 use Rattle.ref_base.proofs.Common.{field_count, object_refusal, field_refusal, reference_refusal, holds_refusal}
-use Rattle.ref_base.proofs.Common.{minting_refusal, unhook_refusal, held_refusal, hand_refusal, heap_refusal, Fault}
+use Rattle.ref_base.proofs.Common.{minting_refusal, unhook_refusal, held_refusal, hand_refusal, hands_refusal}
+use Rattle.ref_base.proofs.Common.{heap_refusal}
+use Rattle.ref_base.proofs.Common.{Fault}
 use Rattle.ref_base.proofs.Common.{BadField, NoSuchActor, NotAReference}
 use Rattle.ref_base.specs.Refusals.{new_refusal, refer_refusal}
 use Rattle.ref_base.specs.declared.heap_step.HeapStep.TheVariants as heap
@@ -91,11 +93,23 @@ module _ (g : Object → Object) (keeps : KeepsShape g) where
     hand-reshaped [] = refl
     hand-reshaped (p ∷ ps) = refl
 
+    hands-reshaped : (ps : List Pending) → hands_refusal ps (reshaped g h) ≡ hands_refusal ps h
+    hands-reshaped [] = refl
+    hands-reshaped (p ∷ ps) = refl
+
   -- no step's refusal changes
   pub same_refusal : (a : State) (step : NamedStep)
       → heap_refusal (on_heap a (reshaped g a.world.heap)) step ≡ heap_refusal a step
   same_refusal a (heap.Plain (plain.New m d k)) = new-reshaped a.world.heap a.next m d k
   same_refusal a (heap.Plain (plain.Refer m strength d s q k)) = refer-reshaped a.world.heap a.next m d s q k
   same_refusal a step =
-      search
-      (later_same, field-reshaped, reference-reshaped, unhook-reshaped, held-reshaped, hand-reshaped, refl)
+      search (
+        later_same,
+        field-reshaped,
+        reference-reshaped,
+        unhook-reshaped,
+        held-reshaped,
+        hand-reshaped,
+        hands-reshaped,
+        refl,
+      )

@@ -1,8 +1,9 @@
 -- What a row of the world does to the pending lists, to what was scanned and to the configuration; and that, where it
 -- says in a mark that an object is left, one is.
-use Rattle.ref_base.proofs.Common.{◌≡◌, ℕ, List, Option, Some, None, inl, inr, refl, sym, ap, ◌∙◌, subst, slice_set}
-use Rattle.ref_base.proofs.Common.{reference_at, registered_in, World, Pending, pending_of, NamedStep, heap_step}
-use Rattle.ref_base.proofs.Common.{pended, without_pending, after_queues, State, emptied, with_world, with_handed}
+use Rattle.ref_base.proofs.Common.{◌≡◌, ℕ, List, Option, Some, None, inl, inr, refl, sym, ap, ◌∙◌, subst}
+use Rattle.ref_base.proofs.Common.{reference_at, registered_in, World, Pending, NamedStep, heap_step}
+use Rattle.ref_base.proofs.Common.{told_notices, handed_each}
+use Rattle.ref_base.proofs.Common.{pended, after_queues, State, emptied, with_world, with_handed}
 use Rattle.ref_base.proofs.Common.{HeapAccepts, IsRow, AreCounted, Fault, Reply, Row}
 use Rattle.ref_base.proofs.Outcomes.{scanned_by, outcome, heap_outcome, IsNoEnd}
 use Rattle.ref_base.proofs.OutcomeParts.{mark_in, heap_config}
@@ -19,8 +20,8 @@ use Rattle.ref_base.specs.declared.reply.Reply.TheVariants as replies
 abbrev pub pending_after : World → Option NamedStep → Reply → List (List Pending)
 pending_after w (Some (heap.Plain (plain.ClearNext k))) (replies.Cleared n) =
     (pended w k n (registered_in (reference_at w.heap n))).pending
-pending_after w (Some (heap.Hand k)) (replies.Notice n q cause) =
-    slice_set w.pending k (without_pending (pending_of w k) n)
+pending_after w (Some (heap.Hand k)) reply = (handed_each w k (told_notices reply)).pending
+pending_after w (Some (heap.Hands k max batch)) reply = (handed_each w k (told_notices reply)).pending
 pending_after w asked reply = w.pending
 
 -- what was scanned
@@ -40,7 +41,8 @@ pub record Changes (a : State) (asked : Option NamedStep) (reply : Reply) (b : S
 pending_told : (a : State) (step : NamedStep) (reply : Reply) → IsNoEnd step
     → (outcome a step reply).world.pending ≡ pending_after a.world (Some step) reply
 pending_told a (heap.Plain (plain.ClearNext k)) (replies.Cleared n) no_end = refl
-pending_told a (heap.Hand k) (replies.Notice n q cause) no_end = refl
+pending_told a (heap.Hand k) reply no_end = refl
+pending_told a (heap.Hands k max batch) reply no_end = refl
 pending_told a (heap.Plain (plain.Begin now how)) (replies.Cycle n) no_end = refl
 pending_told a (heap.Plain (plain.Sweep k)) (replies.Swept n) no_end = refl
 pending_told a step reply no_end = search (frame_pending a.world, done_keeps (λ (w : World). w.pending), refl)

@@ -5,6 +5,8 @@ use Rattle.ref_base.proofs.Common.{after_queues, closed_queue, State, refusal, h
 use Rattle.ref_base.proofs.Common.{with_handed, HeapAccepts, QueuesAccept, AcceptsAsking, IsAnswer, IsRow, Puts}
 use Rattle.ref_base.proofs.Common.{PutsInto, Polls, Closes, Gives, AreCounted, Actor, Mutator, Fault, HoldName, Step}
 use Rattle.ref_base.proofs.Common.{Reply, Row, eq-eqb}
+use Rattle.ref_base.proofs.Common.{sym, ap, map, take, object_of, took, told_taken, PutsAll, one_taken, ◌∙◌}
+use Rattle.ref_base.proofs.BatchParts.{told_one}
 use Rattle.ref_base.specs.Refusals.{is_counted}
 use Rattle.ref_base.proofs.RowForms.{unless_passes}
 use Rattle.ref_base.proofs.CountedWorlds.{holding_hand, counted_hand}
@@ -64,26 +66,39 @@ given : (a c b : State) (step : Step) (answer reply : Reply) → Gives answer c 
 given a c b step answer reply row leads = grind arith
 
 puts_into : (a b : State) (who : Actor) (notice : Notice) (rest : List Notice) (again shut : Bool) (reply : Reply)
-    → hand_of a.world who ≡ notice ∷ rest → PutsInto again shut a who notice rest reply b
+    → PutsInto again shut a who notice rest reply b → LeadsQueues a (steps.Put who) reply b
+puts_into a b who notice rest true shut reply row = given a a b (steps.Put who) replies.Already reply row refl
+puts_into a b who notice rest false true reply row = given a a b (steps.Put who) replies.Closed reply row refl
+puts_into a b who notice rest false false reply row = grind arith
+
+puts : (a b : State) (who : Actor) (hand : List Notice) (reply : Reply) → Puts a who hand reply b
     → LeadsQueues a (steps.Put who) reply b
-puts_into a b who notice rest true shut reply is row = given a a b (steps.Put who) replies.Already reply row refl
-puts_into a b who notice rest false true reply is row = given a a b (steps.Put who) replies.Closed reply row refl
-puts_into a b who notice rest false false reply is row = grind arith
+puts a b who [] reply row = absurd row
+puts a b who (notice ∷ rest) reply row = puts_into a b who notice rest _ _ reply row
 
-puts : (a b : State) (who : Actor) (hand : List Notice) (reply : Reply) → hand_of a.world who ≡ hand
-    → Puts a who hand reply b → LeadsQueues a (steps.Put who) reply b
-puts a b who [] reply is row = absurd row
-puts a b who (notice ∷ rest) reply is row = puts_into a b who notice rest _ _ reply is row
+puts_all : (a b : State) (who : Actor) (hand : List Notice) (reply : Reply) → PutsAll a who hand reply b
+    → LeadsQueues a (steps.Puts who) reply b
+puts_all a b who [] reply row = absurd row
+puts_all a b who (notice ∷ rest) reply row = given a _ b (steps.Puts who) (replies.Outs row.0) reply row.3 refl
 
-polls_none : (a b : State) (m q : ℕ) (shut : Bool) (reply : Reply)
-    → Gives (if shut then replies.Closed else replies.Empty) a reply b → LeadsQueues a (steps.Poll m q) reply b
-polls_none a b m q true reply row = given a a b (steps.Poll m q) replies.Closed reply row refl
-polls_none a b m q false reply row = given a a b (steps.Poll m q) replies.Empty reply row refl
+polls_none : (a b : State) (step : Step) (shut : Bool) (reply : Reply)
+    → after_queues a.world step replies.Closed ≡ a.world → after_queues a.world step replies.Empty ≡ a.world
+    → Gives (if shut then replies.Closed else replies.Empty) a reply b → LeadsQueues a step reply b
+polls_none a b step true reply closed empty row =
+    given a a b step replies.Closed reply row (ap (with_world a) (sym closed))
+polls_none a b step false reply closed empty row =
+    given a a b step replies.Empty reply row (ap (with_world a) (sym empty))
 
-polls : (a b : State) (m q : ℕ) (stands : List Notice) (reply : Reply) → Polls a m q stands reply b
-    → LeadsQueues a (steps.Poll m q) reply b
-polls a b m q [] reply row = polls_none a b m q (queue_at a.world q).closed reply row
-polls a b m q (notice ∷ rest) reply row = search given
+polls : (a b : State) (m q : ℕ) (step : Step) (tell : List ℕ → Reply) (taken : List Notice) (reply : Reply)
+    → ((r : Reply) → after_queues a.world step r ≡ took a.world m q (told_taken r))
+    → told_taken (tell (map object_of taken)) ≡ map object_of taken → Polls a m q tell taken reply b
+    → LeadsQueues a step reply b
+polls a b m q step tell [] reply takes told row =
+    polls_none a b step (queue_at a.world q).closed reply (takes replies.Closed) (takes replies.Empty) row
+polls a b m q step tell (notice ∷ rest) reply takes told row =
+    let ns : List ℕ = map object_of (notice ∷ rest) in
+    given a (with_world a (took a.world m q ns)) b step (tell ns) reply row
+    (ap (with_world a) (sym (takes (tell ns) ∙ ap (took a.world m q) told)))
 
 closes : (a b : State) (m q : ℕ) (shut : Bool) (reply : Reply) → Closes a q shut reply b
     → LeadsQueues a (steps.Close m q) reply b
@@ -94,8 +109,13 @@ closes a b m q false reply row =
 -- a row of queues leaves the queues that its answer says
 pub queues_become : (a b : State) (step : Step) (reply : Reply) → QueuesAccept a step reply b
     → LeadsQueues a step reply b
-queues_become a b (steps.Put who) reply row = puts a b who (hand_of a.world who) reply refl row
-queues_become a b (steps.Poll m q) reply row = polls a b m q (queue_at a.world q).stands reply row
+queues_become a b (steps.Put who) reply row = puts a b who (hand_of a.world who) reply row
+queues_become a b (steps.Puts who) reply row = puts_all a b who (hand_of a.world who) reply row
+queues_become a b (steps.Poll m q) reply row =
+    let stands : List Notice = (queue_at a.world q).stands in
+    polls a b m q (steps.Poll m q) one_taken (take 1 stands) reply (λ _. refl) (told_one stands) row
+queues_become a b (steps.Polls m q max) reply row =
+    polls a b m q (steps.Polls m q max) replies.TookSome _ reply (λ _. refl) refl row
 queues_become a b (steps.Close m q) reply row = closes a b m q (queue_at a.world q).closed reply row
 queues_become a b step reply row = absurd row
 

@@ -5,8 +5,17 @@ use Rattle.ref_base.proofs.Common.{has, slot_at, was_put, HandNotices, with_held
 use Rattle.ref_base.proofs.Common.{SameOthers, object_of, hand_of, queue_at, with_hand, NamedStep, hold_of, spending}
 use Rattle.ref_base.proofs.Common.{handed, State, refusal, heap_refusal, is_mutator, is_actor, has_slot, with_handed}
 use Rattle.ref_base.proofs.Common.{Gives, HeapAccepts, Accepts, AcceptsAsking, IsAnswer, IsRow, Unhooks, PutsInto, Puts}
-use Rattle.ref_base.proofs.Common.{Polls, Closes, HandsOn, Fault, NoMemory, Own, Cycle, Actor, Mutator, Worker, Step}
+use Rattle.ref_base.proofs.Common.{Polls, Closes, HandsOn, Fault, NoMemory, Own, Actor, Mutator, Worker, Step}
 use Rattle.ref_base.proofs.Common.{Reply, Row, heap_step, rest_of, with_rest, with_held_rest}
+use Rattle.ref_base.proofs.Common.{◌==◌, ◌++◌, map, take, drop, take-append-drop, eqb-true, notice_from, told_notices}
+use Rattle.ref_base.proofs.Common.{taking, with_world, put_in, took, added_among, Become, TellsBatch, Done, PutsAll}
+use Rattle.ref_base.proofs.Common.{one_taken, one_handed, all_handed, batch_of, pending_of}
+use Rattle.std.specs.List.{list_all}
+use Rattle.ref_base.specs.Outs.{Outs}
+use Rattle.ref_base.specs.QueueRows.{given_by, filled_with, put_from_hand, those_for, only_if, taken_as}
+use Rattle.ref_base.proofs.Common.{told_taken}
+use Rattle.ref_base.specs.declared.out.Done.TheVariants.{Added}
+use Rattle.ref_base.proofs.BatchParts.{all_added, all_take, all_batch, all_given, tells_one, tells_all, told_one}
 use Rattle.ref_base.specs.Refusals.{is_worker, is_queue}
 use Rattle.ref_base.proofs.CarryHeaps.{Anew, heap_carries}
 use Rattle.ref_base.proofs.CarryLaws.{AnyCycle}
@@ -14,9 +23,11 @@ use Rattle.ref_base.proofs.OutcomeParts.{heap_others, heap_config}
 use Rattle.ref_base.proofs.Places.{all_rest}
 use Rattle.ref_base.proofs.RowForms.{asked_of, unless_passes}
 use Rattle.ref_base.proofs.SoundWorlds.{QueueBelow, ObjectBelow, PendingBelow, IsBelow, HasHand, IsSound, below_lasts}
+use Rattle.ref_base.proofs.SoundWorlds.{IsOwn, NoticesBelow}
 use Rattle.ref_base.proofs.SoundWorlds.{names_below, sound_again, registered_below, held_below}
 use Rattle.ref_base.proofs.QueueLaws.{as_held, held_of, rest_held, queue_change_by, no_queue_change, Goes, IsStill}
-use Rattle.ref_base.proofs.QueueLaws.{same, stays, sets_hand, goes_after, put_goes, close_goes, poll_goes}
+use Rattle.ref_base.proofs.QueueLaws.{same, stays, sets_hand, goes_after, put_goes, close_goes, poll_goes, MayStand}
+use Rattle.ref_base.proofs.QueueLaws.{become_may, QueueChange, change_by}
 use Rattle.ref_base.specs.declared.heap_step.HeapStep.TheVariants as heap
 use Rattle.ref_base.specs.declared.plain_step.PlainStep.TheVariants as plain
 use Rattle.ref_base.specs.declared.step.Step.TheVariants as steps
@@ -74,6 +85,19 @@ given : (a c b : State) (step : Step) (answer reply : Reply) → Gives answer c 
     → Goes a.world c.world step answer → Goes a.world b.world step reply
 given a c b step answer reply gives goes = grind arith
 
+-- a put of the first notice, into its own queue
+added_goes : (w : World) (who : Actor) (position : ℕ) (notice : Notice) (rest : List Notice) → IsSound w
+    → HasHand w who → hand_of w who ≡ notice ∷ rest → was_put object_of (queue_at w notice.queue) notice ≡ false
+    → (queue_at w notice.queue).closed ≡ false
+    → Goes w (put_in w who (Added ∷ [])) (steps.Put who) (replies.Added position)
+added_goes w who position notice rest sound has hand fresh open_yet =
+    let below : NoticesBelow w.heap.config.queues (notice ∷ rest) =
+    subst (NoticesBelow w.heap.config.queues) hand (sound.hands_below who) in
+    let within : notice.queue < length w.queues = rw sound.queues below.0 in
+    put_goes w who Added [] (steps.Put who) (replies.Added position) sound has
+    (subst (λ (h : List Notice). MayStand w (added_among h (Added ∷ []))) (sym hand) (within, fresh, open_yet, tt))
+    (λ _ _. refl)
+
 put_into_goes : (a b : State) (who : Actor) (notice : Notice) (rest : List Notice) (again shut : Bool) (reply : Reply)
     → IsSound a.world → HasHand a.world who → hand_of a.world who ≡ notice ∷ rest
     → was_put object_of (queue_at a.world notice.queue) notice ≡ again → (queue_at a.world notice.queue).closed ≡ shut
@@ -83,7 +107,7 @@ put_into_goes a b who notice rest false true reply sound has hand again_is shut_
 put_into_goes a b who notice rest false false reply sound has hand again_is shut_is gives =
     elim gives [
       | inl added ↦ given a _ b (steps.Put who) (replies.Added _) reply added
-          (put_goes a.world who _ notice rest sound has hand again_is shut_is)
+          (added_goes a.world who _ notice rest sound has hand again_is shut_is)
       | inr refused ↦ refused_goes a b (steps.Put who) NoMemory reply sound refused
     ]
 
@@ -94,17 +118,73 @@ put_hand_goes a b who [] reply sound has hand puts = absurd puts
 put_hand_goes a b who (notice ∷ rest) reply sound has hand puts =
     put_into_goes a b who notice rest _ _ reply sound has hand refl refl puts
 
-nothing_taken : (w : World) (m q : ℕ) (shut : Bool) → IsSound w
-    → Goes w w (steps.Poll m q) (if shut then replies.Closed else replies.Empty)
-nothing_taken w m q true sound = stays w w (steps.Poll m q) replies.Closed (λ _ _. refl) (same w) sound
-nothing_taken w m q false sound = stays w w (steps.Poll m q) replies.Empty (λ _ _. refl) (same w) sound
+pub all_own_in : (q : ℕ) (notices : List Notice) → list_all (λ (n : Notice). n.queue == q) notices ≡ true
+    → AllByRecursion (IsOwn q) notices
+all_own_in q [] all = tt
+all_own_in q (notice ∷ rest) all = grind (arith, and_parts, eqb-true, all_own_in q rest)
 
-poll_any_goes : (a b : State) (m q : ℕ) (stands : List Notice) (reply : Reply) → IsSound a.world
-    → m < length a.world.mutator_hands → q < length a.world.queues → (queue_at a.world q).stands ≡ stands
-    → Polls a m q stands reply b → Goes a.world b.world (steps.Poll m q) reply
-poll_any_goes a b m q [] reply sound has within first gives =
-    given a a b (steps.Poll m q) _ reply gives (nothing_taken a.world m q (queue_at a.world q).closed sound)
-poll_any_goes a b m q (notice ∷ rest) reply sound has within first gives = search (given, poll_goes)
+-- a put of all notices, into the queue of the first
+some_goes : (w : World) (who : Actor) (notice : Notice) (rest : List Notice) (outs : Outs) → IsSound w → HasHand w who
+    → hand_of w who ≡ notice ∷ rest → list_all (λ (n : Notice). n.queue == notice.queue) rest ≡ true
+    → TellsBatch object_of (λ (n : Notice). n.queue) (queue_at w notice.queue) (notice ∷ rest) outs
+    → (ds : List Done) → outs.done ≡ ds → Goes w (put_in w who ds) (steps.Puts who) (replies.Outs outs)
+some_goes w who notice rest outs sound has hand own tells [] is = absurd (rw is at tells.3)
+some_goes w who notice rest outs sound has hand own tells (d ∷ ds) is =
+    let q : ℕ = notice.queue in
+    let below : NoticesBelow w.heap.config.queues (notice ∷ rest) =
+    subst (NoticesBelow w.heap.config.queues) hand (sound.hands_below who) in
+    let within : q < length w.queues = rw sound.queues below.0 in
+    let become : Become object_of (λ (n : Notice). n.queue) (queue_at w q) (notice ∷ rest) (d ∷ ds) =
+    subst (λ es. Become object_of (λ (n : Notice). n.queue) (queue_at w q) (notice ∷ rest) es) is tells.2 in
+    let may : MayStand w (added_among (notice ∷ rest) (d ∷ ds)) =
+    become_may w q (notice ∷ rest) (d ∷ ds) within
+    (all_added (IsOwn q) (notice ∷ rest) (d ∷ ds) (refl, all_own_in q rest own)) become in
+    put_goes w who d ds (steps.Puts who) (replies.Outs outs) sound has
+    (subst (λ (h : List Notice). MayStand w (added_among h (d ∷ ds))) (sym hand) may)
+    (λ hands k. ap
+    (λ es. (put_from_hand hands who es, those_for k (added_among (hands who) es), only_if false [], false)) is)
+
+puts_goes : (a b : State) (who : Actor) (hand : List Notice) (reply : Reply) → IsSound a.world
+    → HasHand a.world who → hand_of a.world who ≡ hand → PutsAll a who hand reply b
+    → Goes a.world b.world (steps.Puts who) reply
+puts_goes a b who [] reply sound has hand puts = absurd puts
+puts_goes a b who (notice ∷ rest) reply sound has hand puts =
+    given a (with_world a (put_in a.world who puts.0.done)) b (steps.Puts who) (replies.Outs puts.0) reply puts.3
+    (some_goes a.world who notice rest puts.0 sound has hand puts.1 puts.2 puts.0.done refl)
+
+nothing_taken : (w : World) (step : Step) (shut : Bool) → IsSound w
+    → IsStill step replies.Closed → IsStill step replies.Empty
+    → Goes w w step (if shut then replies.Closed else replies.Empty)
+nothing_taken w step true sound closed empty = stays w w step replies.Closed closed (same w) sound
+nothing_taken w step false sound closed empty = stays w w step replies.Empty empty (same w) sound
+
+-- the row takes what it tells from queue q into the mutator's hand
+abbrev TakesFrom : ℕ → ℕ → Step → Type 0
+TakesFrom m q step =
+    (reply : Reply) (hands : HandNotices) (k : ℕ) → change_by hands k step reply
+    ≡ (filled_with hands (Mutator m) (taken_as q reply), [], only_if (q == k) (told_taken reply), false)
+
+-- a poll of so many at most
+polls_goes : (a b : State) (m q max : ℕ) (step : Step) (tell : List ℕ → Reply) (taken : List Notice) (reply : Reply)
+    → IsSound a.world → m < length a.world.mutator_hands → q < length a.world.queues
+    → take max (queue_at a.world q).stands ≡ taken → IsStill step replies.Closed → IsStill step replies.Empty
+    → TakesFrom m q step → told_taken (tell (map object_of taken)) ≡ map object_of taken
+    → Polls a m q tell taken reply b → Goes a.world b.world step reply
+polls_goes a b m q max step tell [] reply sound has within first closed empty takes told gives =
+    given a a b step _ reply gives (nothing_taken a.world step (queue_at a.world q).closed sound closed empty)
+polls_goes a b m q max step tell (notice ∷ more) reply sound has within first closed empty takes told gives =
+    let stands : List Notice = (queue_at a.world q).stands in
+    let ns : List ℕ = notice.object ∷ map object_of more in
+    given a (with_world a (took a.world m q ns)) b step (tell ns) reply gives
+    (poll_goes a.world m q notice more (drop max stands) step (tell ns) sound has within
+    (sym (take-append-drop max stands) ∙ ap (λ (xs : List Notice). xs ++ drop max stands) first)
+    (λ hands k. takes (tell ns) hands k
+    ∙ ap (λ ms. (
+      filled_with hands (Mutator m) (map (λ n. record { object = n; queue = q }) ms),
+      [],
+      only_if (q == k) ms,
+      false,
+    )) told))
 
 close_any_goes : (a b : State) (m q : ℕ) (shut : Bool) (reply : Reply) → IsSound a.world → q < length a.world.queues
     → (queue_at a.world q).closed ≡ shut → Closes a q shut reply b → Goes a.world b.world (steps.Close m q) reply
@@ -127,15 +207,6 @@ quiet : (a b : State) (asked : NamedStep) (step : Step) (reply : Reply) → IsSo
 quiet a b asked step reply sound is row stands same_hands =
     grind (arith, heap_keeps, stays a.world row.0.world step reply stands)
 
--- nothing is given into a hand
-gives_nothing : (a c b : State) (step : Step) (reply : Reply) → IsSound a.world → Keeps a.world c.world
-    → reply ≡ replies.Nothing → b ≡ with_handed c step reply → IsStill step replies.Nothing
-    → handed c.world step replies.Nothing ≡ c.world → Goes a.world b.world step reply
-gives_nothing a c b step reply sound keeps is left stands same_hands =
-    handled a c b step replies.Nothing reply is left
-    (subst (λ (w : World). Goes a.world w step replies.Nothing) (sym same_hands)
-    (stays a.world c.world step replies.Nothing stands keeps.others (keeps.sound sound)))
-
 same_has : (a b : World) (who : Actor) → SameOthers a b → HasHand a who → HasHand b who
 same_has a b (Mutator m) others has = rw others.mutators has
 same_has a b (Worker k) others has = rw others.workers has
@@ -143,20 +214,41 @@ same_has a b (Worker k) others has = rw others.workers has
 same_queues : (a b : World) → IsSound a → Keeps a b → b.heap.config.queues ≡ a.heap.config.queues
 same_queues a b sound keeps = sym (keeps.sound sound).queues ∙ ap length keeps.others.queues ∙ sound.queues
 
--- a notice is given into a hand
-gives_notice : (a c b : State) (who : Actor) (notice : Notice) (step : Step) (answer reply : Reply) → IsSound a.world
-    → Keeps a.world c.world → HasHand a.world who → notice.queue < a.world.heap.config.queues → reply ≡ answer
-    → b ≡ with_handed c step reply → handed c.world step answer ≡ with_hand c.world who (notice ∷ [])
-    → ((hands : HandNotices) → held_after hands step answer ≡ with_held hands who (as_held (notice ∷ [])))
-    → ((hands : HandNotices) (q : ℕ) → queue_change_by hands q step answer ≡ no_queue_change)
-    → Goes a.world b.world step reply
-gives_notice a c b who notice step answer reply sound keeps has below is left gives held stands =
-    let bound : notice.queue < c.world.heap.config.queues = rw (same_queues a.world c.world sound keeps) below in
+-- what the row gives into a hand
+record GivesInto (step : Step) (answer : Reply) (who : Actor) : Type 0 where
+  pub into : (w : World) → handed w step answer ≡ taking w who (told_notices answer)
+  pub held : (hands : HandNotices) → held_after hands step answer ≡ filled_with hands who (given_by answer)
+  pub still : (hands : HandNotices) (q : ℕ) → queue_change_by hands q step answer ≡ no_queue_change
+
+filled : (a c : State) (who : Actor) (notices : List Notice) (step : Step) (answer : Reply) → IsSound a.world
+    → Keeps a.world c.world → HasHand a.world who → NoticesBelow a.world.heap.config.queues notices
+    → GivesInto step answer who → told_notices answer ≡ notices → Goes a.world (taking c.world who notices) step answer
+filled a c who [] step answer sound keeps has below gives told =
+    let held : (hands : HandNotices) → held_after hands step answer ≡ hands =
+    λ hands. gives.held hands
+    ∙ ap (λ (ns : List Notice). filled_with hands who (as_held ns)) told in
+    stays a.world c.world step answer (λ hands q. rw (held hands) (ap (λ (c : QueueChange). (hands, c.0, c.1, c.2))
+    (gives.still hands q)))
+    keeps.others (keeps.sound sound)
+filled a c who (notice ∷ rest) step answer sound keeps has below gives told =
+    let now : NoticesBelow c.world.heap.config.queues (notice ∷ rest) =
+    subst (λ count. NoticesBelow count (notice ∷ rest)) (sym (same_queues a.world c.world sound keeps)) below in
+    goes_after a.world c.world (with_hand c.world who (notice ∷ rest)) step answer keeps.others
+    (sets_hand c.world who (notice ∷ rest) step answer (keeps.sound sound)
+    (same_has a.world c.world who keeps.others has) now
+    (gives.held (held_of c.world) ∙ ap (λ (ns : List Notice). filled_with (held_of c.world) who (as_held ns)) told)
+    gives.still)
+
+-- notices are given into a hand, if any are
+gives_notices : (a c b : State) (who : Actor) (notices : List Notice) (step : Step) (answer reply : Reply)
+    → IsSound a.world → Keeps a.world c.world → HasHand a.world who
+    → NoticesBelow a.world.heap.config.queues notices → GivesInto step answer who → told_notices answer ≡ notices
+    → reply ≡ answer → b ≡ with_handed c step reply → Goes a.world b.world step reply
+gives_notices a c b who notices step answer reply sound keeps has below gives told is left =
     handled a c b step answer reply is left
-    (subst (λ (w : World). Goes a.world w step answer) (sym gives)
-    (goes_after a.world c.world (with_hand c.world who (notice ∷ [])) step answer keeps.others
-    (sets_hand c.world who (notice ∷ []) step answer (keeps.sound sound)
-    (same_has a.world c.world who keeps.others has) (bound, tt) (held (held_of c.world)) stands)))
+    (subst (λ (w : World). Goes a.world w step answer)
+    (sym (gives.into c.world ∙ ap (taking c.world who) told))
+    (filled a c who notices step answer sound keeps has below gives told))
 
 -- a hand's first notice is spent
 spends : (a c b : State) (who : Actor) (step : Step) (answer reply : Reply) → IsSound a.world → Keeps a.world c.world
@@ -175,27 +267,37 @@ spends a c b who step answer reply sound keeps has is left shorter held stands =
     (all_rest (IsBelow c.world.heap.config.queues) (hand_of c.world who) (now.hands_below who))
     (held (held_of c.world) ∙ ap (with_held (held_of c.world) who) (rest_held (hand_of c.world who))) stands)))
 
+gives_into : (step : Step) (answer : Reply) (who : Actor)
+    → ((w : World) → handed w step answer ≡ taking w who (told_notices answer))
+    → ((hands : HandNotices) → held_after hands step answer ≡ filled_with hands who (given_by answer))
+    → ((hands : HandNotices) (q : ℕ) → queue_change_by hands q step answer ≡ no_queue_change)
+    → GivesInto step answer who
+gives_into step answer who into held still = record { into = into; held = held; still = still }
+
 unhook_goes : (a c b : State) (m s : ℕ) (held queue : Option ℕ) (reply : Reply) → IsSound a.world
     → Keeps a.world c.world → m < length a.world.mutator_hands → QueueBelow a.world.heap.config.queues queue
     → Unhooks a m s held queue reply c → b ≡ with_handed c (steps.Unhook m s) reply
     → Goes a.world b.world (steps.Unhook m s) reply
 unhook_goes a c b m s None queue reply sound keeps has below gives left =
-    gives_nothing a c b (steps.Unhook m s) reply sound keeps gives.0 left (λ _ _. refl) refl
+    gives_notices a c b (Mutator m) [] (steps.Unhook m s) replies.Nothing reply sound keeps has tt
+    (gives_into (steps.Unhook m s) replies.Nothing (Mutator m) (λ _. refl) (λ _. refl) (λ _ _. refl)) refl gives.0 left
 unhook_goes a c b m s (Some n) None reply sound keeps has below gives left =
-    gives_nothing a c b (steps.Unhook m s) reply sound keeps gives.0 left (λ _ _. refl) refl
+    gives_notices a c b (Mutator m) [] (steps.Unhook m s) replies.Nothing reply sound keeps has tt
+    (gives_into (steps.Unhook m s) replies.Nothing (Mutator m) (λ _. refl) (λ _. refl) (λ _ _. refl)) refl gives.0 left
 unhook_goes a c b m s (Some n) (Some q) reply sound keeps has below gives left =
-    gives_notice a c b (Mutator m) (record { object = n; queue = q; cause = Own }) (steps.Unhook m s)
-    (replies.Notice n q Own) reply sound keeps has below gives.0 left refl (λ _. refl) (λ _ _. refl)
+    gives_notices a c b (Mutator m) (record { object = n; queue = q; cause = Own } ∷ []) (steps.Unhook m s)
+    (replies.Notice n q Own) reply sound keeps has (below, tt)
+    (gives_into (steps.Unhook m s) (replies.Notice n q Own) (Mutator m) (λ _. refl) (λ _. refl) (λ _ _. refl)) refl
+    gives.0 left
 
-hand_goes : (a c b : State) (k : ℕ) (ps : List Pending) (reply : Reply) → IsSound a.world → Keeps a.world c.world
-    → k < length a.world.worker_hands → AllByRecursion (PendingBelow a.world.heap.config.queues) ps
-    → HandsOn a k ps reply c → b ≡ with_handed c (steps.Hand k) reply → Goes a.world b.world (steps.Hand k) reply
-hand_goes a c b k [] reply sound keeps has below gives left =
-    gives_nothing a c b (steps.Hand k) reply sound keeps gives.0 left (λ _ _. refl) refl
-hand_goes a c b k (p ∷ ps) reply sound keeps has below gives left =
-    gives_notice a c b (Worker k) (record { object = p.object; queue = p.queue; cause = Cycle p.cycle k })
-    (steps.Hand k) (replies.Notice p.object p.queue (Cycle p.cycle k)) reply sound keeps has below.0 gives.0 left refl
-    (λ _. refl) (λ _ _. refl)
+hand_goes : (a c b : State) (k : ℕ) (step : Step) (answer : Reply) (ps : List Pending) (reply : Reply)
+    → IsSound a.world → Keeps a.world c.world → k < length a.world.worker_hands
+    → AllByRecursion (PendingBelow a.world.heap.config.queues) ps → GivesInto step answer (Worker k)
+    → told_notices answer ≡ map (notice_from k) ps → HandsOn a k answer ps reply c → b ≡ with_handed c step reply
+    → Goes a.world b.world step reply
+hand_goes a c b k step answer ps reply sound keeps has below gives told row left =
+    gives_notices a c b (Worker k) (map (notice_from k) ps) step answer reply sound keeps has
+    (all_given (IsBelow a.world.heap.config.queues) k ps below) gives told row.0 left
 
 adopt_goes : (a b : State) (m d : ℕ) (hand : List Notice) (reply : Reply) → IsSound a.world
     → m < length a.world.mutator_hands
@@ -247,15 +349,43 @@ accepted_goes a b (steps.Unhook m s) reply sound h row =
     unhook_goes a row.0 b m s _ _ reply sound (heap_keeps a row.0 (heap.Unhook m s) reply tt row.1)
     (mutator_within a.world m sound both.0) (held_below a.world (slot_at a.world.heap m s) sound) row.1 row.2
 accepted_goes a b (steps.Put who) reply sound h gives = grind (arith, put_hand_goes)
+accepted_goes a b (steps.Puts who) reply sound h gives =
+    let first = unless_passes (is_actor a.world.heap who) _ _ h in
+    puts_goes a b who (hand_of a.world who) reply sound (actor_has a.world who sound first.0) refl gives
 accepted_goes a b (steps.Poll m q) reply sound h gives =
-    grind (arith, unless_passes, poll_any_goes, mutator_within, queue_within)
+    let first = unless_passes (is_mutator a.world.heap m) _ _ h in
+    let second = unless_passes (is_queue a.world.heap q) _ _ first.1 in
+    let stands = (queue_at a.world q).stands in
+    polls_goes a b m q 1 (steps.Poll m q) one_taken (take 1 stands) reply sound
+    (mutator_within a.world m sound first.0) (queue_within a.world q sound second.0) refl (λ _ _. refl) (λ _ _. refl)
+    (λ _ _ _. refl) (told_one stands) gives
+accepted_goes a b (steps.Polls m q max) reply sound h gives =
+    let first = unless_passes (is_mutator a.world.heap m) _ _ h in
+    let second = unless_passes (is_queue a.world.heap q) _ _ first.1 in
+    let stands = (queue_at a.world q).stands in
+    polls_goes a b m q max (steps.Polls m q max) replies.TookSome (take max stands) reply sound
+    (mutator_within a.world m sound first.0) (queue_within a.world q sound second.0) refl (λ _ _. refl) (λ _ _. refl)
+    (λ _ _ _. refl) refl gives
 accepted_goes a b (steps.Adopt m d) reply sound h row = grind (arith, adopt_goes)
 accepted_goes a b (steps.Release who) reply sound h row = grind (arith, release_goes)
 accepted_goes a b (steps.Close m q) reply sound h gives = grind (arith, close_any_goes a b m q)
 accepted_goes a b (steps.Hand k) reply sound h row =
     let first = unless_passes (is_worker a.world.heap k) _ _ h in
-    hand_goes a row.0 b k _ reply sound (heap_keeps a row.0 (heap.Hand k) reply tt row.1)
-    (worker_within a.world k sound first.0) (sound.pending_below k) row.1 row.2
+    let ps = pending_of a.world k in
+    let answer = one_handed k (take 1 ps) in
+    hand_goes a row.0 b k (steps.Hand k) answer (take 1 ps) reply sound
+    (heap_keeps a row.0 (heap.Hand k) reply tt row.1) (worker_within a.world k sound first.0)
+    (all_take (PendingBelow a.world.heap.config.queues) 1 ps (sound.pending_below k))
+    (gives_into (steps.Hand k) answer (Worker k) (λ _. refl) (λ _. refl) (λ _ _. refl)) (tells_one k ps) row.1 row.2
+accepted_goes a b (steps.Hands k max) reply sound h row =
+    let first = unless_passes (is_worker a.world.heap k) _ _ h in
+    let ps = pending_of a.world k in
+    let answer = all_handed k (batch_of max ps) in
+    hand_goes a row.0 b k (steps.Hands k max) answer (batch_of max ps) reply sound
+    (heap_keeps a row.0 (heap.Hands k max []) reply tt row.1) (worker_within a.world k sound first.0)
+    (all_batch (PendingBelow a.world.heap.config.queues) max ps (sound.pending_below k))
+    (gives_into (steps.Hands k max) answer (Worker k) (λ _. refl) (λ _. refl) (λ _ _. refl)) (tells_all k max ps) row.1
+    row.2
 accepted_goes a b step reply sound h row =
     quiet a b (asked_of (heap_step a.world step)) step reply sound tt row (λ _ _. refl) (λ _. refl)
 

@@ -40,6 +40,11 @@ sub_before ms (n ∷ ns) back sub =
           inr (taken.0 ++ back, ap (λ l. l ++ back) taken.1, sub_before taken.0 ns back taken.2)
     ]
 
+-- and so of both
+pub sub_both : (ms ns front back : List ℕ) → Sub ms ns → Sub front back → Sub (ms ++ front) (ns ++ back)
+sub_both ms ns front back first later =
+    sub_through (ms ++ front) (ns ++ front) (ns ++ back) (sub_before ms ns front first) (sub_behind ns front back later)
+
 -- a longer list has all
 pub sub_longer : (ns more : List ℕ) → Sub ns (ns ++ more)
 sub_longer ns more =

@@ -5,10 +5,18 @@ use Rattle.ref_base.proofs.Common.{reference_at, NamedStep, heap_step, Notice, P
 use Rattle.ref_base.proofs.Common.{unless_full, field_count, object_refusal, field_refusal, reference_refusal}
 use Rattle.ref_base.proofs.Common.{holds_refusal, minting_refusal, unhook_refusal, hand_refusal, held_refusal, is_in}
 use Rattle.ref_base.proofs.Common.{heap_refusal, refusal, Gives, GivesAnewIf, Loads, Gets, Unhooks, Holds, Polls}
-use Rattle.ref_base.proofs.Common.{Closes, Scans, ClearsNext, HandsOn, Sweeps, Selects, Moves, EndsMove, looked_at}
+use Rattle.ref_base.proofs.Common.{Closes, Scans, ClearsNext, Sweeps, Selects, Moves, EndsMove, looked_at}
 use Rattle.ref_base.proofs.Common.{value_reply, HeapAccepts, AcceptsAsking, IsAnswer, IsRow, Fault, NoMemory, BadField}
 use Rattle.ref_base.proofs.Common.{NotAReference, Actor, Marking, Reply, Step}
-use Rattle.std.specs.Prelude.{◌^◌}
+use Rattle.std.specs.Prelude.{◌^◌, nat_le}
+use Rattle.ref_base.proofs.Common.{◌∷◌, ◌+◌, ℕ, take, map, subst, Lists, with_parcel, object_of, hand_of, pending_of}
+use Rattle.ref_base.proofs.Common.{Worker, Mutator, is_mutator, NoSuchActor, one_handed, all_handed, one_taken}
+use Rattle.ref_base.proofs.Common.{batch_of, fits, hands_refusal, PutsAll, Become, Done}
+use Rattle.ref_base.specs.QueueBatches.{EndsBatch}
+use Rattle.ref_base.specs.Outs.{Outs, IsWantedLast}
+use Rattle.ref_base.specs.Refusals.{is_worker, is_queue}
+use Rattle.ref_base.specs.declared.fault.Fault.TheVariants.{BadConfig, BadQueue}
+use Rattle.ref_base.specs.declared.out.Done.TheVariants.{Added, Already, Closed, Refused}
 use Rattle.ref_base.specs.Refusals.{unless_empty, empty_hand_refusal, asked_refusal}
 use Rattle.ref_base.specs.declared.fault.Fault.TheVariants.{NumbersSpent}
 use Rattle.ref_base.specs.declared.heap_step.HeapStep.TheVariants as heap
@@ -61,6 +69,11 @@ hand_wants : (ps : List Pending) (h : Heap) → wants (hand_refusal ps h) ≡ fa
 hand_wants [] h = refl
 hand_wants (p ∷ ps) h = holds_wants h
 
+hands_wants : (ps : List Pending) (h : Heap) → wants (hands_refusal ps h) ≡ false
+hands_wants [] h = refl
+hands_wants (p ∷ ps) h =
+    no_want (nat_le (length h.holds + length (p ∷ ps)) (2 ^ 64 - 1)) NumbersSpent None refl refl
+
 empty_wants : (held : Option ℕ) (later : Option Fault) → wants later ≡ false → wants (unless_empty held later) ≡ false
 empty_wants None later none = refl
 empty_wants (Some n) later none = none
@@ -75,6 +88,10 @@ empty_hand_wants (notice ∷ rest) = refl
 
 heap_wants : (a : State) (step : NamedStep) → wants (heap_refusal a step) ≡ false
 heap_wants a (heap.Plain (plain.New m d k)) = search (no_want, object_wants, refl)
+heap_wants a (heap.Hands k max batch) =
+    let some : List Pending = batch_of max (pending_of a.world k) in
+    no_want (is_worker a.world.heap k) NoSuchActor _ refl
+    (no_want (fits max (length batch)) BadConfig _ refl (hands_wants some a.world.heap))
 heap_wants a step =
     search
     (no_want, object_wants, empty_wants, field_wants, reference_wants, unhook_wants, held_wants, hand_wants, refl)
@@ -85,6 +102,16 @@ asked_wants a (Some asked) = heap_wants a asked
 
 step_wants : (a : State) (step : Step) → wants (refusal a step) ≡ false
 step_wants a (steps.Put who) = search (no_want, empty_hand_wants, refl)
+step_wants a (steps.Hands k max) =
+    let hand : List Notice = hand_of a.world (Worker k) in
+    no_want (is_worker a.world.heap k) NoSuchActor _ refl
+    (no_want (fits max (length hand)) BadConfig _ refl
+    (full_wants hand (heap_refusal a (heap.Hands k max [])) (heap_wants a (heap.Hands k max []))))
+step_wants a (steps.Polls m q max) =
+    let hand : List Notice = hand_of a.world (Mutator m) in
+    no_want (is_mutator a.world.heap m) NoSuchActor _ refl
+    (no_want (is_queue a.world.heap q) BadQueue _ refl
+    (no_want (fits max (length hand)) BadConfig _ refl (full_wants hand None refl)))
 step_wants a step = search (no_want, full_wants, empty_hand_wants, heap_wants, asked_wants, refl)
 
 -- ---- no step that is accepted is answered so, but a put
@@ -134,10 +161,13 @@ clear_tells : (a : State) (k : ℕ) (found : List ℕ) (reply : Reply) (b : Stat
 clear_tells a k [] reply b gives = told gives.0 refl
 clear_tells a k (n ∷ rest) reply b gives = told gives.0 (look_tells a k n)
 
-handed_tells : (a : State) (k : ℕ) (ps : List Pending) (reply : Reply) (b : State) → HandsOn a k ps reply b
-    → tells_want reply ≡ false
-handed_tells a k [] reply b gives = told gives.0 refl
-handed_tells a k (p ∷ ps) reply b gives = told gives.0 refl
+one_tells : (k : ℕ) (ps : List Pending) → tells_want (one_handed k ps) ≡ false
+one_tells k [] = refl
+one_tells k (p ∷ ps) = refl
+
+all_tell : (k : ℕ) (ps : List Pending) → tells_want (all_handed k ps) ≡ false
+all_tell k [] = refl
+all_tell k (p ∷ ps) = refl
 
 sweep_tells : (a : State) (d : List ℕ) (reply : Reply) (b : State) → Sweeps a d reply b → tells_want reply ≡ false
 sweep_tells a [] reply b gives = told gives.0 refl
@@ -164,6 +194,9 @@ gives_tells answer c reply b gives other = told gives.0 other
 accepted_tells : (a : State) (step : NamedStep) (reply : Reply) (b : State) → HeapAccepts a step reply b
     → tells_want reply ≡ false
 accepted_tells a (heap.Plain plain.EndMark) reply b ends = told ends.answer refl
+accepted_tells a (heap.Hand k) reply b gives = told gives.0 (one_tells k (take 1 (pending_of a.world k)))
+accepted_tells a (heap.Hands k max batch) reply b gives =
+    told gives.0 (all_tell k (batch_of max (pending_of a.world k)))
 accepted_tells a step reply b gives =
     search (
       gives_tells,
@@ -175,7 +208,6 @@ accepted_tells a step reply b gives =
       hold_tells,
       scan_tells,
       clear_tells,
-      handed_tells,
       sweep_tells,
       select_tells,
       move_tells,
@@ -186,10 +218,17 @@ accepted_tells a step reply b gives =
 
 -- ---- rows
 
-poll_tells : (a : State) (m q : ℕ) (stands : List Notice) (reply : Reply) (b : State) → Polls a m q stands reply b
+poll_tells : (a : State) (m q : ℕ) (tell : List ℕ → Reply) (stands : List Notice) (reply : Reply) (b : State)
+    → ((n : ℕ) (ns : List ℕ) → tells_want (tell (n ∷ ns)) ≡ false) → Polls a m q tell stands reply b
     → tells_want reply ≡ false
-poll_tells a m q [] reply b gives = grind arith
-poll_tells a m q (notice ∷ rest) reply b gives = told gives.0 refl
+poll_tells a m q tell [] reply b none gives = grind arith
+poll_tells a m q tell (notice ∷ rest) reply b none gives =
+    told gives.0 (none notice.object (map object_of rest))
+
+puts_tell : (a : State) (who : Actor) (hand : List Notice) (reply : Reply) (b : State) → PutsAll a who hand reply b
+    → tells_want reply ≡ false
+puts_tell a who [] reply b row = absurd row
+puts_tell a who (notice ∷ rest) reply b row = told row.3.0 refl
 
 close_tells : (a : State) (q : ℕ) (closed : Bool) (reply : Reply) (b : State) → Closes a q closed reply b
     → tells_want reply ≡ false
@@ -202,8 +241,12 @@ asking_tells : (a : State) (asked : Option NamedStep) (step : Step) (reply : Rep
 asking_tells a (Some asked) step reply b asks row wants_some =
     absurd (false≢true (sym (accepted_tells a asked reply row.0 row.1) ∙ wants_some))
 asking_tells a None (steps.Put who) reply b asks row wants_some = (who, refl)
+asking_tells a None (steps.Puts who) reply b asks row wants_some =
+    absurd (false≢true (sym (puts_tell a who (hand_of a.world who) reply b row) ∙ wants_some))
 asking_tells a None (steps.Poll m q) reply b asks row wants_some =
-    absurd (false≢true (sym (poll_tells a m q (queue_at a.world q).stands reply b row) ∙ wants_some))
+    absurd (false≢true (sym (poll_tells a m q one_taken _ reply b (λ _ _. refl) row) ∙ wants_some))
+asking_tells a None (steps.Polls m q max) reply b asks row wants_some =
+    absurd (false≢true (sym (poll_tells a m q replies.TookSome _ reply b (λ _ _. refl) row) ∙ wants_some))
 asking_tells a None (steps.Close m q) reply b asks row wants_some =
     absurd (false≢true (sym (close_tells a q (queue_at a.world q).closed reply b row) ∙ wants_some))
 asking_tells a None step reply b asks row wants_some = absurd row
@@ -218,3 +261,29 @@ answer_tells a None step b is row =
 pub wanted_at_puts : (a : State) (step : Step) (b : State)
     → IsRow a (record { step = step; reply = replies.Refused NoMemory }) b → (who : Actor) × (step ≡ steps.Put who)
 wanted_at_puts a step b row = answer_tells a (refusal a step) step b refl row
+
+-- ---- what is refused within a batch
+
+wanting_last : (lists : Lists Notice) (hand : List Notice) (ds : List Done)
+    → Become object_of (λ (x : Notice). x.queue) lists hand ds → EndsBatch hand ds → IsWantedLast ds
+wanting_last lists hand [] become ends = tt
+wanting_last lists [] (d ∷ ds) become ends = absurd become
+wanting_last lists (x ∷ hand) (Added ∷ ds) become ends =
+    wanting_last (with_parcel lists x) hand ds become.1 ends
+wanting_last lists (x ∷ hand) (Already ∷ ds) become ends = wanting_last lists hand ds become.1 ends
+wanting_last lists (x ∷ hand) (Closed ∷ ds) become ends = wanting_last lists hand ds become.1 ends
+wanting_last lists (x ∷ hand) (Refused fault ∷ ds) become ends = (become.0.0, ends)
+
+of_puts : (a : State) (who : Actor) (hand : List Notice) (outs : Outs) (b : State)
+    → PutsAll a who hand (replies.Outs outs) b → IsWantedLast outs.done
+of_puts a who [] outs b row = absurd row
+of_puts a who (notice ∷ rest) outs b row =
+    let same : row.0 ≡ outs = let is : replies.Outs outs ≡ replies.Outs row.0 = row.3.0 in cc in
+    subst (λ (o : Outs). IsWantedLast o.done) same
+    (wanting_last (queue_at a.world notice.queue) (notice ∷ rest) row.0.done row.2.2 row.2.3)
+
+-- a refused item of a puts is its last
+pub wanted_at_last : (a : State) (who : Actor) (outs : Outs) (fault : Option Fault) (b : State)
+    → IsAnswer a fault (steps.Puts who) (replies.Outs outs) b → IsWantedLast outs.done
+wanted_at_last a who outs (Some fault) b row = absurd (let no : replies.Outs outs ≡ replies.Refused fault = row.0 in cc)
+wanted_at_last a who outs None b row = of_puts a who (hand_of a.world who) outs b row

@@ -1,8 +1,11 @@
 -- Worked traces, as rows.
-use Rattle.ref_base.proofs.Common.{ℕ, List, [], ◌∷◌, Some, Config, Weak, Normal, Own, Cycle, Mutator, Worker, GreyLeft}
+use Rattle.ref_base.proofs.Common.{ℕ, List, [], ◌∷◌, ◌++◌, Done, NoMemory, Some, Config, Weak, Normal, Own, Cycle}
+use Rattle.ref_base.proofs.Common.{Mutator, Worker, GreyLeft}
 use Rattle.ref_base.proofs.Common.{HandEmpty, BadField, NoSuchActor, NotAReference, WrongPhase, Step, Reply, Row}
 use Rattle.ref_base.specs.declared.fault.Fault.TheVariants.{BadQueue, EmptySlot, HandFull, MovesLeft, NoRoom}
-use Rattle.ref_base.specs.declared.fault.Fault.TheVariants.{AddressesSpent}
+use Rattle.ref_base.specs.declared.fault.Fault.TheVariants.{AddressesSpent, BadConfig}
+use Rattle.ref_base.specs.Outs.{Outs}
+use Rattle.ref_base.specs.declared.out.Done.TheVariants as done
 use Rattle.ref_base.specs.declared.strength.Strength.TheVariants.{Soft}
 use Rattle.ref_base.specs.declared.span_rule.SpanRule.TheVariants.{Fixed, Scaled}
 use Rattle.ref_base.specs.declared.plain_step.PlainStep.TheVariants as plain
@@ -72,9 +75,9 @@ get_keeps_the_referent =
     row (steps.Plain (plain.ClearNext 0)) replies.Nothing ∷
     []
 
--- config 1 2 1 8 10
-abbrev pub two_workers_in_clearing_order : List Row
-two_workers_in_clearing_order =
+-- config 1 2 1 8 10: two workers cleared three references
+abbrev pub two_workers_cleared : List Row
+two_workers_cleared =
     row (steps.Plain (plain.New 0 0 0)) (replies.Object 1) ∷
     row (steps.Plain (plain.Refer 0 Weak 1 0 (Some 0) 0)) (replies.Object 2) ∷
     row (steps.Plain (plain.New 0 0 0)) (replies.Object 3) ∷
@@ -91,6 +94,11 @@ two_workers_in_clearing_order =
     row (steps.Plain (plain.ClearNext 0)) (replies.Cleared 2) ∷
     row (steps.Plain (plain.ClearNext 0)) (replies.Cleared 6) ∷
     row (steps.Plain plain.EndClear) replies.Done ∷
+    []
+
+abbrev pub two_workers_in_clearing_order : List Row
+two_workers_in_clearing_order =
+    two_workers_cleared ++
     row (steps.Hand 0) (replies.Notice 2 0 (Cycle 1 0)) ∷
     row (steps.Hand 1) (replies.Notice 4 0 (Cycle 1 1)) ∷
     row (steps.Put (Worker 0)) (replies.Added 0) ∷
@@ -102,6 +110,43 @@ two_workers_in_clearing_order =
     row (steps.Poll 0 0) (replies.Took 6) ∷
     row (steps.Release (Mutator 0)) replies.Done ∷
     row (steps.Poll 0 0) (replies.Took 4) ∷
+    []
+
+-- what became of a batch of which so many were put in before
+abbrev pub outs : ℕ → List Done → Outs
+outs before ds = record { before = before; done = ds }
+
+-- the same, handed on, put in and polled at once: the program unhooks one of the references first
+abbrev pub two_workers_by_batches : List Row
+two_workers_by_batches =
+    two_workers_cleared ++
+    row (steps.Hands 0 32) (replies.Notices (2 ∷ 6 ∷ []) 0 1 0) ∷
+    row (steps.Unhook 0 1) (replies.Notice 2 0 Own) ∷
+    row (steps.Put (Mutator 0)) (replies.Added 0) ∷
+    row (steps.Puts (Worker 0)) (replies.Outs (outs 1 (done.Already ∷ done.Added ∷ []))) ∷
+    row (steps.Put (Worker 0)) replies.Already ∷
+    row (steps.Release (Worker 0)) replies.Done ∷
+    row (steps.Put (Worker 0)) (replies.Refused HandEmpty) ∷
+    row (steps.Hands 1 1) (replies.Notices (4 ∷ []) 0 1 1) ∷
+    row (steps.Puts (Worker 1)) (replies.Outs (outs 2 (done.Added ∷ []))) ∷
+    row (steps.Polls 0 0 0) (replies.Refused BadConfig) ∷
+    row (steps.Polls 0 0 2) (replies.TookSome (2 ∷ 6 ∷ [])) ∷
+    row (steps.Polls 0 0 2) (replies.Refused HandFull) ∷
+    row (steps.Release (Mutator 0)) replies.Done ∷
+    row (steps.Adopt 0 4) (replies.Object 6) ∷
+    row (steps.Polls 0 0 2) (replies.TookSome (4 ∷ [])) ∷
+    row (steps.Release (Mutator 0)) replies.Done ∷
+    row (steps.Polls 0 0 2) replies.Empty ∷
+    []
+
+-- memory is wanting for the second of a batch: a later put of what is left adds it
+abbrev pub memory_wants_within_a_batch : List Row
+memory_wants_within_a_batch =
+    two_workers_cleared ++
+    row (steps.Hands 0 2) (replies.Notices (2 ∷ 6 ∷ []) 0 1 0) ∷
+    row (steps.Puts (Worker 0)) (replies.Outs (outs 0 (done.Added ∷ done.Refused NoMemory ∷ []))) ∷
+    row (steps.Puts (Worker 0)) (replies.Outs (outs 1 (done.Added ∷ []))) ∷
+    row (steps.Puts (Worker 0)) (replies.Refused HandEmpty) ∷
     []
 
 -- config 1 1 1 8 10

@@ -3,13 +3,14 @@
 use Rattle.std.specs.Prelude.{ℕ, Bool, false, ◌==◌, ◌&&◌, if◌then◌else◌, List, [], ◌∷◌, ◌++◌}
 use Rattle.ref_base.specs.Worlds.{World, Notice, first_world, hand_of}
 use Rattle.ref_base.specs.Replay.{after}
+use Rattle.ref_base.specs.QueueBatches.{added_among}
+use Rattle.ref_base.specs.Told.{told_dones}
 use Rattle.ref_base.specs.declared.cause.Cause.{Cause}
 use Rattle.ref_base.specs.declared.cause.Cause.TheVariants.{Own, Cycle}
 use Rattle.ref_base.specs.declared.config.Config.{Config}
 use Rattle.ref_base.specs.declared.step.Step.{Step}
 use Rattle.ref_base.specs.declared.step.Step.TheVariants as steps
 use Rattle.ref_base.specs.declared.reply.Reply.{Reply}
-use Rattle.ref_base.specs.declared.reply.Reply.TheVariants as replies
 use Rattle.ref_base.specs.declared.row.Row.{Row}
 
 -- whether the cause is a clearing by worker k, in whatever cycle
@@ -21,14 +22,15 @@ is_by k (Cycle cycle w) = w == k
 abbrev pub if_worked : ℕ → ℕ → Notice → List ℕ
 if_worked k q notice = if (notice.queue == q) && is_by k notice.cause then notice.object ∷ [] else []
 
--- that of the first notice in a hand
-abbrev pub first_worked : ℕ → ℕ → List Notice → List ℕ
-first_worked k q [] = []
-first_worked k q (notice ∷ rest) = if_worked k q notice
+-- those of several notices, in order
+abbrev pub all_worked : ℕ → ℕ → List Notice → List ℕ
+all_worked k q [] = []
+all_worked k q (notice ∷ rest) = if_worked k q notice ++ all_worked k q rest
 
--- what one row adds to queue q of what worker k cleared: the reference of the first notice in the hand that puts
+-- what one row adds to queue q of what worker k cleared: the references of those notices in the hand that were added
 abbrev pub added_by : World → ℕ → ℕ → Step → Reply → List ℕ
-added_by w k q (steps.Put who) (replies.Added position) = first_worked k q (hand_of w who)
+added_by w k q (steps.Put who) reply = all_worked k q (added_among (hand_of w who) (told_dones reply))
+added_by w k q (steps.Puts who) reply = all_worked k q (added_among (hand_of w who) (told_dones reply))
 added_by w k q step reply = []
 
 abbrev pub added_from : World → ℕ → ℕ → List Row → List ℕ

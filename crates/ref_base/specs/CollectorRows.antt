@@ -10,15 +10,19 @@ use Rattle.ref_base.specs.KeptPaths.{EverKept}
 use Rattle.ref_base.specs.DoomedSets.{unscanned, MayDoom, is_new_clear, new_clears}
 use Rattle.ref_base.specs.Heaps.{Heap, slot_at, reference_at, reference_in, registered_in, with_slot, with_reference}
 use Rattle.ref_base.specs.Heaps.{cleared, nulls, new_reference, made, stored, got, cut, with_hold, without_hold}
+use Rattle.std.specs.List.{list_all}
+use Rattle.ref_base.specs.Outs.{Outs}
+use Rattle.ref_base.specs.QueueBatches.{TellsBatch}
 use Rattle.ref_base.specs.QueueLists.{enqueued, was_put}
 use Rattle.ref_base.specs.Worlds.{World, Notice, Pending, graph_of, object_of, hand_of, queue_at, pending_of, with_heap}
-use Rattle.ref_base.specs.Worlds.{with_swept}
+use Rattle.ref_base.specs.Worlds.{with_swept, notice_from}
 use Rattle.ref_base.specs.HeapSteps.{NamedStep, heap_step, handed}
-use Rattle.ref_base.specs.Replay.{put_in, took, adopted, pended, handed_on, begun, with_phase, closed_queue}
+use Rattle.ref_base.specs.Replay.{put_in, took, adopted, pended, handed_each, begun, with_phase, closed_queue}
 use Rattle.ref_base.specs.Collectors.{State, joined}
-use Rattle.ref_base.specs.Refusals.{heap_refusal, refusal, is_in}
+use Rattle.ref_base.specs.Refusals.{heap_refusal, refusal, is_in, batch_of}
 use Rattle.ref_base.specs.Runs.{LeadsThrough}
 use Rattle.ref_base.specs.declared.cause.Cause.TheVariants.{Own, Cycle}
+use Rattle.ref_base.specs.declared.out.Done.TheVariants.{Added}
 use Rattle.ref_base.specs.declared.actor.Actor.{Actor}
 use Rattle.ref_base.specs.declared.phase.Phase.TheVariants.{Idle, Marking, Clearing, Sweeping, Moving}
 use Rattle.ref_base.specs.declared.fault.Fault.{Fault}
@@ -138,7 +142,7 @@ PutsInto true closed a who notice rest reply b = Gives replies.Already a reply b
 PutsInto false true a who notice rest reply b = Gives replies.Closed a reply b
 PutsInto false false a who notice rest reply b =
     Gives (replies.Added (length (enqueued object_of (queue_at a.world notice.queue))))
-    (with_world a (put_in a.world who (notice ∷ rest))) reply b
+    (with_world a (put_in a.world who (Added ∷ []))) reply b
     ⊎ ((reply ≡ replies.Refused NoMemory) × (b ≡ a))
 
 -- a put of the hand's first notice
@@ -148,10 +152,26 @@ Puts a who (notice ∷ rest) reply b =
     let q = queue_at a.world notice.queue in
     PutsInto (was_put object_of q notice) q.closed a who notice rest reply b
 
--- a poll takes the first that stands
-abbrev pub Polls : State → ℕ → ℕ → List Notice → Reply → State → Type 0
-Polls a m q [] = Gives (if (queue_at a.world q).closed then replies.Closed else replies.Empty) a
-Polls a m q (notice ∷ rest) = Gives (replies.Took notice.object) (with_world a (took a.world m q notice.object))
+-- a put of all notices of the hand, one after the other, into their one queue: it tells what became of each, and ends
+-- where memory is refused for one
+abbrev pub PutsAll : State → Actor → List Notice → Reply → State → Type 0
+PutsAll a who [] reply b = ⊥
+PutsAll a who (notice ∷ rest) reply b =
+    (outs : Outs)
+    × (list_all (λ (x : Notice). x.queue == notice.queue) rest ≡ true)
+    × TellsBatch object_of (λ (x : Notice). x.queue) (queue_at a.world notice.queue) (notice ∷ rest) outs
+    × Gives (replies.Outs outs) (with_world a (put_in a.world who outs.done)) reply b
+
+-- a poll takes these, which stand first, and tells it so; or it tells that nothing stands
+abbrev pub Polls : State → ℕ → ℕ → (List ℕ → Reply) → List Notice → Reply → State → Type 0
+Polls a m q tell [] = Gives (if (queue_at a.world q).closed then replies.Closed else replies.Empty) a
+Polls a m q tell (notice ∷ rest) =
+    let taken = map object_of (notice ∷ rest) in Gives (tell taken) (with_world a (took a.world m q taken))
+
+-- how a poll of one tells of it
+abbrev pub one_taken : List ℕ → Reply
+one_taken [] = replies.Empty
+one_taken (n ∷ ns) = replies.Took n
 
 -- a close answers ok where the queue is open, and else that it is closed
 abbrev pub Closes : State → ℕ → Bool → Reply → State → Type 0
@@ -256,11 +276,19 @@ abbrev pub ClearsNext : State → ℕ → List ℕ → Reply → State → Type 
 ClearsNext a k [] = Gives replies.Nothing a
 ClearsNext a k (n ∷ rest) = Gives (looked_at a k n) (looked a k n rest)
 
--- the notice of the first pending reference is given, which is a hold of it
-abbrev pub HandsOn : State → ℕ → List Pending → Reply → State → Type 0
-HandsOn a k [] = Gives replies.Nothing a
-HandsOn a k (p ∷ ps) =
-    Gives (replies.Notice p.object p.queue (Cycle p.cycle k)) (with_world a (handed_on a.world k p.object))
+-- the notices of these references, which are pending first, are given, each of which is a hold of its reference
+abbrev pub HandsOn : State → ℕ → Reply → List Pending → Reply → State → Type 0
+HandsOn a k answer ps = Gives answer (with_world a (handed_each a.world k (map (notice_from k) ps)))
+
+-- what a worker that hands on the first of these answers
+abbrev pub one_handed : ℕ → List Pending → Reply
+one_handed k [] = replies.Nothing
+one_handed k (p ∷ ps) = replies.Notice p.object p.queue (Cycle p.cycle k)
+
+-- and one that hands on them all, which have the queue and the cycle of the first
+abbrev pub all_handed : ℕ → List Pending → Reply
+all_handed k [] = replies.Nothing
+all_handed k (p ∷ ps) = replies.Notices (map (λ r. r.object) (p ∷ ps)) p.queue p.cycle k
 
 -- the objects without those of these numbers
 abbrev pub without : List ℕ → List Object → List Object
@@ -348,7 +376,10 @@ HeapAccepts a (heap.Hold m s) = Holds a (slot_at a.world.heap m s)
 HeapAccepts a (heap.Adopt m d hold) =
     Gives (replies.Object hold.object) (on_heap a (adopted a.world.heap m d hold.object))
 HeapAccepts a (heap.Release hold) = Gives replies.Done (on_heap a (without_hold a.world.heap hold.object))
-HeapAccepts a (heap.Hand k) = HandsOn a k (pending_of a.world k)
+HeapAccepts a (heap.Hand k) =
+    let first = take 1 (pending_of a.world k) in HandsOn a k (one_handed k first) first
+HeapAccepts a (heap.Hands k max batch) =
+    let some = batch_of max (pending_of a.world k) in HandsOn a k (all_handed k some) some
 
 -- the row of a step that is refused or not
 abbrev pub IsHeapAnswer : State → Option Fault → NamedStep → Reply → State → Type 0
@@ -364,7 +395,10 @@ IsHeapRow a step reply b = IsHeapAnswer a (heap_refusal a step) step reply b
 -- what a step of queues may be answered
 abbrev pub QueuesAccept : State → Step → Reply → State → Type 0
 QueuesAccept a (steps.Put who) reply b = Puts a who (hand_of a.world who) reply b
-QueuesAccept a (steps.Poll m q) reply b = Polls a m q (queue_at a.world q).stands reply b
+QueuesAccept a (steps.Puts who) reply b = PutsAll a who (hand_of a.world who) reply b
+QueuesAccept a (steps.Poll m q) reply b = Polls a m q one_taken (take 1 (queue_at a.world q).stands) reply b
+QueuesAccept a (steps.Polls m q max) reply b =
+    Polls a m q replies.TookSome (take max (queue_at a.world q).stands) reply b
 QueuesAccept a (steps.Close m q) reply b = Closes a q (queue_at a.world q).closed reply b
 QueuesAccept a step reply b = ⊥
 

@@ -20,6 +20,7 @@ pub mod DoomedSets
 pub mod LeavingEdges
 pub mod QueueLists
 pub mod Outs
+pub mod QueueBatches
 pub mod Heaps
 pub mod Orderly
 pub mod Worlds

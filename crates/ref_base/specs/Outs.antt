@@ -1,7 +1,8 @@
 -- What became of a batch that was put in, item by item (this project's profile).
-use Rattle.std.specs.Prelude.{ℕ, ◌+◌, Bool, true, false, if◌then◌else◌, nat_lt, List, length, take, slice_index_or}
-use Rattle.std.specs.Prelude.{Option, Some, None}
+use Rattle.std.specs.Prelude.{◌≡◌, ℕ, ◌+◌, Bool, true, false, if◌then◌else◌, nat_lt, List, [], ◌∷◌, length, take}
+use Rattle.std.specs.Prelude.{Option, Some, None, slice_index_or}
 use Rattle.std.specs.List.{count_by}
+use Rattle.ref_base.specs.declared.fault.Fault.TheVariants.{NoMemory}
 use Rattle.ref_base.specs.declared.out.Done.{Done}
 use Rattle.ref_base.specs.declared.out.Done.TheVariants.{Added, Already, Closed, Refused}
 use Rattle.ref_base.specs.declared.out.Out.{Out}
@@ -26,6 +27,12 @@ is_refused Already = false
 is_refused Closed = false
 is_refused (Refused fault) = true
 
+-- only the last of them was refused, if one was, and that for want of memory
+abbrev pub IsWantedLast : List Done → Type 0
+IsWantedLast [] = Unit {0}
+IsWantedLast (Refused fault ∷ ds) = (fault ≡ NoMemory) × (ds ≡ [])
+IsWantedLast (d ∷ ds) = IsWantedLast ds
+
 -- whether it was added, and how many were
 abbrev pub is_added : Done → Bool
 is_added Added = true
@@ -35,6 +42,11 @@ is_added (Refused fault) = false
 
 abbrev pub added_in : List Done → ℕ
 added_in ds = count_by is_added ds
+
+-- what became of each, where so many were put in before them
+abbrev pub outs_of : ℕ → List Done → List Out
+outs_of before [] = []
+outs_of before (d ∷ ds) = out_of before d ∷ outs_of (if is_added d then before + 1 else before) ds
 
 -- what became of the item at a place, if it was tried: those that were added stand one behind the other
 abbrev pub out_at : Outs → ℕ → Option Out

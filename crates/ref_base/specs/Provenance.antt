@@ -63,8 +63,9 @@ pub record AreProven (rows : List Row) (w : World) : Type 0 where
   pub hands : (who : Actor) → AllByRecursion (IsProven rows) (hand_of w who)
   pub queues : (q : ℕ) → AllByRecursion (IsProven rows) (queue_at w q).stands
 
--- whether the step may give a notice: an unhook, or a worker that hands one on
+-- whether the step may give notices: an unhook, or a worker that hands some on
 abbrev pub gives_notices : Step → Bool
 gives_notices (steps.Unhook m s) = true
 gives_notices (steps.Hand k) = true
+gives_notices (steps.Hands k max) = true
 gives_notices step = false

@@ -1,7 +1,7 @@
 -- Which step is refused, and with which fault: the first that applies (this project's profile). A number of an actor or
 -- slot outside the configuration comes first.
-use Rattle.std.specs.Prelude.{ℕ, ◌^◌, ◌-◌, Bool, true, false, ◌&&◌, not, ◌==◌, if◌then◌else◌, nat_lt, nat_le, List, []}
-use Rattle.std.specs.Prelude.{◌∷◌, length, Option, Some, None, is_some}
+use Rattle.std.specs.Prelude.{ℕ, ◌+◌, ◌^◌, ◌-◌, Bool, true, false, ◌&&◌, not, ◌==◌, if◌then◌else◌, nat_lt, nat_le}
+use Rattle.std.specs.Prelude.{List, [], ◌∷◌, take, length, Option, Some, None, is_some}
 use Rattle.ref_base.specs.Members.{has}
 use Rattle.ref_base.specs.Graphs.{Object, Reference, object_at}
 use Rattle.ref_base.specs.Heaps.{Heap, slot_at, reference_at}
@@ -14,7 +14,8 @@ use Rattle.ref_base.specs.declared.phase.Phase.{Phase}
 use Rattle.ref_base.specs.declared.phase.Phase.TheVariants.{Idle, Marking, Clearing, Sweeping, Moving}
 use Rattle.ref_base.specs.declared.fault.Fault.{Fault}
 use Rattle.ref_base.specs.declared.fault.Fault.TheVariants.{NoCell, NumbersSpent, EmptySlot, BadField, NotAReference}
-use Rattle.ref_base.specs.declared.fault.Fault.TheVariants.{NoSuchActor, BadQueue, WrongPhase, ClockBack, GreyLeft}
+use Rattle.ref_base.specs.declared.fault.Fault.TheVariants.{NoSuchActor, BadConfig, BadQueue, WrongPhase, ClockBack}
+use Rattle.ref_base.specs.declared.fault.Fault.TheVariants.{GreyLeft}
 use Rattle.ref_base.specs.declared.fault.Fault.TheVariants.{ClearingLeft, SweepLeft, HandFull, HandEmpty, ForeignHold}
 use Rattle.ref_base.specs.declared.heap_step.HoldName.{HoldName}
 use Rattle.ref_base.specs.declared.heap_step.HeapStep.TheVariants as heap
@@ -137,6 +138,32 @@ abbrev pub hand_refusal : List Pending → Heap → Option Fault
 hand_refusal [] h = None
 hand_refusal (p ∷ ps) h = holds_refusal h
 
+-- ---- batches
+
+-- whether so many may be asked for at once, where so many are held already: at least one, and no more than there is
+-- room for
+abbrev pub fits : ℕ → ℕ → Bool
+fits max held = nat_le 1 max && nat_le max (32 - held)
+
+-- whether what is pending may be handed on together with p: it is for the same queue, and was cleared in the same cycle
+abbrev pub goes_with : Pending → Pending → Bool
+goes_with p r = (r.queue == p.queue) && (r.cycle == p.cycle)
+
+-- the longest front of these in which all go with p
+abbrev pub front_with : Pending → List Pending → List Pending
+front_with p [] = []
+front_with p (r ∷ rs) = if goes_with p r then r ∷ front_with p rs else []
+
+-- what is handed on at once: the longest front, of so many at most, in which all go with the first
+abbrev pub batch_of : ℕ → List Pending → List Pending
+batch_of max [] = []
+batch_of max (p ∷ ps) = take max (p ∷ front_with p ps)
+
+-- NumbersSpent where fewer holds than one for each of these can be counted
+abbrev pub hands_refusal : List Pending → Heap → Option Fault
+hands_refusal [] h = None
+hands_refusal (p ∷ ps) h = unless (nat_le (length h.holds + length (p ∷ ps)) (2 ^ 64 - 1)) NumbersSpent None
+
 -- ---- phases
 
 abbrev pub is_in : Phase → Phase → Bool
@@ -223,6 +250,10 @@ heap_refusal a (heap.Adopt m d hold) =
 heap_refusal a (heap.Release hold) = hold_refusal a.world.heap hold
 heap_refusal a (heap.Hand k) =
     unless (is_worker a.world.heap k) NoSuchActor (hand_refusal (pending_of a.world k) a.world.heap)
+heap_refusal a (heap.Hands k max batch) =
+    unless (is_worker a.world.heap k) NoSuchActor
+    (unless (fits max (length batch)) BadConfig
+    (hands_refusal (batch_of max (pending_of a.world k)) a.world.heap))
 
 -- ---- the steps
 
@@ -241,10 +272,20 @@ refusal a (steps.Unhook m s) =
 refusal a (steps.Hand k) =
     unless (is_worker a.world.heap k) NoSuchActor
     (unless_full (hand_of a.world (Worker k)) (heap_refusal a (heap.Hand k)))
+refusal a (steps.Hands k max) =
+    unless (is_worker a.world.heap k) NoSuchActor
+    (unless (fits max (length (hand_of a.world (Worker k)))) BadConfig
+    (unless_full (hand_of a.world (Worker k)) (heap_refusal a (heap.Hands k max []))))
+refusal a (steps.Puts who) = unless (is_actor a.world.heap who) NoSuchActor (empty_hand_refusal (hand_of a.world who))
 refusal a (steps.Put who) = unless (is_actor a.world.heap who) NoSuchActor (empty_hand_refusal (hand_of a.world who))
 refusal a (steps.Poll m q) =
     unless (is_mutator a.world.heap m) NoSuchActor
     (unless (is_queue a.world.heap q) BadQueue (unless_full (hand_of a.world (Mutator m)) None))
+refusal a (steps.Polls m q max) =
+    unless (is_mutator a.world.heap m) NoSuchActor
+    (unless (is_queue a.world.heap q) BadQueue
+    (unless (fits max (length (hand_of a.world (Mutator m)))) BadConfig
+    (unless_full (hand_of a.world (Mutator m)) None)))
 refusal a (steps.Adopt m d) =
     unless (has_slot a.world.heap m d) NoSuchActor (empty_hand_refusal (hand_of a.world (Mutator m)))
 refusal a (steps.Release who) =

@@ -9,12 +9,14 @@ use Rattle.ref_base.specs.Heaps.{Heap, slot_at, reference_at, registered_in, wit
 use Rattle.ref_base.specs.Heaps.{with_changed, with_reference, cleared, nulls, with_clock, new_reference, made, stored}
 use Rattle.ref_base.specs.Heaps.{got, cut}
 use Rattle.ref_base.specs.QueueLists.{Lists, with_parcel}
+use Rattle.ref_base.specs.QueueBatches.{added_among, not_added}
 use Rattle.ref_base.specs.Worlds.{World, Notice, Pending, first_world, object_of, hand_of, queue_at, pending_of}
 use Rattle.ref_base.specs.Worlds.{with_heap, with_hand, with_queue, with_pending, with_swept}
-use Rattle.ref_base.specs.Told.{told_object, told_value, is_done, told_notice, is_nothing, is_added, told_taken}
+use Rattle.ref_base.specs.Told.{told_object, told_value, is_done, told_notices, is_nothing, told_dones, told_taken}
 use Rattle.ref_base.specs.Told.{told_cycle, is_mark_end, told_cleared, told_swept, is_selected}
 use Rattle.ref_base.specs.HeapSteps.{NamedStep, heap_step, handed}
 use Rattle.ref_base.specs.declared.config.Config.{Config}
+use Rattle.ref_base.specs.declared.out.Done.{Done}
 use Rattle.ref_base.specs.declared.actor.Actor.{Actor}
 use Rattle.ref_base.specs.declared.actor.Actor.TheVariants.{Mutator}
 use Rattle.ref_base.specs.declared.urgency.Urgency.{Urgency}
@@ -35,29 +37,44 @@ if_told (Some told) change before = change told
 
 -- ---- what each kind of row changes
 
--- the hand's first notice stands last in its queue, and the hand holds the rest
-abbrev pub put_in : World → Actor → List Notice → World
-put_in w a [] = w
-put_in w a (notice ∷ rest) =
-    with_queue (with_hand w a rest) notice.queue (with_parcel (queue_at w notice.queue) notice)
+-- these notices stand last in their queues, one after the other
+abbrev pub standing : World → List Notice → World
+standing w [] = w
+standing w (notice ∷ rest) =
+    standing (with_queue w notice.queue (with_parcel (queue_at w notice.queue) notice)) rest
+
+-- where that became of the hand's notices, from the first on, those that were added stand in their queues, and the hand
+-- holds the others
+abbrev pub put_in : World → Actor → List Done → World
+put_in w who [] = w
+put_in w who (d ∷ ds) =
+    with_hand (standing w (added_among (hand_of w who) (d ∷ ds))) who (not_added (hand_of w who) (d ∷ ds))
 
 -- the notice of n among these, alone
 abbrev pub notice_of : List Notice → ℕ → List Notice
 notice_of [] n = []
 notice_of (notice ∷ rest) n = if notice.object == n then notice ∷ [] else notice_of rest n
 
--- these without the notice of n
-abbrev pub without_notice : List Notice → ℕ → List Notice
-without_notice = without_first object_of
+-- the notices of these numbers among these, each looked for where the ones before are gone
+abbrev pub notices_of : List Notice → List ℕ → List Notice
+notices_of notices [] = []
+notices_of notices (n ∷ ns) = notice_of notices n ++ notices_of (without_first object_of notices n) ns
 
--- the notice of n was taken from the queue
-abbrev pub taken_out : Lists Notice → ℕ → Lists Notice
-taken_out q n = record q { taken = q.taken ++ n ∷ []; stands = without_notice q.stands n }
+-- these without the notices of these numbers
+abbrev pub without_notices : List Notice → List ℕ → List Notice
+without_notices notices [] = notices
+without_notices notices (n ∷ ns) = without_notices (without_first object_of notices n) ns
 
--- the hand, which was empty, holds the notice of n, which stood in the queue
-abbrev pub took : World → ℕ → ℕ → ℕ → World
-took w m q n =
-    with_hand (with_queue w q (taken_out (queue_at w q) n)) (Mutator m) (notice_of (queue_at w q).stands n)
+-- the notices of these numbers were taken from the queue
+abbrev pub taken_out : Lists Notice → List ℕ → Lists Notice
+taken_out q ns = record q { taken = q.taken ++ ns; stands = without_notices q.stands ns }
+
+-- the hand, which was empty, holds the notices of these numbers, which stood in the queue
+abbrev pub took : World → ℕ → ℕ → List ℕ → World
+took w m q [] = w
+took w m q (n ∷ ns) =
+    with_hand (with_queue w q (taken_out (queue_at w q) (n ∷ ns))) (Mutator m)
+    (notices_of (queue_at w q).stands (n ∷ ns))
 
 -- the slot holds n, of which there is one hold fewer
 abbrev pub adopted : Heap → ℕ → ℕ → ℕ → Heap
@@ -83,6 +100,16 @@ abbrev pub handed_on : World → ℕ → ℕ → World
 handed_on w k n =
     let fewer = with_pending w k (without_pending (pending_of w k) n) in
     with_heap fewer (with_hold fewer.heap n)
+
+-- and so of several, one after the other
+abbrev pub handed_each : World → ℕ → List Notice → World
+handed_each w k [] = w
+handed_each w k (notice ∷ rest) = handed_each (handed_on w k notice.object) k rest
+
+-- the reference in the slot is cleared, and there is one hold more of it, where its notice was given
+abbrev pub unhooked : World → ℕ → ℕ → List Notice → World
+unhooked w m s [] = w
+unhooked w m s (notice ∷ rest) = with_heap w (with_hold (cut w.heap m s) notice.object)
 
 -- how many cells are free: all but one for each object that was made and not swept
 abbrev pub free_after : World → ℕ
@@ -136,18 +163,19 @@ after_plain w plain.EndMove r = if is_done r then with_phase w Idle else w
 abbrev pub after_heap : World → NamedStep → Reply → World
 after_heap w (heap.Plain step) r = after_plain w step r
 after_heap w (heap.Unhook m s) r =
-    let unhooked = with_heap w (cut w.heap m s) in
-    if is_nothing r then unhooked
-    else if_told (told_notice r) (λ notice. with_heap unhooked (with_hold unhooked.heap notice.object)) w
+    if is_nothing r then with_heap w (cut w.heap m s) else unhooked w m s (told_notices r)
 after_heap w (heap.Hold m s) r = if_told (told_object r) (λ n. with_heap w (with_hold w.heap n)) w
 after_heap w (heap.Adopt m d hold) r = if_told (told_object r) (λ n. with_heap w (adopted w.heap m d n)) w
 after_heap w (heap.Release hold) r = if is_done r then with_heap w (without_hold w.heap hold.object) else w
-after_heap w (heap.Hand k) r = if_told (told_notice r) (λ notice. handed_on w k notice.object) w
+after_heap w (heap.Hand k) r = handed_each w k (told_notices r)
+after_heap w (heap.Hands k max batch) r = handed_each w k (told_notices r)
 
 -- the world after one more row of its queues
 abbrev pub after_queues : World → Step → Reply → World
-after_queues w (steps.Put who) r = if is_added r then put_in w who (hand_of w who) else w
-after_queues w (steps.Poll m q) r = if_told (told_taken r) (λ n. took w m q n) w
+after_queues w (steps.Put who) r = put_in w who (told_dones r)
+after_queues w (steps.Puts who) r = put_in w who (told_dones r)
+after_queues w (steps.Poll m q) r = took w m q (told_taken r)
+after_queues w (steps.Polls m q max) r = took w m q (told_taken r)
 after_queues w (steps.Close m q) r = if is_done r then closed_queue w q else w
 after_queues w step r = w
 

@@ -56,8 +56,11 @@ abbrev pub step_words : Step → List Word
 step_words (steps.Plain step) = plain_words step
 step_words (steps.Unhook m r) = mutator m ∷ Letters (codes "unhook") ∷ slot r ∷ []
 step_words (steps.Put a) = actor a ∷ Letters (codes "put") ∷ []
+step_words (steps.Puts a) = actor a ∷ Letters (codes "puts") ∷ []
 step_words (steps.Poll m q) = mutator m ∷ Letters (codes "poll") ∷ queue q ∷ []
+step_words (steps.Polls m q max) = mutator m ∷ Letters (codes "polls") ∷ queue q ∷ number max ∷ []
 step_words (steps.Adopt m s) = mutator m ∷ Letters (codes "adopt") ∷ slot s ∷ []
 step_words (steps.Release a) = actor a ∷ Letters (codes "release") ∷ []
 step_words (steps.Close m q) = mutator m ∷ Letters (codes "close") ∷ queue q ∷ []
 step_words (steps.Hand w) = worker w ∷ Letters (codes "hand") ∷ []
+step_words (steps.Hands w max) = worker w ∷ Letters (codes "hands") ∷ number max ∷ []

@@ -1,6 +1,9 @@
 -- What an answer tells, which is all that the replay of a trace reads of it.
-use Rattle.std.specs.Prelude.{ℕ, Bool, true, false, Option, Some, None}
+use Rattle.std.specs.Prelude.{ℕ, Bool, true, false, List, [], ◌∷◌, map, Option, Some, None}
 use Rattle.ref_base.specs.Worlds.{Notice}
+use Rattle.ref_base.specs.declared.cause.Cause.TheVariants.{Cycle}
+use Rattle.ref_base.specs.declared.out.Done.{Done}
+use Rattle.ref_base.specs.declared.out.Done.TheVariants.{Added}
 use Rattle.ref_base.specs.declared.reply.Reply.{Reply}
 use Rattle.ref_base.specs.declared.reply.Reply.TheVariants as replies
 
@@ -20,25 +23,29 @@ abbrev pub is_done : Reply → Bool
 is_done replies.Done = true
 is_done r = false
 
--- the notice that a hand holds now
-abbrev pub told_notice : Reply → Option Notice
-told_notice (replies.Notice n q cause) = Some (record { object = n; queue = q; cause = cause })
-told_notice r = None
+-- the notices that a hand holds now, first first
+abbrev pub told_notices : Reply → List Notice
+told_notices (replies.Notice n q cause) = record { object = n; queue = q; cause = cause } ∷ []
+told_notices (replies.Notices ns q cycle k) =
+    map (λ n. record { object = n; queue = q; cause = Cycle cycle k }) ns
+told_notices r = []
 
 -- that there is nothing to give
 abbrev pub is_nothing : Reply → Bool
 is_nothing replies.Nothing = true
 is_nothing r = false
 
--- that a notice was put in
-abbrev pub is_added : Reply → Bool
-is_added (replies.Added position) = true
-is_added r = false
+-- what became of the hand's notices, from the first on, where one was added or each is told
+abbrev pub told_dones : Reply → List Done
+told_dones (replies.Added position) = Added ∷ []
+told_dones (replies.Outs outs) = outs.done
+told_dones r = []
 
--- the reference that was taken from a queue
-abbrev pub told_taken : Reply → Option ℕ
-told_taken (replies.Took n) = Some n
-told_taken r = None
+-- the references that were taken from a queue, first first
+abbrev pub told_taken : Reply → List ℕ
+told_taken (replies.Took n) = n ∷ []
+told_taken (replies.TookSome ns) = ns
+told_taken r = []
 
 -- the number of the cycle that began
 abbrev pub told_cycle : Reply → Option ℕ
@@ -65,8 +72,9 @@ abbrev pub is_selected : Reply → Bool
 is_selected (replies.Selected count) = true
 is_selected r = false
 
--- the object that a reply names: one that a slot or a hold then has, or the reference of a notice
-abbrev pub named_by : Reply → Option ℕ
-named_by (replies.Object n) = Some n
-named_by (replies.Notice n q cause) = Some n
-named_by reply = None
+-- the objects that a reply names: one that a slot or a hold then has, or the references of notices
+abbrev pub named_by : Reply → List ℕ
+named_by (replies.Object n) = n ∷ []
+named_by (replies.Notice n q cause) = n ∷ []
+named_by (replies.Notices ns q cycle k) = ns
+named_by reply = []

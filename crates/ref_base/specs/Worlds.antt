@@ -8,6 +8,7 @@ use Rattle.ref_base.specs.Heaps.{Heap, first_heap}
 use Rattle.ref_base.specs.QueueLists.{Lists, new_queue, new_queues}
 use Rattle.ref_base.specs.declared.config.Config.{Config}
 use Rattle.ref_base.specs.declared.cause.Cause.{Cause}
+use Rattle.ref_base.specs.declared.cause.Cause.TheVariants.{Cycle}
 use Rattle.ref_base.specs.declared.actor.Actor.{Actor}
 use Rattle.ref_base.specs.declared.actor.Actor.TheVariants.{Mutator, Worker}
 use Rattle.ref_base.specs.declared.policy.Policy.{Policy}
@@ -26,6 +27,10 @@ pub record Pending : Type 0 where
   pub object : ℕ
   pub queue : ℕ
   pub cycle : ℕ
+
+-- the notice that worker k gives of what is pending
+abbrev pub notice_from : ℕ → Pending → Notice
+notice_from k p = record { object = p.object; queue = p.queue; cause = Cycle p.cycle k }
 
 -- A heap, the notices in the hands of mutators and workers, the queues, the pending references of each worker, the
 -- policy of the cycle, its number and its phase, and how many objects were swept so far. Hands, queues and pending

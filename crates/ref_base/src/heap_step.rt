@@ -10,10 +10,10 @@ pub struct HoldName {
 }
 
 /// One step of a heap (this project's profile). A step of the world (`Step`) asks one of these of its heap, or is one
-/// of queues. Where that one names a hand, this one names the hold: as a value, or as plain data (`HoldName`). Any
+/// of queues. Where that one names a hand, this one names the hold, or has the batch: as values, or as plain data. Any
 /// number can be named: a step with one outside the configuration is refused as it runs.
 #[derive(Drop)]
-pub enum HeapStep<H> {
+pub enum HeapStep<H, B> {
     /// A step that hands nothing over.
     Plain(PlainStep),
     /// Clears the reference in the slot, and gives its notice if it has a queue.
@@ -39,5 +39,12 @@ pub enum HeapStep<H> {
     /// Gives the notice of the next reference that the worker cleared.
     Hand {
         worker: WorkerNo,
+    },
+    /// Gives the notices of the next references that the worker cleared into a batch, behind what is in it: so many at
+    /// most, and all of one queue and one cycle.
+    Hands {
+        worker: WorkerNo,
+        max: u32,
+        batch: B,
     },
 }

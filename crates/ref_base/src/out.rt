@@ -1,7 +1,7 @@
 //! What becomes of an item of a batch that is put in.
 
 ghost use Rattle.std.specs.Prelude.{◌≡◌};
-ghost use Rattle.ref_base.specs.Outs.{is_refused};
+ghost use Rattle.ref_base.specs.Outs.{is_added, is_refused};
 
 use crate::Fault;
 
@@ -19,6 +19,13 @@ pub enum Done {
 }
 
 impl Done {
+    /// Whether it was added. Takes no memory.
+    pub fn is_added(self) -> bool
+        ensures { result ≡ is_added self }
+    {
+        matches!(self, Done::Added)
+    }
+
     /// Whether it was refused. Takes no memory.
     pub fn is_refused(self) -> bool
         ensures { result ≡ is_refused self }

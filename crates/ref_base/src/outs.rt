@@ -75,9 +75,18 @@ impl Outs {
         Some(out_of(before, done[place]))
     }
 
-    // What became of each.
-    fn as_slice(&self) -> &[Done]
-        ensures { result.now ≡ self.now.done }
+    /// How many were ever put into the queue before the batch. Takes no memory.
+    pub fn before(&self) -> u64
+        ensures before { result ≡ self.now.before }
+        ensures few { result < 2 ^ 63 }
+    {
+        self.before
+    }
+
+    /// What became of each item that was tried, in order, but for the positions. Takes no memory.
+    pub fn as_slice(&self) -> &[Done]
+        ensures done { result.now ≡ self.now.done }
+        ensures few { length result.now ≤ 32 }
     {
         &self.done[..usize::from(self.count)]
     }

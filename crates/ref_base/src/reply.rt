@@ -1,13 +1,15 @@
 //! What a step is answered.
 
-ghost use Rattle.std.specs.Prelude.{◌≡◌, [], ◌∷◌, Some};
-ghost use Rattle.ref_base.specs.Texts.{Letters, Long, number, text_of};
-ghost use Rattle.ref_base.specs.Replies.{reply_words};
+ghost use Rattle.std.specs.Prelude.{◌≡◌, ◌+◌, ◌<◌, ◌^◌, [], ◌∷◌, Some, false, length};
+ghost use Rattle.ref_base.specs.Texts.{Letters, Long, number};
+ghost use Rattle.std.specs.Fmt.{DisplaysOnOk};
+ghost use Rattle.ref_base.specs.Outs.{out_of, outs_of};
+ghost use Rattle.ref_base.specs.Replies.{reply_words, out_words, is_of_batch, spaced, outs_text, reply_text};
 ghost use Rattle.ref_base.specs.Words.{spelt};
 
 use crate::words::Word::{End, Long, Name, Number, Queue, Worker};
 use crate::words::{Word, alone, say};
-use crate::{Cause, Fault, ObjNo, QueueNo};
+use crate::{Cause, Done, Fault, Nos, ObjNo, Outs, QueueNo, WorkerNo};
 use std::fmt;
 
 /// The answer to one step. It prints as it stands in a trace.
@@ -30,6 +32,16 @@ pub enum Reply {
         /// Why there is one.
         cause: Cause,
     },
+    /// `notices 2 6 q0 cycle 1 w0`: the notices that the hand holds now, of one queue and one cycle.
+    Notices {
+        /// The references that they report, first first.
+        objects: Nos,
+        /// The queue that they are for, and no other.
+        queue: QueueNo,
+        /// The cycle in which the worker cleared these references.
+        cycle: u64,
+        worker: WorkerNo,
+    },
     /// `none`: there is nothing to do or to give.
     Nothing,
     /// `added 0`: the place of what was put in among all that was ever put into the queue, from 0 on.
@@ -38,8 +50,12 @@ pub enum Reply {
     Already,
     /// `closed`: the queue is closed.
     Closed,
+    /// `already, added 1`: what became of each notice that was put in, as a put of it alone would answer.
+    Outs(Outs),
     /// `took 2`: the reference that the notice that was taken reports.
     Took(ObjNo),
+    /// `took 2 6`: the references that the notices that were taken report, first first.
+    TookSome(Nos),
     /// `empty`: the queue is open and nothing stands in it.
     Empty,
     /// `cycle 1`: the number of the cycle that began.
@@ -65,8 +81,9 @@ pub enum Reply {
 }
 
 impl Reply {
-    // The words that it is spelled with.
+    // The words that it is spelled with, where it is of no batch.
     fn words(&self) -> [Word; 6]
+        requires { is_of_batch self.now ≡ false }
         ensures { spelt result ≡ reply_words self.now }
     {
         match *self {
@@ -84,6 +101,7 @@ impl Reply {
             Reply::Added(position) => with_long("added", position),
             Reply::Already => alone("already"),
             Reply::Closed => alone("closed"),
+            Reply::Notices { .. } | Reply::Outs(_) | Reply::TookSome(_) => unreachable!(),
             Reply::Took(object) => with_number("took", object.0),
             Reply::Empty => alone("empty"),
             Reply::Cycle(cycle) => with_long("cycle", cycle),
@@ -137,10 +155,68 @@ fn refusal_words(fault: Fault) -> [Word; 6]
 }
 
 impl fmt::Display for Reply {
-    ghost output = { λ reply. Some (text_of (reply_words reply)) };
+    ghost output = { λ reply. Some (reply_text reply) };
 
     fn fmt<W: fmt::Write>(&self, f: &mut fmt::Formatter<W>) -> fmt::Result {
-        say(f, &self.words())
+        match self {
+            Reply::Notices {
+                objects,
+                queue,
+                cycle,
+                worker,
+            } => {
+                f.write_str("notices")?;
+                say_numbers(f, objects.as_slice())?;
+                write!(f, " {queue} cycle {cycle} {worker}")
+            }
+            Reply::Outs(outs) => say_outs(f, outs.before(), outs.as_slice()),
+            Reply::TookSome(objects) => {
+                f.write_str("took")?;
+                say_numbers(f, objects.as_slice())
+            }
+            reply => say(f, &reply.words()),
+        }
+    }
+}
+
+// Prints the numbers, with a space before each.
+fn say_numbers<W: fmt::Write>(f: &mut fmt::Formatter<W>, numbers: &[ObjNo]) -> fmt::Result
+    ensures { DisplaysOnOk W.write_str_gives f.old result (Some (spaced numbers.now)) f.new }
+{
+    match numbers {
+        [first, rest @ ..] => {
+            write!(f, " {first}")?;
+            say_numbers(f, rest)
+        }
+        [] => Ok(()),
+    }
+}
+
+// Prints what became of each, with a comma between each two, where so many were put in before.
+fn say_outs<W: fmt::Write>(f: &mut fmt::Formatter<W>, before: u64, done: &[Done]) -> fmt::Result
+    requires { before + length done.now < 2 ^ 64 }
+    ensures { DisplaysOnOk W.write_str_gives f.old result (Some (outs_text (outs_of before done.now))) f.new }
+{
+    match done {
+        [last] => say(f, &out_words(before, *last)),
+        [first, rest @ ..] => {
+            say(f, &out_words(before, *first))?;
+            f.write_str(", ")?;
+            say_outs(f, before + u64::from(first.is_added()), rest)
+        }
+        [] => Ok(()),
+    }
+}
+
+// As `added 1`, where so many were put in before.
+fn out_words(before: u64, done: Done) -> [Word; 6]
+    ensures { spelt result ≡ out_words (out_of before done) }
+{
+    match done {
+        Done::Added => with_long("added", before),
+        Done::Already => alone("already"),
+        Done::Closed => alone("closed"),
+        Done::Refused(fault) => refusal_words(fault),
     }
 }
 

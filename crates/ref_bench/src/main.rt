@@ -4,6 +4,7 @@
 
 mod cleaner_runs;
 mod crowds;
+mod delivery_runs;
 mod heap_runs;
 mod letters;
 mod load_runs;

@@ -2,6 +2,7 @@
 
 use crate::cleaner_runs::jobs_registered_and_run;
 use crate::crowds::{plain_queue, shared_queue};
+use crate::delivery_runs::{By, deliveries};
 use crate::heap_runs::{dead_references, hands, heap_calls, looks, scans};
 use crate::load_runs::{Dead, Part, Read, Route, cycle_part, reads};
 use crate::move_runs::{Moves, move_part};
@@ -36,6 +37,8 @@ pub enum Measure {
     Hand,
     /// What one reference to a dead object costs, from the mark's end until its notice was polled and given back.
     DeadReference,
+    /// A notice's way from a shared heap through its queue.
+    Delivery(By),
     /// Loads or gets by one mutator.
     Read(Read, Route, Dead),
     /// A part of a cycle.
@@ -53,7 +56,7 @@ pub enum Measure {
 }
 
 /// All measures, in the order in which they are printed.
-pub const ALL: [Measure; 45] = [
+pub const ALL: [Measure; 47] = [
     Measure::Queue,
     Measure::SharedQueue,
     Measure::PlainQueue,
@@ -67,6 +70,8 @@ pub const ALL: [Measure; 45] = [
     Measure::Look,
     Measure::Hand,
     Measure::DeadReference,
+    Measure::Delivery(By::One),
+    Measure::Delivery(By::Batch),
     Measure::Read(Read::Load, Route::Same, Dead::None),
     Measure::Read(Read::Load, Route::Along, Dead::None),
     Measure::Read(Read::Load, Route::AlongInMark, Dead::None),
@@ -122,6 +127,7 @@ impl Measure {
             Measure::DeadReference => {
                 format!(in alloc; "a dead reference, mark's end to notice polled")
             }
+            Measure::Delivery(by) => by.name(alloc),
             Measure::Read(read, route, dead) => {
                 format!(in alloc; "a {}{}{}", read.word(), route.words(), dead.words())
             }
@@ -154,6 +160,7 @@ impl Measure {
             Measure::Look => looks(rt, alloc),
             Measure::Hand => hands(rt, alloc),
             Measure::DeadReference => dead_references(rt, alloc),
+            Measure::Delivery(by) => deliveries(rt, alloc, by),
             Measure::Read(read, route, dead) => reads(rt, alloc, (read, route, dead), size),
             Measure::Cycle(part) => cycle_part(rt, alloc, part),
             Measure::Move(part) => move_part(rt, alloc, part),

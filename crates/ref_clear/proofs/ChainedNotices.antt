@@ -8,6 +8,9 @@ use Rattle.ref_clear.proofs.Common.{holding, mint_answer_in, after_mint_in, Chai
 use Rattle.ref_clear.proofs.Common.{seen_lists, IsSoundHeap, AreSoundLists, ClearHeap, AreRegistered, MarkerDoes}
 use Rattle.ref_clear.proofs.Common.{listed_at, HeapDoes, Ground, ground_of, Config, pending_by}
 use Rattle.std.proofs.Common.{nat_lt}
+use Rattle.std.proofs.lemmas.List.{append-nil}
+use Rattle.ref_clear.proofs.Common.{pendings_in}
+use Rattle.ref_clear.specs.ClearViews.{IsPendingChain}
 use Rattle.ref_mark.specs.Chains.{chain_first, chain_without_first}
 use Rattle.ref_space.specs.declared.linked.Linked.{Linked}
 use Rattle.ref_objects.specs.Grounds.{is_spared, linked_in}
@@ -17,7 +20,7 @@ use Rattle.ref_mark.proofs.MarkerLemmas.{length-lists_of}
 use Rattle.ref_clear.proofs.KeptReferences.{config-cleared}
 use Rattle.ref_clear.proofs.NoticeAnswers.{minted, mint_refused}
 use Rattle.ref_clear.proofs.PendingLists.{worker_within, worker_has_list, first_as_seen, listed_registered}
-use Rattle.ref_clear.proofs.PendingLists.{told_as_seen, none_past}
+use Rattle.ref_clear.proofs.PendingLists.{told_as_seen, none_past, has-list, pending_at-seen}
 use Rattle.ref_clear.proofs.HandAnswers.{none_to_hand, handed as handed_lists, hand_refused as hand_refused_lists}
 use Rattle.ref_clear.proofs.UnhookAnswers.{unhook_cut as cut_lists, unhook_refused as refused_lists}
 use Rattle.ref_clear.proofs.UnhookAnswers.{unhook_done as done_lists}
@@ -178,6 +181,32 @@ module _ {k : CycleHeap} {chains : List Chain} {condemned : Worklist} (w : ℕ) 
         hand_refused {j} {fault} answers after =
             let same : j ≡ k = (mint_refused k p.object fault answers after).1 in
             rw same ((hand_refused_lists w sound.lists within first answers (sym same ∙ after)).0, sound)
+
+-- ---- a worker's chain by itself
+
+module _ {k : CycleHeap} {chains : List Chain} {condemned : Worklist} (w : ℕ) (sound : IsSoundHeap k chains condemned)
+    {now : ClearHeap} (seen : seen_heap k chains ≡ now) (named : w < now.mark.heap.config.workers) where
+  pub has_chain_of : w < length chains
+  has_chain_of = worker_has_chain w sound seen refl named
+
+  module _ {c : Chain} (read : c ≡ get_or chains w c) where
+    -- it is one of registered references
+    pub pending_chain : IsPendingChain (ground_of k) c
+    pending_chain = record {
+      linked = chain_at k.tags k.heap.config.cells chains w c has_chain_of read sound.linked;
+      registered = λ n within.
+          sound.lists.registered n
+          (has-list (lists_in k chains) w (listed k.tags k.heap.config.cells c) n
+          (inside k chains w 0 has_chain_of read) (listed_read k chains w 0 has_chain_of read)
+          (subst (λ (ns : List ℕ). has ns n ≡ true) (append-nil (listed k.tags k.heap.config.cells c)) within));
+    }
+
+    -- and what it lists is pending
+    pub pending_read : pendings_in k.heap.objects k.tags (listed k.tags k.heap.config.cells c)
+        ≡ pending_at (seen_heap k chains) w
+    pending_read =
+        pending_at-seen k (lists_in k chains) w (listed k.tags k.heap.config.cells c)
+        (inside k chains w 0 has_chain_of read) (listed_read k chains w 0 has_chain_of read)
 
 -- ---- an unhook
 

@@ -46,10 +46,10 @@ pub use Rattle.ref_mark.specs.MarkViews.{ground_of}
 pub use Rattle.ref_mark.specs.Standing.{FactsBut, MarkStands, ReadsAs, shown_heap, unsaid}
 pub use Rattle.ref_space.specs.Worklists.{first_in, listed_at}
 pub use Rattle.ref_mark.specs.declared.chain.Chain.{Chain}
-pub use Rattle.ref_clear.specs.ClearCalls.{HeapDoes, after_in, answer_in, answer_of_hand, answer_of_unhook, queue_in}
+pub use Rattle.ref_clear.specs.ClearCalls.{HeapDoes, after_in, answer_in, answer_of_unhook, queue_in}
 pub use Rattle.ref_clear.specs.ClearCalls.{refusal_in}
 pub use Rattle.ref_clear.specs.ClearHeaps.{ClearHeap, begun_with, handed_from, heap_pended, holding, looked_from}
-pub use Rattle.ref_clear.specs.ClearHeaps.{pending_at, swept_some, unhooked, with_mark, without_tags}
+pub use Rattle.ref_clear.specs.ClearHeaps.{pending_at, swept_some, unhooked_from, with_mark, without_tags}
 pub use Rattle.ref_clear.specs.ClearViews.{AreRegistered, AreSoundLists, IsSoundHeap, ListWhite, MaySweep, lists_in}
 pub use Rattle.ref_clear.specs.ClearViews.{pending_by, pending_from, pending_in, pending_lists_of, pendings_in}
 pub use Rattle.ref_clear.specs.ClearViews.{seen_heap, seen_lists}

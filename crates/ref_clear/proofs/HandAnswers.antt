@@ -2,13 +2,14 @@
 use Rattle.ref_clear.proofs.Common.{arith, ◌≡◌, ℕ, ◌<◌, ◌==◌, true, refl, sym, ap, subst, ◌∙◌, List, [], ◌∷◌, set}
 use Rattle.ref_clear.proofs.Common.{get_or, Some, None, inl, inr, or_right, has, Pending, pending_numbers, Cycle, Fault}
 use Rattle.ref_clear.proofs.Common.{mint_refusal, CycleHeap, mint_answer_in, after_mint_in, ground_of, pending_at}
-use Rattle.ref_clear.proofs.Common.{holding, handed_from, refusal_in, answer_of_hand, pending_lists_of, pendings_in}
+use Rattle.ref_clear.proofs.Common.{holding, handed_from, refusal_in, pending_lists_of, pendings_in}
 use Rattle.ref_clear.proofs.Common.{seen_lists, AreRegistered, AreSoundLists, pending_from, Object, rest_of, HeapDoes}
 use Rattle.ref_clear.proofs.Common.{Tag}
 use Rattle.std.proofs.lemmas.Bool.{lt-ltb}
 use Rattle.ref_base.specs.Refusals.{is_worker, hand_refusal}
+use Rattle.ref_base.specs.CollectorRows.{one_handed}
 use Rattle.ref_clear.specs.ClearViews.{first_pending}
-use Rattle.ref_base.proofs.HasLaws.{has-right}
+use Rattle.ref_base.proofs.HasLaws.{has-first, has-right}
 use Rattle.ref_clear.proofs.HandRows.{pending_numbers-rest}
 use Rattle.ref_clear.proofs.NoticeAnswers.{mint_of_pending, minted}
 use Rattle.ref_clear.proofs.PendingLists.{lists_of-set, stands_as_seen, has-replaced}
@@ -29,7 +30,7 @@ has-rest : (ns : List ℕ) (n : ℕ) → has (rest_of ns) n ≡ true → has ns 
 has-rest [] n within = within
 has-rest (m ∷ ns) n within = or_right (m == n) (has ns n) within
 
-some_first : (ps : List Pending) (p : Pending) → first_pending ps ≡ Some p → ps ≡ p ∷ rest_pending ps
+pub some_first : (ps : List Pending) (p : Pending) → first_pending ps ≡ Some p → ps ≡ p ∷ rest_pending ps
 some_first [] p some = absurd (let wrong : None ≡ Some p = some in cc)
 some_first (q ∷ qs) p some =
     let same : q ≡ p = let e : Some q ≡ Some p = some in cc in ap (λ (r : Pending). r ∷ qs) same
@@ -53,7 +54,10 @@ module _ {k : CycleHeap} {lists : List (List ℕ)} {condemned : List ℕ} (w : �
     pss = pending_lists_of k.heap.objects k.tags lists
 
     waits : has (pending_numbers pss) p.object ≡ true
-    waits = grind (arith, pending_numbers-rest, has-right)
+    waits =
+        let parts = pending_numbers-rest pss w (p ∷ []) (rest_pending (pending_at (seen_lists k lists) w)) are in
+        subst (λ (ns : List ℕ). has ns p.object ≡ true) (sym parts.2)
+        (has-right parts.0 (p.object ∷ parts.1) p.object (has-first p.object parts.1))
 
     refusal : refusal_in (seen_lists k lists) (heap.Hand w) ≡ mint_refusal (ground_of k) p.object
     refusal =
@@ -81,9 +85,9 @@ module _ {k : CycleHeap} {lists : List (List ℕ)} {condemned : List ℕ} (w : �
         ap (λ (i : List ℕ). pendings_in k.heap.objects k.tags i) taken
         ∙ pendings_in-rest k.heap.objects k.tags l
         ∙ ap rest_pending (stands_as_seen w sound within read) in
-        let reply : answer_of_hand w (pending_at (seen_lists k lists) w) ≡ replies.Notice p.object p.queue
+        let reply : one_handed w (pending_at (seen_lists k lists) w) ≡ replies.Notice p.object p.queue
         (Cycle p.cycle w) =
-        ap (answer_of_hand w) are in
+        ap (one_handed w) are in
         let left = ap (handed_from (seen_lists k lists) w) are in
         let now =
         lists_of-set k.heap.objects k.tags lists w m ∙ ap (λ (ps : List Pending). set pss w ps) rest in (

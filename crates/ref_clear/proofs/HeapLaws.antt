@@ -15,7 +15,7 @@ use Rattle.ref_clear.proofs.KeptRows.{row_keeps}
 use Rattle.ref_clear.proofs.KeptReferences.{after_stays, begun-heap}
 use Rattle.ref_clear.proofs.PendingFacts.{waiting_still}
 use Rattle.ref_clear.proofs.UnhookRows.{unhook_row}
-use Rattle.ref_clear.proofs.HandRows.{hand_row}
+use Rattle.ref_clear.proofs.HandRows.{hand_row, hands_row}
 use Rattle.ref_clear.proofs.LookRows.{look_row}
 use Rattle.ref_clear.proofs.EndRows.{end_clear_row, end_sweep_row}
 use Rattle.ref_clear.proofs.SweepRows.{sweep_row}
@@ -90,6 +90,7 @@ module _ (c : ClearHeap) (a : State) (stands : HeapStands c a) where
   own_refusal (heap.Plain (plain.ClearNext w)) own = grind arith
   own_refusal (heap.Plain plain.EndClear) own = same_end_clear
   own_refusal (heap.Hand w) own = grind arith
+  own_refusal (heap.Hands w max batch) own = grind arith
   own_refusal (heap.Plain (plain.Sweep w)) own = grind arith
   own_refusal (heap.Plain plain.EndSweep) own = cc
   own_refusal step own = absurd (cc)
@@ -117,6 +118,8 @@ each_step c (heap.Plain (plain.ClearNext w)) a stands =
 each_step c (heap.Plain plain.EndClear) a stands =
     row_of c a stands (heap.Plain plain.EndClear) _ _ refl (end_clear_row c a stands)
 each_step c (heap.Hand w) a stands = row_of c a stands (heap.Hand w) _ _ refl (hand_row c a w stands)
+each_step c (heap.Hands w max batch) a stands =
+    row_of c a stands (heap.Hands w max batch) _ _ refl (hands_row c a w max batch stands)
 each_step c (heap.Plain (plain.Sweep w)) a stands =
     row_of c a stands (heap.Plain (plain.Sweep w)) _ _ refl (sweep_row c a w stands)
 each_step c (heap.Plain plain.EndSweep) a stands =

@@ -2,9 +2,12 @@
 -- that isn't one of its own not the doomed.
 use Rattle.ref_clear.proofs.Common.{arith, ◌≡◌, Bool, true, false, Option, Some, None, refl, sym, ap, subst, ◌∙◌}
 use Rattle.ref_clear.proofs.Common.{false≢true, World, NamedStep, State, is_in, heap_refusal, HeapAccepts, IsHeapRow}
-use Rattle.ref_clear.proofs.Common.{Fault, Sweeping, Reply, is_of_marking, Clearing}
-use Rattle.ref_base.specs.CollectorRows.{IsHeapAnswer}
+use Rattle.ref_clear.proofs.Common.{Fault, Sweeping, Reply, is_of_marking, Clearing, ℕ, List, map, take, Pending}
+use Rattle.ref_base.specs.CollectorRows.{IsHeapAnswer, HandsOn, one_handed, all_handed}
+use Rattle.ref_base.specs.Refusals.{batch_of}
+use Rattle.ref_base.specs.Worlds.{notice_from, pending_of}
 use Rattle.ref_base.specs.declared.phase.Phase.{Phase}
+use Rattle.ref_base.proofs.ReplayKeeps.{each_keeps}
 use Rattle.ref_base.proofs.RowChanges.{pending_after, heap_tells}
 use Rattle.ref_base.specs.declared.heap_step.HeapStep.TheVariants as heap
 use Rattle.ref_base.specs.declared.plain_step.PlainStep.TheVariants as plain
@@ -20,6 +23,7 @@ same_pending : (w : World) (step : NamedStep) (reply : Reply) → is_of_marking 
     → pending_after w (Some step) reply ≡ w.pending
 same_pending w (heap.Plain (plain.ClearNext k)) reply own = absurd (false≢true own)
 same_pending w (heap.Hand k) reply own = absurd (false≢true own)
+same_pending w (heap.Hands k max batch) reply own = absurd (false≢true own)
 same_pending w step reply own = refl
 
 answer_keeps : (a b : State) (step : NamedStep) (reply : Reply) (fault : Option Fault) → is_of_marking step ≡ true
@@ -52,6 +56,13 @@ in_no_sweep : (a b : State) (phase : Phase) → b.world.phase ≡ phase → is_i
 in_no_sweep a b phase is other sweeping =
     absurd (false≢true (sym (ap (λ p. is_in p Sweeping) is ∙ other) ∙ sweeping))
 
+-- what is handed on changes no phase
+hand_sweeps : (a b : State) (k : ℕ) (answer reply : Reply) (ps : List Pending) → HandsOn a k answer ps reply b
+    → StillSweeps a b
+hand_sweeps a b k answer reply ps row =
+    let same = each_keeps (λ (w : World). w.phase) (λ w k n. refl) a.world k (map (notice_from k) ps) in
+    grind (arith, same)
+
 accepted_sweeps : (a b : State) (step : NamedStep) (reply : Reply) → goes_on_sweeping step ≡ true
     → HeapAccepts a step reply b → StillSweeps a b
 accepted_sweeps a b (heap.Plain (plain.Begin now how)) reply own row = grind arith
@@ -60,6 +71,10 @@ accepted_sweeps a b (heap.Plain plain.EndMark) reply own row =
 accepted_sweeps a b (heap.Plain plain.EndClear) reply own row = absurd (false≢true own)
 accepted_sweeps a b (heap.Plain (plain.Sweep w)) reply own row = absurd (false≢true own)
 accepted_sweeps a b (heap.Plain plain.EndSweep) reply own row = grind arith
+accepted_sweeps a b (heap.Hand k) reply own row =
+    let first = take 1 (pending_of a.world k) in hand_sweeps a b k (one_handed k first) reply first row
+accepted_sweeps a b (heap.Hands k max batch) reply own row =
+    let some = batch_of max (pending_of a.world k) in hand_sweeps a b k (all_handed k some) reply some row
 accepted_sweeps a b step reply own row = grind arith
 
 answer_sweeps : (a b : State) (step : NamedStep) (reply : Reply) (fault : Option Fault) → goes_on_sweeping step ≡ true

@@ -3,8 +3,9 @@ pub mod KeptReferences
 pub mod PendingFacts
 pub mod FoundFacts
 pub mod UnhookRows
-pub mod HandRows
 pub mod TakenLists
+pub mod BatchFronts
+pub mod HandRows
 pub mod LookedHeaps
 pub mod LookRows
 pub mod EndRows
@@ -28,5 +29,7 @@ pub mod ChainedLooks
 pub mod LookAnswers
 pub mod NoticeAnswers
 pub mod HandAnswers
+pub mod HandBatches
+pub mod CountedFronts
 pub mod UnhookAnswers
 pub mod SweepLoops

@@ -1,7 +1,7 @@
 -- What the code of an unhook answers and leaves: where the reference is registered, the hold comes first, then the cut.
 use Rattle.ref_clear.proofs.Common.{arith, ◌≡◌, ℕ, true, refl, sym, ap, subst, ◌∙◌, List, Some, None, Heap, Reference}
 use Rattle.ref_clear.proofs.Common.{slot_at, reference_at, registered_in, reference_of, has_slot, Reply, holds_refusal}
-use Rattle.ref_clear.proofs.Common.{Own, CycleHeap, with_cleared, mint_answer_in, after_mint_in, holding, unhooked}
+use Rattle.ref_clear.proofs.Common.{Own, CycleHeap, with_cleared, mint_answer_in, after_mint_in, holding, unhooked_from}
 use Rattle.ref_clear.proofs.Common.{Fault, refusal_in, queue_in, after_in, answer_of_unhook, seen_lists, with_mark}
 use Rattle.ref_clear.proofs.Common.{AreRegistered, AreSoundLists, clear_refusal, ground_of, MarkerDoes, HeapDoes}
 use Rattle.ref_base.specs.declared.fault.Fault.TheVariants.{NoSuchObject}
@@ -79,8 +79,8 @@ module _ {k : CycleHeap} {lists : List (List ℕ)} {condemned : List ℕ} (sound
       let none : refusal_in (seen_lists k lists) (heap.Unhook m s) ≡ None = refusal ∙ counted in
       let reply : answer_of_unhook (slot_at k.heap m s) (queue_in k m s) ≡ replies.Notice n q Own =
       ap (λ v. answer_of_unhook v (queue_in k m s)) held ∙ ap (answer_of_unhook (Some n)) registered in
-      let left : unhooked k m s (slot_at k.heap m s) (queue_in k m s) ≡ holding (with_cleared k m s) n =
-      ap (λ v. unhooked k m s v (queue_in k m s)) held ∙ ap (unhooked k m s (Some n)) registered in
+      let left : unhooked_from k m s (slot_at k.heap m s) (queue_in k m s) ≡ holding (with_cleared k m s) n =
+      ap (λ v. unhooked_from k m s v (queue_in k m s)) held ∙ ap (unhooked_from k m s (Some n)) registered in
       let now : j ≡ holding (with_cleared k m s) n =
       cut ∙ ap (λ (h : CycleHeap). marks.after_in_cycle h (heap.Plain (plain.Clear m s))) mint.2 ∙ simp clears refl
       ∙ clear_holding k m s n in (

@@ -4,7 +4,8 @@ use Rattle.ref_clear.proofs.Common.{inl, inr, cases_Bool, Object, present, refer
 use Rattle.ref_clear.proofs.Common.{registered_in, one_more, with_hold, changed_in, with_reference, cleared, cut, World}
 use Rattle.ref_clear.proofs.Common.{pending_numbers, unless, has_slot, State, ticked, shown, reference_of, HeapAccepts}
 use Rattle.ref_clear.proofs.Common.{forgotten, heap_but, CycleHeap, is_doomed, doomed, with_cleared, MarkStands}
-use Rattle.ref_clear.proofs.Common.{ReadsAs, unsaid, shown_heap, ClearHeap, with_mark, holding, unhooked, refusal_in}
+use Rattle.ref_clear.proofs.Common.{ReadsAs, unsaid, shown_heap, ClearHeap, with_mark, holding, unhooked_from}
+use Rattle.ref_clear.proofs.Common.{refusal_in}
 use Rattle.ref_clear.proofs.Common.{queue_in, answer_of_unhook, HeapStands, ArePending, clear_refusal}
 use Rattle.std.proofs.Common.{◌*◌}
 use Rattle.ref_base.specs.CollectorRows.{on_heap, Unhooks}
@@ -134,7 +135,7 @@ cut_stands c a m s stands accepted = grind (arith, clear_row, pending-cleared)
 unhook_by : (c : ClearHeap) (a : State) (m s : ℕ) (held queue : Option ℕ) → HeapStands c a
     → slot_at c.mark.heap m s ≡ held → clear_refusal c.mark.heap m s ≡ None
     → (b : State) × Unhooks a m s held queue (answer_of_unhook held queue) b
-    × HeapStands (with_mark c (unhooked c.mark m s held queue)) b
+    × HeapStands (with_mark c (unhooked_from c.mark m s held queue)) b
 unhook_by c a m s None queue stands is accepted =
     (ticked (on_heap a (cut a.world.heap m s)), (refl, refl), cut_stands c a m s stands accepted)
 unhook_by c a m s (Some n) None stands is accepted =
@@ -154,7 +155,7 @@ unhook_by c a m s (Some n) (Some q) stands is accepted =
 pub unhook_row : (c : ClearHeap) (a : State) (m s : ℕ) → HeapStands c a → refusal_in c (heap.Unhook m s) ≡ None
     → (b : State)
     × HeapAccepts a (heap.Unhook m s) (answer_of_unhook (slot_at c.mark.heap m s) (queue_in c.mark m s)) b
-    × HeapStands (with_mark c (unhooked c.mark m s (slot_at c.mark.heap m s) (queue_in c.mark m s))) b
+    × HeapStands (with_mark c (unhooked_from c.mark m s (slot_at c.mark.heap m s) (queue_in c.mark m s))) b
 unhook_row c a m s stands accepted =
     let held = slot_at c.mark.heap m s in
     let queue = queue_in c.mark m s in

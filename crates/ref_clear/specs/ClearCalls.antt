@@ -1,14 +1,14 @@
 -- What the calls of a heap answer and leave, step by step. The steps of marking are as they are below; the others are
 -- told here.
-use Rattle.std.specs.Prelude.{◌≡◌, ℕ, if◌then◌else◌, List, [], ◌∷◌, length, min, Option, Some, None, is_some}
-use Rattle.ref_base.specs.HeapSteps.{NamedStep}
+use Rattle.std.specs.Prelude.{◌≡◌, ℕ, if◌then◌else◌, List, [], ◌∷◌, length, map, min, Option, Some, None, is_some}
+use Rattle.ref_base.specs.HeapSteps.{NamedStep, HeldNotice}
 use Rattle.ref_base.specs.Heaps.{slot_at, reference_at, registered_in}
-use Rattle.ref_base.specs.Worlds.{Pending}
+use Rattle.ref_base.specs.Worlds.{Notice}
 use Rattle.ref_base.specs.Collectors.{State}
-use Rattle.ref_base.specs.CollectorRows.{reference_of, referent_of, list_at}
-use Rattle.ref_base.specs.Refusals.{heap_refusal}
+use Rattle.ref_base.specs.CollectorRows.{reference_of, referent_of, list_at, one_handed, all_handed}
+use Rattle.ref_base.specs.Refusals.{heap_refusal, batch_of}
 use Rattle.ref_base.specs.declared.fault.Fault.{Fault}
-use Rattle.ref_base.specs.declared.cause.Cause.TheVariants.{Own, Cycle}
+use Rattle.ref_base.specs.declared.cause.Cause.TheVariants.{Own}
 use Rattle.ref_base.specs.declared.heap_step.HeapStep.TheVariants as heap
 use Rattle.ref_base.specs.declared.plain_step.PlainStep.TheVariants as plain
 use Rattle.ref_base.specs.declared.reply.Reply.{Reply}
@@ -16,8 +16,9 @@ use Rattle.ref_base.specs.declared.reply.Reply.TheVariants as replies
 use Rattle.ref_mark.specs.CycleHeaps.{is_to_clear, CycleHeap, doomed, cycle_ended, sweep_begun}
 use Rattle.ref_mark.specs.MarkCalls as marks
 use Rattle.ref_mark.specs.MarkCalls.{unless_refused}
-use Rattle.ref_clear.specs.ClearHeaps.{ClearHeap, HeldNotice, with_mark, pending_at, begun_with}
-use Rattle.ref_clear.specs.ClearHeaps.{looked_from, handed_from, unhooked, swept_some}
+use Rattle.ref_clear.specs.ClearHeaps.{ClearHeap, with_mark, pending_at, begun_with}
+use Rattle.ref_clear.specs.ClearHeaps.{looked_from, handed_from, handed_some, unhooked_from, swept_some}
+use Rattle.ref_clear.specs.declared.handed.Handed.{Handed}
 use Rattle.ref_clear.specs.declared.looked.Looked.{Looked}
 use Rattle.ref_clear.specs.declared.looked.Looked.TheVariants as looked
 
@@ -34,6 +35,23 @@ looked_reply (Some (looked.Skipped n)) = replies.Skipped n
 abbrev pub notice_reply : Option HeldNotice → Reply
 notice_reply None = replies.Nothing
 notice_reply (Some notice) = replies.Notice notice.hold.object notice.queue notice.cause
+
+-- of what this worker handed on at once, or of nothing
+abbrev pub handed_reply : ℕ → Option Handed → Reply
+handed_reply w None = replies.Nothing
+handed_reply w (Some handed) = replies.Notices handed.numbers handed.queue handed.cycle w
+
+-- a notice that is out: it holds its reference in the heap of this number
+abbrev pub held_notice : ℕ → Notice → HeldNotice
+held_notice heap_no notice = record {
+  hold = record { heap_no = heap_no; object = notice.object };
+  queue = notice.queue;
+  cause = notice.cause;
+}
+
+-- and so are several
+abbrev pub held_notices : ℕ → List Notice → List HeldNotice
+held_notices heap_no notices = map (held_notice heap_no) notices
 
 -- of a sweep of so many, or of none
 abbrev pub swept_reply : Option ℕ → Reply
@@ -66,11 +84,6 @@ answer_of_look k (n ∷ rest) =
     if is_to_clear k n then replies.Cleared n else
     (if is_some (referent_of (reference_at k.heap n)) then replies.Kept n else replies.Skipped n)
 
--- the notice of the first pending reference names the cycle in which it was cleared
-abbrev pub answer_of_hand : ℕ → List Pending → Reply
-answer_of_hand w [] = replies.Nothing
-answer_of_hand w (p ∷ ps) = replies.Notice p.object p.queue (Cycle p.cycle w)
-
 -- an unhook of the reference that the slot holds gives its notice where it is registered
 abbrev pub answer_of_unhook : Option ℕ → Option ℕ → Reply
 answer_of_unhook None queue = replies.Nothing
@@ -100,7 +113,9 @@ left c step after = unless_refused (refusal_in c step) (λ fault. c) after
 abbrev pub answer_in : ClearHeap → NamedStep → Reply
 answer_in c (heap.Unhook m s) =
     reply_or_fault c (heap.Unhook m s) (answer_of_unhook (slot_at c.mark.heap m s) (queue_in c.mark m s))
-answer_in c (heap.Hand w) = reply_or_fault c (heap.Hand w) (answer_of_hand w (pending_at c w))
+answer_in c (heap.Hand w) = reply_or_fault c (heap.Hand w) (one_handed w (pending_at c w))
+answer_in c (heap.Hands w max batch) =
+    reply_or_fault c (heap.Hands w max batch) (all_handed w (batch_of max (pending_at c w)))
 answer_in c (heap.Plain (plain.ClearNext w)) =
     reply_or_fault c (heap.Plain (plain.ClearNext w)) (answer_of_look c.mark (list_at c.mark.found w))
 answer_in c (heap.Plain plain.EndClear) = reply_or_fault c (heap.Plain plain.EndClear) replies.Done
@@ -112,8 +127,10 @@ answer_in c step = marks.answer_in_cycle c.mark step
 -- the heap after it
 abbrev pub after_in : ClearHeap → NamedStep → ClearHeap
 after_in c (heap.Unhook m s) =
-    left c (heap.Unhook m s) (with_mark c (unhooked c.mark m s (slot_at c.mark.heap m s) (queue_in c.mark m s)))
+    left c (heap.Unhook m s) (with_mark c (unhooked_from c.mark m s (slot_at c.mark.heap m s) (queue_in c.mark m s)))
 after_in c (heap.Hand w) = left c (heap.Hand w) (handed_from c w (pending_at c w))
+after_in c (heap.Hands w max batch) =
+    left c (heap.Hands w max batch) (handed_some c w (length (batch_of max (pending_at c w))))
 after_in c (heap.Plain (plain.Begin now how)) = left c (heap.Plain (plain.Begin now how)) (begun_with c now how)
 after_in c (heap.Plain (plain.ClearNext w)) =
     left c (heap.Plain (plain.ClearNext w)) (looked_from c w (list_at c.mark.found w))

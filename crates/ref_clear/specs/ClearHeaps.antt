@@ -1,14 +1,12 @@
 -- A whole heap, as plain data: a heap in its cycles, and the references that its workers cleared and haven't handed on;
 -- and the changes that calls make to it (package `java.lang.ref` of Java SE 17 for what clears a reference and what
 -- comes of it; pending lists, notices and sweeps by 64: this project's profile).
-use Rattle.std.specs.Prelude.{ℕ, if◌then◌else◌, List, [], ◌∷◌, ◌++◌, map, take, replicate, Option, Some, None}
+use Rattle.std.specs.Prelude.{ℕ, if◌then◌else◌, List, [], ◌∷◌, ◌++◌, map, take, drop, replicate, Option, Some, None}
 use Rattle.std.specs.Prelude.{slice_index_or, slice_set}
 use Rattle.ref_base.specs.Heaps.{reference_at, registered_in, with_hold}
 use Rattle.ref_base.specs.Worlds.{Pending, pending_numbers}
 use Rattle.ref_base.specs.CollectorRows.{without}
-use Rattle.ref_base.specs.declared.cause.Cause.{Cause}
 use Rattle.ref_base.specs.declared.config.Config.{Config}
-use Rattle.ref_base.specs.declared.heap_step.HoldName.{HoldName}
 use Rattle.ref_base.specs.declared.urgency.Urgency.{Urgency}
 use Rattle.ref_space.specs.Tables.{Tag}
 use Rattle.ref_objects.specs.Grounds.{Space, vacated, without_tag}
@@ -21,12 +19,6 @@ use Rattle.ref_mark.specs.CycleHeaps.{cut_at, cycle_begun, shaded_all}
 pub record ClearHeap : Type 0 where
   pub mark : CycleHeap
   pub pending : List (List Pending)
-
--- a notice that is out: the hold of the reference that it reports, the queue that it is for, and why there is one
-pub record HeldNotice : Type 0 where
-  pub hold : HoldName
-  pub queue : ℕ
-  pub cause : Cause
 
 -- at first nothing is pending
 abbrev pub first_clear_heap : Config → ℕ → Start → ClearHeap
@@ -83,12 +75,22 @@ abbrev pub handed_from : ClearHeap → ℕ → List Pending → ClearHeap
 handed_from c w [] = c
 handed_from c w (p ∷ ps) = with_pending_at (with_mark c (holding c.mark p.object)) w ps
 
+-- there is one hold more of each of these
+abbrev pub holding_each : CycleHeap → List Pending → CycleHeap
+holding_each k [] = k
+holding_each k (p ∷ ps) = holding_each (holding k p.object) ps
+
+-- the first so many are handed on, and the rest stays pending
+abbrev pub handed_some : ClearHeap → ℕ → ℕ → ClearHeap
+handed_some c w count =
+    with_pending_at (with_mark c (holding_each c.mark (take count (pending_at c w)))) w (drop count (pending_at c w))
+
 -- what an unhook does to the reference that the slot holds, by its queue: it clears it, and where it is registered its
 -- notice is a hold of it
-abbrev pub unhooked : CycleHeap → ℕ → ℕ → Option ℕ → Option ℕ → CycleHeap
-unhooked k m s None queue = with_cleared k m s
-unhooked k m s (Some n) None = with_cleared k m s
-unhooked k m s (Some n) (Some q) = holding (with_cleared k m s) n
+abbrev pub unhooked_from : CycleHeap → ℕ → ℕ → Option ℕ → Option ℕ → CycleHeap
+unhooked_from k m s None queue = with_cleared k m s
+unhooked_from k m s (Some n) None = with_cleared k m s
+unhooked_from k m s (Some n) (Some q) = holding (with_cleared k m s) n
 
 -- ---- the sweep
 

@@ -1,22 +1,23 @@
 -- What a contract sees of a heap's fields, and what holds of them.
-use Rattle.std.specs.Prelude.{◌≡◌, ℕ, ◌≤◌, true, false, List, [], ◌∷◌, map, drop, Option, Some, None, IsSome}
+use Rattle.std.specs.Prelude.{◌≡◌, ℕ, ◌+◌, ◌-◌, ◌^◌, ◌≤◌, true, false, List, [], ◌∷◌, length, map, drop}
+use Rattle.std.specs.Prelude.{Option, Some, None, IsSome}
 use Rattle.std.specs.Option.{unwrap_or}
 use Rattle.ref_base.specs.Members.{has}
 use Rattle.ref_base.specs.Graphs.{Object, numbers, object_at}
 use Rattle.ref_base.specs.Strengths.{IsRising}
 use Rattle.ref_base.specs.Heaps.{reference_in, registered_in}
 use Rattle.ref_base.specs.Worlds.{Pending}
-use Rattle.ref_base.specs.Refusals.{is_in}
+use Rattle.ref_base.specs.Refusals.{is_in, is_worker}
 use Rattle.ref_base.specs.Collectors.{State, joined}
 use Rattle.ref_base.specs.declared.phase.Phase.TheVariants.{Sweeping}
 use Rattle.ref_space.specs.Worklists.{Worklist}
 use Rattle.ref_space.specs.Tables.{Tag}
-use Rattle.ref_objects.specs.Grounds.{cleared_in_at}
+use Rattle.ref_objects.specs.Grounds.{Ground, cleared_in_at}
 use Rattle.ref_space.specs.declared.linked.Linked.{Linked}
 use Rattle.ref_mark.specs.CycleHeaps.{CycleHeap, is_white}
 use Rattle.ref_mark.specs.declared.chain.Chain.{Chain}
-use Rattle.ref_mark.specs.Chains.{AreChains, lists_of}
-use Rattle.ref_clear.specs.ClearHeaps.{ClearHeap}
+use Rattle.ref_mark.specs.Chains.{AreChains, IsChain, listed, lists_of}
+use Rattle.ref_clear.specs.ClearHeaps.{ClearHeap, pending_at}
 use Rattle.ref_clear.specs.Standing.{HeapStands}
 
 abbrev pub first_pending : List Pending → Option Pending
@@ -76,6 +77,17 @@ pub record AreSoundLists (k : CycleHeap) (lists : List (List ℕ)) (condemned : 
   pub registered : AreRegistered k.heap.objects lists
   pub stands : (a : State) × HeapStands (seen_lists k lists) a
   pub listed : is_in k.phase Sweeping ≡ true → ListWhite k condemned
+
+-- a chain of references that are registered with a queue
+pub record IsPendingChain (g : Ground) (c : Chain) : Type 0 where
+  pub linked : IsChain g.tags g.heap.config.cells c
+  pub registered : AreRegistered g.heap.objects (listed g.tags g.heap.config.cells c ∷ [])
+
+-- so many of the worker's pending references may be handed on
+pub record MayHandOn (c : ClearHeap) (w count : ℕ) : Type 0 where
+  pub there : is_worker c.mark.heap w ≡ true
+  pub pending : count ≤ length (pending_at c w)
+  pub holds : length c.mark.heap.holds + count ≤ 2 ^ 64 - 1
 
 -- what workers found isn't pending
 abbrev pub AreApart : CycleHeap → List (List ℕ) → Type 0

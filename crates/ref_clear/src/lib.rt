@@ -12,12 +12,14 @@
 //! them is a row of that collector.
 #![tactic(auto)]
 
+mod handed;
 mod heap;
 pub mod laws;
 mod looked;
 mod notice;
 mod pending;
 
+pub use handed::Handed;
 pub use heap::Heap;
 pub use looked::Looked;
 pub use notice::Notice;

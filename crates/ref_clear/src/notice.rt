@@ -14,7 +14,7 @@ pub struct Notice {
 }
 
 impl Model for Notice {
-    ghost use Rattle.ref_clear.specs.ClearHeaps.{HeldNotice};
+    ghost use Rattle.ref_base.specs.HeapSteps.{HeldNotice};
 
     ghost Value = { HeldNotice };
 

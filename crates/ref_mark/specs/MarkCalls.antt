@@ -71,6 +71,7 @@ is_of_marking (heap.Unhook m s) = false
 is_of_marking (heap.Plain (plain.ClearNext w)) = false
 is_of_marking (heap.Plain plain.EndClear) = false
 is_of_marking (heap.Hand w) = false
+is_of_marking (heap.Hands w max batch) = false
 is_of_marking (heap.Plain (plain.Sweep w)) = false
 is_of_marking (heap.Plain plain.EndSweep) = false
 is_of_marking step = true

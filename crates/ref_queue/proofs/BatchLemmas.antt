@@ -13,8 +13,9 @@ use Rattle.ref_base.specs.declared.out.Done.TheVariants.{Added, Already, Closed,
 use Rattle.ref_queue.specs.QueueAnswers.{AnswersPoll}
 use Rattle.ref_queue.specs.declared.queue.Polled.{Polled}
 use Rattle.ref_queue.specs.declared.queue.Polled.TheVariants.{Took, Empty, Closed as Ended}
-use Rattle.ref_queue.specs.QueueBatches.{with_some_taken, come_back, not_added, EndsBatch, after_one, after_each}
-use Rattle.ref_queue.specs.QueueBatches.{Becomes, Become, are_own}
+use Rattle.ref_base.specs.QueueBatches.{come_back, not_added, EndsBatch, after_one, after_each, Becomes, Become}
+use Rattle.ref_base.specs.QueueBatches.{are_own}
+use Rattle.ref_queue.specs.QueueBatches.{with_some_taken}
 
 module _ {T : Type 0} where
   -- each of these was tried, and none was refused

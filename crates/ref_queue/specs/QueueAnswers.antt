@@ -6,6 +6,7 @@ use Rattle.ref_queue.specs.declared.queue.Put.{Put}
 use Rattle.ref_queue.specs.declared.queue.Put.TheVariants.{Added, Already, Closed}
 use Rattle.ref_queue.specs.declared.queue.Polled.{Polled}
 use Rattle.ref_queue.specs.declared.queue.Polled.TheVariants.{Took, Empty, Closed as Ended}
+use Rattle.ref_base.specs.QueueBatches.{MayGoIn}
 use Rattle.ref_base.specs.QueueLists.{Lists, enqueued, was_put, with_parcel, with_taken}
 
 module _ {T : Type 0} (object_of queue_of : T → ℕ) (q : Lists T) (x : T) where
@@ -13,19 +14,15 @@ module _ {T : Type 0} (object_of queue_of : T → ℕ) (q : Lists T) (x : T) whe
   abbrev pub IsOwn : Type 0
   IsOwn = queue_of x ≡ q.queue
 
-  -- x may go in: it is for this queue, its number was never put in, and the queue is open
-  abbrev pub MayGoIn : Type 0
-  MayGoIn = IsOwn × (was_put object_of q x ≡ false) × (q.closed ≡ false)
-
   -- when a put of x is refused with this fault
   abbrev pub RefusesPut : Fault → Type 0
   RefusesPut WrongQueue = ¬ IsOwn
-  RefusesPut NoMemory = MayGoIn
+  RefusesPut NoMemory = MayGoIn object_of queue_of q x
   RefusesPut _ = ⊥
 
   -- when a put of x gives this answer; but for no memory, exactly one answer fits
   abbrev pub AnswersPut : Result (Put T) (Fault × T) → Type 0
-  AnswersPut (Ok (Added position)) = MayGoIn × (position ≡ length (enqueued object_of q))
+  AnswersPut (Ok (Added position)) = MayGoIn object_of queue_of q x × (position ≡ length (enqueued object_of q))
   AnswersPut (Ok (Already back)) = IsOwn × (was_put object_of q x ≡ true) × (back ≡ x)
   AnswersPut (Ok (Closed back)) = IsOwn × (was_put object_of q x ≡ false) × (q.closed ≡ true) × (back ≡ x)
   AnswersPut (Err refused) = RefusesPut refused.0 × (refused.1 ≡ x)

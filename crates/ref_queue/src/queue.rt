@@ -70,8 +70,9 @@ impl<T: Parcel, A: Allocator + Copy> Queue<T, A> {
     ghost use Rattle.std.specs.List.{IsDistinct};
     ghost use Rattle.ref_base.specs.QueueLists.{enqueued};
     ghost use Rattle.ref_queue.specs.QueueAnswers.{AnswersPut, after_put, IfTook, AnswersPoll};
-    ghost use Rattle.ref_queue.specs.QueueBatches.{AnswersBatch, after_batch, left_by, are_own, Become, EndsBatch};
-    ghost use Rattle.ref_queue.specs.QueueBatches.{after_each, not_added, Becomes, after_one, come_back, AnswersPolls};
+    ghost use Rattle.ref_base.specs.QueueBatches.{are_own, Become, EndsBatch, after_each, not_added, Becomes};
+    ghost use Rattle.ref_base.specs.QueueBatches.{after_one, come_back};
+    ghost use Rattle.ref_queue.specs.QueueBatches.{AnswersBatch, after_batch, left_by, AnswersPolls};
 
     /// The queue of this number, open, with nothing ever put in. Takes no memory.
     pub fn new(alloc: A, queue: QueueNo) -> Self

@@ -14,14 +14,14 @@ pub use Rattle.ref_base.specs.CollectorRows.{is_subsequence, referent_of, with_h
 pub use Rattle.ref_base.specs.Collectors.{State, first_state_of, joined}
 pub use Rattle.ref_base.specs.CountedHolds.{tally}
 pub use Rattle.ref_base.specs.DoomedSets.{new_clears}
-pub use Rattle.ref_base.specs.HeapSteps.{NamedStep}
+pub use Rattle.ref_base.specs.HeapSteps.{HeldNotice, NamedStep}
 pub use Rattle.ref_base.specs.Heaps.{reference_at}
 pub use Rattle.ref_base.specs.Members.{AreDistinct, has}
 pub use Rattle.ref_base.specs.QueueLists.{new_queue}
 pub use Rattle.ref_base.specs.Refusals.{heap_refusal}
 pub use Rattle.ref_base.specs.Replay.{without_pending}
 pub use Rattle.ref_base.specs.ScannedRows.{scanned_in_cycle}
-pub use Rattle.ref_base.specs.Told.{told_notice}
+pub use Rattle.ref_base.specs.Told.{told_notices}
 pub use Rattle.ref_base.specs.WorkerOrder.{clearing_order}
 pub use Rattle.ref_base.specs.Worlds.{Pending, World, graph_of, hand_of, pending_of}
 pub use Rattle.ref_base.specs.declared.actor.Actor.TheVariants.{Mutator, Worker}
@@ -39,12 +39,11 @@ pub use Rattle.ref_turn.specs.Turns.{view}
 pub use Rattle.ref_turn.specs.declared.history.Entry.{Entry}
 pub use Rattle.ref_turn.specs.declared.history.Stage.TheVariants.{Idle}
 pub use Rattle.ref_turn.specs.declared.history.View.{View}
-pub use Rattle.ref_clear.specs.ClearHeaps.{ClearHeap, HeldNotice}
+pub use Rattle.ref_clear.specs.ClearHeaps.{ClearHeap}
 pub use Rattle.ref_queue.specs.CleanTables.{new_registry}
 pub use Rattle.ref_queue.specs.declared.queue.Put.{Put}
 pub use Rattle.ref_world.specs.Cores.{as_notice}
-pub use Rattle.ref_world.specs.HeapReplies.{GivesOut, told_reply}
-pub use Rattle.ref_world.specs.declared.heap_machine.HeapReply.{HeapReply}
+pub use Rattle.ref_world.specs.HeapReplies.{GivesOut, HeapAnswer, told_reply}
 pub use Rattle.ref_share.specs.CleanLoops.{HasGone, IsQuiet, PollsBy, Round, all_of, jobs_run, takes_in}
 pub use Rattle.ref_share.specs.CleanSeats.{CleanEntry, CleanView, clean_view}
 pub use Rattle.ref_share.specs.Cleanings.{CleansDead, TakesJob, makes_phantom}
@@ -53,7 +52,7 @@ pub use Rattle.ref_share.specs.HeapCalls.{Releases}
 pub use Rattle.ref_share.specs.HeapMachines.{Acts, IsHeapTurn}
 pub use Rattle.ref_share.specs.HeapSeats.{HeapEntry, HeapView, IsHeapRun, IsHeapSeat, heap_view}
 pub use Rattle.ref_share.specs.HeapTraces.{HeapMarkEnded, all_handed_on, gathered, handed_in, handed_of, heap_replayed}
-pub use Rattle.ref_share.specs.HeapTraces.{row_of, rows_of, world_step}
+pub use Rattle.ref_share.specs.HeapTraces.{notices_given, notices_of_hand, row_of, rows_of, world_step}
 pub use Rattle.ref_share.specs.QueueCalls.{PollsUntil, PutsNotice, empty_polls}
 pub use Rattle.ref_share.specs.QueueMachines.{IsQueueTurn}
 pub use Rattle.ref_share.specs.QueueSeats.{IsQueueSeat, QueueEntry, QueueSeat, QueueView, SharedQueue, queue_view}
@@ -64,5 +63,4 @@ pub use Rattle.ref_share.specs.declared.answers.Delivery.TheVariants.{Added, Dro
 pub use Rattle.ref_share.specs.declared.answers.Polled.TheVariants.{Took}
 pub use Rattle.ref_share.specs.declared.answers.ShareFault.{ShareFault}
 pub use Rattle.ref_share.specs.declared.answers.ShareFault.TheVariants.{Busy, Notice}
-pub use Rattle.ref_share.specs.declared.queue_machine.QueueReply.{QueueReply}
-pub use Rattle.ref_share.specs.declared.queue_machine.QueueStep.{QueueStep}
+pub use Rattle.ref_share.specs.QueueStates.{QueueAnswer, QueueCall}

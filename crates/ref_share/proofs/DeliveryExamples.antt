@@ -1,12 +1,17 @@
 -- What deliveries may have called, and what not, with two queues: worker 0 hands on the notice of reference 2, which is
 -- for queue 1, and then that of reference 6.
-use Rattle.ref_share.proofs.Common.{◌≡◌, ℕ, List, [], ◌∷◌, length, Option, Some, Ok, Err, inl, inr, refl, sym, ap, ◌∙◌}
+use Rattle.ref_share.proofs.Common.{◌≡◌, ℕ, List, [], ◌∷◌, length, Option, Some, None, Ok, Err, inl, inr, refl, sym, ap}
+use Rattle.ref_share.proofs.Common.{◌∙◌}
 use Rattle.ref_share.proofs.Common.{arith, get_or, length-append, map, zero, suc, Cycle, BadQueue, HoldName, ClearHeap}
 use Rattle.ref_share.proofs.Common.{HeldNotice, entry, Idle, GoesBack, Delivers, HeapView, HeapEntry, PutsNotice}
 use Rattle.ref_share.proofs.Common.{QueueEntry, queue_view, KeepsPace, Works, notices_put, references_of, Nothing}
 use Rattle.ref_share.proofs.Common.{Added, Busy, Dropped, Notice, QueueSeat, SharedQueue}
-use Rattle.ref_share.specs.Deliveries.{Sends, IsDeclinedWith, StopsWith}
-use Rattle.ref_base.specs.declared.fault.Fault.TheVariants.{WrongPhase}
+use Rattle.ref_share.specs.Deliveries.{DeliversBatch, GoBack, Sends, SendsBatch, IsDeclinedWith, StopsWith}
+use Rattle.ref_share.specs.QueueCalls.{PutsBatch}
+use Rattle.ref_base.specs.Outs.{Outs}
+use Rattle.ref_base.specs.declared.fault.Fault.TheVariants.{ForeignHold, NoMemory, WrongPhase}
+use Rattle.ref_base.specs.declared.out.Done.TheVariants as done
+use Rattle.ref_clear.specs.declared.handed.Handed.{Handed}
 use Rattle.ref_base.specs.declared.plain_step.PlainStep.TheVariants.{Begin}
 use Rattle.ref_base.specs.declared.reply.Reply.{Reply}
 use Rattle.ref_base.specs.declared.reply.Reply.TheVariants as told
@@ -27,6 +32,31 @@ notice n = record { hold = hold n; queue = 1; cause = Cycle 1 0 }
 
 abbrev hands : ℕ → HeapEntry
 hands n = entry 0 (heap.Hand 0) (replies.Notice (notice n))
+
+abbrev both : List HeldNotice
+both = notice 2 ∷ notice 6 ∷ []
+
+abbrev handed : Handed
+handed = record { numbers = 2 ∷ 6 ∷ []; queue = 1; cycle = 1 }
+
+abbrev hands_both : HeapEntry
+hands_both = entry 0 (heap.Hands 0 32 []) (replies.Handed (told.Notices (2 ∷ 6 ∷ []) 1 1 0) both)
+
+abbrev releases : ℕ → HeapEntry
+releases n = entry 0 (heap.Release (hold n)) (replies.Told told.Done)
+
+abbrev keeps_back : ℕ → HeapEntry
+keeps_back n = entry 0 (heap.Release (hold n)) (replies.Back ForeignHold (hold n))
+
+-- what may become of both in an empty queue, where the first was put in before, and where memory is short
+abbrev both_added : Outs
+both_added = record { before = 0; done = done.Added ∷ done.Added ∷ [] }
+
+abbrev second_added : Outs
+second_added = record { before = 1; done = done.Already ∷ done.Added ∷ [] }
+
+abbrev second_refused : Outs
+second_refused = record { before = 0; done = done.Added ∷ done.Refused NoMemory ∷ [] }
 
 abbrev puts_in : ℕ → (position : ℕ) → QueueEntry
 puts_in n position = entry 0 (queue.Put (notice n)) (answers.Put (Ok (puts.Added position)))
@@ -113,6 +143,106 @@ module _ {A : Type 0} (start : Option ClearHeap) (first second : SharedQueue A) 
   dropped_and_never_released : ¬ (GoesBack 2 (hold 2) (seat []) (Ok (Dropped 2)) (seat []))
   dropped_and_never_released gives = let none = gives.1.2 in absurd cc
 
+  -- ---- the delivery of a batch
+
+  both_are_delivered : PutsBatch (queue_view t) both (Ok both_added) [] (queue_view u)
+      → DeliversBatch 0 32 (seat []) queues (s ∷ t ∷ []) (Ok (Some both_added)) [] (seat (hands_both ∷ []))
+      (s ∷ u ∷ [])
+  both_are_delivered called = (
+    handed,
+    both,
+    seat (hands_both ∷ []),
+    ((7, refl), ((refl, refl, refl), ([], refl), refl)),
+    (
+      [],
+      record { old = t; new = u; within = omega arith; there = refl; after_is = refl; puts = called },
+      refl,
+      (refl, refl),
+    ),
+  )
+
+  -- reference 2 was put in before, so its hold goes back to the heap
+  one_goes_back : PutsBatch (queue_view t) both (Ok second_added) (notice 2 ∷ []) (queue_view u)
+      → DeliversBatch 0 32 (seat []) queues (s ∷ t ∷ []) (Ok (Some second_added)) []
+      (seat (hands_both ∷ releases 2 ∷ [])) (s ∷ u ∷ [])
+  one_goes_back called = (
+    handed,
+    both,
+    seat (hands_both ∷ []),
+    ((7, refl), ((refl, refl, refl), ([], refl), refl)),
+    (
+      notice 2 ∷ [],
+      record { old = t; new = u; within = omega arith; there = refl; after_is = refl; puts = called },
+      refl,
+      inl (
+        seat (hands_both ∷ releases 2 ∷ []),
+        ((refl, refl, refl), ([], refl), refl),
+        (refl, refl),
+      ),
+    ),
+  )
+
+  -- no memory was there for reference 6, which is left
+  one_is_left : PutsBatch (queue_view t) both (Ok second_refused) (notice 6 ∷ []) (queue_view u)
+      → DeliversBatch 0 32 (seat []) queues (s ∷ t ∷ []) (Err (Refused NoMemory)) (notice 6 ∷ [])
+      (seat (hands_both ∷ [])) (s ∷ u ∷ [])
+  one_is_left called = inr (
+    handed,
+    both,
+    seat (hands_both ∷ []),
+    ((7, refl), ((refl, refl, refl), ([], refl), refl)),
+    (
+      refl,
+      inr (
+        second_refused,
+        record { old = t; new = u; within = omega arith; there = refl; after_is = refl; puts = called },
+        refl,
+      ),
+    ),
+  )
+
+  -- then nothing is released
+  released_what_found_no_memory : (left : List HeldNotice) (after : List QueueSeat)
+      → ¬ (SendsBatch 1 both queues (s ∷ t ∷ []) (seat (hands_both ∷ [])) (Err (Refused NoMemory)) left
+      (seat (hands_both ∷ releases 6 ∷ [])) after)
+  released_what_found_no_memory left after sends =
+      let one = ap (λ (v : HeapView). length v.mine) sends.0 in absurd cc
+
+  told_ok_where_one_was_refused : (left : List HeldNotice) (v w : HeapView) (after : List QueueSeat)
+      → ¬ (SendsBatch 1 both queues (s ∷ t ∷ []) v (Ok (Some second_refused)) left w after)
+  told_ok_where_one_was_refused left v w after sends = let none : Some NoMemory ≡ None = sends.2 in absurd cc
+
+  -- the heap doesn't count the hold of the first, and the second is left
+  the_first_comes_back : GoBack both (seat []) (Err (ForeignHold, hold 2)) (notice 6 ∷ []) (seat (keeps_back 2 ∷ []))
+  the_first_comes_back =
+      inr ((ForeignHold, hold 2), refl, (refl, ((refl, refl, refl), ([], refl), refl)), refl)
+
+  the_rest_is_dropped : (w : HeapView) → ¬ (GoBack both (seat []) (Err (ForeignHold, hold 2)) [] w)
+  the_rest_is_dropped w gives =
+      elim gives [
+        | inl more ↦ elim more.2 [
+          | inl last ↦ last.2
+          | inr kept ↦
+              let back : (ForeignHold, hold 2) ≡ kept.0 =
+              let is : Err (ForeignHold, hold 2) ≡ Err kept.0 = kept.1 in
+              cc in
+              let same : 2 ≡ 6 = ap (λ (h : HoldName). h.object) (ap (λ p. p.1) back ∙ kept.2.0) in
+              absurd (omega (arith, same))
+        ]
+        | inr first ↦ let none : [] ≡ notice 6 ∷ [] = first.3 in absurd cc
+      ]
+
+  left_none_and_released_none : ¬ (GoBack (notice 2 ∷ []) (seat []) (Ok tt) [] (seat []))
+  left_none_and_released_none gives =
+      elim gives [
+        | inl more ↦
+            let one : (more.0).mine ≡ releases 2 ∷ [] = more.1.2 in
+            let same : seat [] ≡ more.0 = more.2.1 in
+            let none : [] ≡ releases 2 ∷ [] = ap (λ (v : HeapView). v.mine) same ∙ one in
+            absurd cc
+        | inr first ↦ let other : Ok tt ≡ Err first.0 = first.1 in absurd cc
+      ]
+
   -- ---- a cycle that stops
 
   a_cycle_is_begun_already : IsDeclinedWith (seat []) (Begin 5 Normal) (Refused WrongPhase)
@@ -123,7 +253,9 @@ module _ {A : Type 0} (start : Option ClearHeap) (first second : SharedQueue A) 
       (seat (begins told.Done ∷ [])))
   what_was_done_is_not_declined declined =
       elim declined [
-        | inl called ↦ let answer = ap (λ (calls : List HeapEntry). map (λ call. call.reply) calls) called.2 in absurd cc
+        | inl called ↦
+            let answer = ap (λ (calls : List HeapEntry). map (λ call. call.reply) calls) called.2 in
+            absurd cc
         | inr spent ↦ let other = spent.0 in absurd cc
       ]
 

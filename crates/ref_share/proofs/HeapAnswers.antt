@@ -1,12 +1,23 @@
 -- What a heap answers to the calls that give notices or spend holds. Turns are no fault of its own.
 use Rattle.ref_share.proofs.Common.{arith, ◌≡◌, true, false, Bool, Option, Some, None, Result, Ok, Err, refl, sym}
 use Rattle.ref_share.proofs.Common.{subst, false≢true, NamedStep, Fault, HoldName, TurnsSpent, Reply, ClearHeap}
-use Rattle.ref_share.proofs.Common.{HeldNotice, Acts, HeapView, Called}
-use Rattle.ref_base.specs.Refusals.{unless, is_counted, hold_refusal}
+use Rattle.ref_share.proofs.Common.{HeldNotice, Acts, HeapView, Called, ℕ, List, [], ◌∷◌, ◌++◌, ◌==◌, ◌∙◌, Pending}
+use Rattle.ref_share.proofs.Common.{append-nil, eq-eqb, ◌+◌, length, State, heap_refusal, pending_of}
+use Rattle.std.proofs.Common.{◌-◌, ◌^◌}
+use Rattle.std.specs.Prelude.{nat_le}
+use Rattle.std.proofs.lemmas.Bool.{eqb-true}
+use Rattle.ref_base.specs.Refusals.{unless, is_counted, hold_refusal, hands_refusal, batch_of, fits, is_worker}
+use Rattle.ref_base.specs.CollectorRows.{all_handed}
+use Rattle.ref_base.specs.Told.{told_notices}
 use Rattle.ref_base.specs.Heaps.{Heap}
-use Rattle.ref_base.specs.declared.fault.Fault.TheVariants.{ForeignHold}
+use Rattle.ref_base.specs.declared.fault.Fault.TheVariants.{BadConfig, ForeignHold, NoSuchActor, NumbersSpent}
+use Rattle.ref_clear.specs.ClearCalls.{held_notices, handed_reply, refusal_in, refusing_state}
+use Rattle.ref_clear.specs.ClearHeaps.{pending_at}
+use Rattle.ref_clear.specs.declared.handed.Handed.{Handed}
+use Rattle.ref_world.specs.WorldHeaps.{heap_no_of}
 use Rattle.ref_mark.specs.MarkCalls.{unless_refused}
 use Rattle.ref_share.specs.HeapCalls.{asks_for_a_notice, TellsOfNone, KeepsBack, GivesNotice, takes_a_hold, Spends}
+use Rattle.ref_share.specs.HeapCalls.{GivesBatch, TellsOfBatch}
 use Rattle.ref_base.specs.declared.heap_step.HeapStep.TheVariants as heap
 use Rattle.ref_base.specs.declared.reply.Reply.TheVariants as told
 use Rattle.ref_world.specs.declared.heap_machine.HeapReply.TheVariants as replies
@@ -59,6 +70,75 @@ pub gives_none : (v w : HeapView) (c d : ClearHeap) (step : NamedStep) (reply : 
     → TellsOfNone reply result → Called v step (replies.Told reply) w → GivesNotice v step result w
 gives_none v w c d step reply result asks acts tells called =
     none_given v w step reply result (tells_of_none c d step reply asks acts) tells called
+
+-- ---- a hand of a batch
+
+-- it tells of what this worker handed on, or of nothing, or it is refused
+abbrev tells_of_batch : ℕ → Reply → Bool
+tells_of_batch k told.Nothing = true
+tells_of_batch k (told.Notices ns q cycle j) = j == k
+tells_of_batch k (told.Refused fault) = is_of_heap fault
+tells_of_batch k reply = false
+
+all_handed_tells : (k : ℕ) (ps : List Pending) → tells_of_batch k (all_handed k ps) ≡ true
+all_handed_tells k [] = refl
+all_handed_tells k (p ∷ ps) = eq-eqb k k refl
+
+batch_tells : (k : ℕ) (refused : Option Fault) (ps : List Pending) → are_of_heap refused ≡ true
+    → tells_of_batch k (unless_refused refused told.Refused (all_handed k ps)) ≡ true
+batch_tells k None ps own = all_handed_tells k ps
+batch_tells k (Some fault) ps own = own
+
+some_of_heap : (ps : List Pending) (h : Heap) → are_of_heap (hands_refusal ps h) ≡ true
+some_of_heap [] h = refl
+some_of_heap (p ∷ ps) h =
+    unless_of_heap (nat_le (length h.holds + length (p ∷ ps)) (2 ^ 64 - 1)) NumbersSpent None refl refl
+
+hands_of_heap : (a : State) (k max : ℕ) (batch : List HeldNotice)
+    → are_of_heap (heap_refusal a (heap.Hands k max batch)) ≡ true
+hands_of_heap a k max batch =
+    let h : Heap = a.world.heap in
+    let some : List Pending = batch_of max (pending_of a.world k) in
+    let last : Option Fault = hands_refusal some h in
+    unless_of_heap (is_worker h k) NoSuchActor (unless (fits max (length batch)) BadConfig last) refl
+    (unless_of_heap (fits max (length batch)) BadConfig last refl (some_of_heap some h))
+
+told_batch : (v w : HeapView) (k max : ℕ) (batch left : List HeldNotice) (reply : Reply)
+    (result : Result (Option Handed) Fault) (heap_no : ℕ) → tells_of_batch k reply ≡ true
+    → left ≡ batch ++ held_notices heap_no (told_notices reply) → TellsOfBatch reply result
+    → Called v (heap.Hands k max batch) (replies.Handed reply left) w → GivesBatch v k max batch result left w
+told_batch v w k max batch left told.Nothing result heap_no own given tells called =
+    subst (λ (r : Result (Option Handed) Fault). GivesBatch v k max batch r left w) (sym tells)
+    ((heap_no, given), called)
+told_batch v w k max batch left (told.Notices ns q cycle j) result heap_no own given tells called =
+    let handed : Handed = record { numbers = ns; queue = q; cycle = cycle } in
+    subst (λ (r : Result (Option Handed) Fault). GivesBatch v k max batch r left w) (sym tells)
+    (subst (λ (i : ℕ). ((heap_no : ℕ) × (left ≡ batch ++ held_notices heap_no
+    (told_notices (handed_reply i (Some handed)))))
+    × Called v (heap.Hands k max batch) (replies.Handed (handed_reply i (Some handed)) left) w)
+    (eqb-true j k own) ((heap_no, given), called))
+told_batch v w k max batch left (told.Refused TurnsSpent) result heap_no own given tells called =
+    absurd (false≢true own)
+told_batch v w k max batch left (told.Refused fault) result heap_no own given tells called =
+    let same : left ≡ batch = given ∙ append-nil batch in
+    subst (λ (r : Result (Option Handed) Fault). GivesBatch v k max batch r left w) (sym tells) (
+      same,
+      subst (λ (ns : List HeldNotice). Called v (heap.Hands k max batch)
+          (replies.Handed (told.Refused fault) ns) w) same called,
+    )
+told_batch v w k max batch left reply result heap_no own given tells called = absurd (false≢true own)
+
+-- what is told of the reply is what the hand gives
+pub gives_batch : (v w : HeapView) (c d : ClearHeap) (k max : ℕ) (batch left : List HeldNotice) (reply : Reply)
+    (result : Result (Option Handed) Fault) → Acts c (heap.Hands k max batch) (replies.Handed reply left) d
+    → TellsOfBatch reply result → Called v (heap.Hands k max batch) (replies.Handed reply left) w
+    → GivesBatch v k max batch result left w
+gives_batch v w c d k max batch left reply result acts tells called =
+    let own : tells_of_batch k reply ≡ true =
+    subst (λ (r : Reply). tells_of_batch k r ≡ true) (sym acts.does.answer)
+    (batch_tells k (refusal_in c (heap.Hands k max batch)) (batch_of max (pending_at c k))
+    (hands_of_heap (refusing_state c) k max batch)) in
+    told_batch v w k max batch left reply result (heap_no_of c) own acts.gives tells called
 
 -- ---- a step that spends a hold
 

@@ -2,8 +2,9 @@
 -- one worker that are out at once.
 use Rattle.ref_share.proofs.Common.{◌≡◌, ℕ, List, [], ◌∷◌, Some, refl, NamedStep, scanned_in_cycle, clearing_order}
 use Rattle.ref_share.proofs.Common.{graph_of, Cycle, Config, HoldName, Reply, Row, Step, entry, HeapEntry, rows_of}
-use Rattle.ref_share.proofs.Common.{heap_replayed, all_handed_on, handed_in}
-use Rattle.std.proofs.Common.{take}
+use Rattle.ref_share.proofs.Common.{heap_replayed, all_handed_on, handed_in, HeldNotice, ◌++◌}
+use Rattle.std.proofs.Common.{take, drop}
+use Rattle.ref_share.specs.HeapTraces.{handed_by}
 use Rattle.ref_base.specs.declared.strength.Strength.TheVariants.{Weak}
 use Rattle.ref_base.specs.declared.urgency.Urgency.TheVariants.{Normal}
 use Rattle.ref_base.proofs.WorkedTraces.{config_of}
@@ -20,6 +21,10 @@ hold n = record { heap_no = 7; object = n }
 -- a call that gives nothing out
 abbrev tells : ℕ → NamedStep → Reply → HeapEntry
 tells by step reply = entry by step (replies.Told reply)
+
+-- the notice of a reference that worker 0 cleared, for queue 0
+abbrev held : ℕ → HeldNotice
+held n = record { hold = hold n; queue = 0; cause = Cycle 1 0 }
 
 -- a worker's hand that gives the notice of a reference, for queue 0
 abbrev hands : ℕ → ℕ → ℕ → HeapEntry
@@ -115,3 +120,34 @@ worker_1_handed_one_on = refl
 
 nothing_was_handed_on_for_another_queue : handed_in 0 1 history ≡ []
 nothing_was_handed_on_for_another_queue = refl
+
+-- ---- by a batch
+
+-- worker 0 hands both on at once, in place of one after the other
+abbrev at_once : List HeapEntry
+at_once =
+    take 18 history ++
+    entry 1 (heap.Hands 0 32 []) (replies.Handed (told.Notices (2 ∷ 6 ∷ []) 0 1 0)
+    (held 2 ∷ held 6 ∷ [])) ∷
+    hands 2 1 4 ∷
+    []
+
+one_row_tells_both : drop 17 (rows_of at_once) ≡
+    row (steps.Hands 0 32) (told.Notices (2 ∷ 6 ∷ []) 0 1 0) ∷
+    row (steps.Hand 1) (told.Notice 4 0 (Cycle 1 1)) ∷
+    []
+one_row_tells_both = refl
+
+each_of_a_batch_is_a_hold : (heap_replayed config 7 at_once).heap.holds ≡ 2 ∷ 4 ∷ 6 ∷ 6 ∷ []
+each_of_a_batch_is_a_hold = refl
+
+both_were_handed_on : all_handed_on at_once ≡ 2 ∷ 6 ∷ 4 ∷ []
+both_were_handed_on = refl
+
+worker_0_handed_them_on_at_once : handed_in 0 0 at_once ≡ 2 ∷ 6 ∷ []
+worker_0_handed_them_on_at_once = refl
+
+-- what stood in the batch before is not handed on again
+what_stood_there_stays : handed_by (heap.Hands 0 31 (held 2 ∷ []))
+    (replies.Handed (told.Notices (6 ∷ []) 0 1 0) (held 2 ∷ held 6 ∷ [])) ≡ 6 ∷ []
+what_stood_there_stays = refl

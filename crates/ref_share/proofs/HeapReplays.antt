@@ -1,7 +1,8 @@
 -- After every history of a heap the collector has the world of its replay, but for what was swept and for what waits to
 -- be cleared; what is gone or doomed is out of reach; and a mark's end has shown what it cleared.
 use Rattle.ref_share.proofs.Common.{arith, ◌≡◌, ℕ, List, [], ◌∷◌, ◌++◌, Some, inl, inr, refl, append_assoc, State}
-use Rattle.ref_share.proofs.Common.{NamedStep, World, graph_of, Config, Fault, Reply, entry, told_reply, HeapReply}
+use Rattle.ref_share.proofs.Common.{NamedStep, World, graph_of, Config, Fault, Reply, entry, told_reply, HeapAnswer}
+use Rattle.ref_share.proofs.Common.{GivesOut}
 use Rattle.ref_share.proofs.Common.{IsHeapTurn, HeapEntry, IsHeapRun, first_state_of, heap_replayed, HeapMarkEnded}
 use Rattle.ref_base.specs.MarkEnds.{AreOutOfReach}
 use Rattle.ref_base.specs.Replay.{after_heap}
@@ -55,15 +56,18 @@ abbrev pub IsKnown : Config → ℕ → List HeapEntry → State → Type 0
 IsKnown config number past x = (gone : List ℕ) × IsKnownBut config number past gone x
 
 -- a call that is a mark's end shows what it has to
-end_shows : (config : Config) (number : ℕ) (past : List HeapEntry) (by : ℕ)
-    (step : NamedStep) (reply : HeapReply) (count : ℕ)
+end_shows : (config : Config) (number : ℕ) (past : List HeapEntry) (by heap_no : ℕ)
+    (step : NamedStep) (reply : HeapAnswer) (count : ℕ) → GivesOut heap_no step reply
     → Some step ≡ Some (heap.Plain plain.EndMark) → told_reply reply ≡ told.Doomed count → (n : ℕ)
     → RefersToDead (heap_replayed config number past) n
     → HeapMarkEnded config number (past ++ entry by step reply ∷ []) (heap_replayed config number past).cycle n
-end_shows config number past by (heap.Plain plain.EndMark) (replies.Told (told.Doomed k)) count asks is n refers =
+end_shows config number past by heap_no (heap.Plain plain.EndMark) (replies.Told (told.Doomed k)) count gives asks is n
+    refers =
     grind arith
-end_shows config number past by (heap.Plain plain.EndMark) reply count asks is n refers = absurd cc
-end_shows config number past by step reply count asks is n refers = absurd cc
+end_shows config number past by heap_no (heap.Plain plain.EndMark) (replies.Told reply) count gives asks is n refers =
+    absurd cc
+end_shows config number past by heap_no (heap.Plain plain.EndMark) reply count gives asks is n refers = absurd gives
+end_shows config number past by heap_no step reply count gives asks is n refers = absurd cc
 
 agrees_then : (gone : List ℕ) (w : World) (a b : State) (step : NamedStep) (reply : Reply) → Agreeing gone w a
     → IsRefusedOrAccepted a step reply b
@@ -85,7 +89,7 @@ call_known_but config number past gone x call y known turn =
       turn_out,
       shown_more,
       as_turn,
-      end_shows config number past call.by call.step call.reply,
+      end_shows config number past call.by x.world.heap.no call.step call.reply,
     )
 
 call_known : (config : Config) (number : ℕ) (past : List HeapEntry) (x : State) (call : HeapEntry) (y : State)

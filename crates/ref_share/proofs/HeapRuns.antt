@@ -1,16 +1,16 @@
 -- What each call of a heap keeps holds after every history.
-use Rattle.ref_share.proofs.Common.{◌≡◌, ℕ, List, [], ◌∷◌, ◌++◌, Some, None, NamedStep, Config, told_reply, HeapReply}
+use Rattle.ref_share.proofs.Common.{◌≡◌, ℕ, List, [], ◌∷◌, ◌++◌, Some, None, NamedStep, Config, told_reply, HeapAnswer}
 use Rattle.ref_share.proofs.Common.{State, IsHeapTurn, HeapEntry, HeapAccepts, heap_refusal, IsHeapRun, first_state_of}
 use Rattle.ref_base.proofs.HeapTurns.{IsTurn, heap_turn}
 use Rattle.ref_base.proofs.RunLaws.{holds_after}
 
 -- a call is a turn at the heap
-pub as_turn : (x y : State) (step : NamedStep) (reply : HeapReply) → IsHeapTurn x step reply y
+pub as_turn : (x y : State) (step : NamedStep) (reply : HeapAnswer) → IsHeapTurn x step reply y
     → IsTurn x (Some step) (told_reply reply) y
 as_turn x y step reply turn = heap_turn x y step (told_reply reply) turn.row
 
 -- one that isn't refused
-abbrev pub IsAccepted : State → NamedStep → HeapReply → State → Type 0
+abbrev pub IsAccepted : State → NamedStep → HeapAnswer → State → Type 0
 IsAccepted x step reply y =
     (heap_refusal x step ≡ None)
     × HeapAccepts x step (told_reply reply) y

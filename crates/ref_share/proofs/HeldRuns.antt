@@ -1,16 +1,18 @@
 -- The history of a heap: what is held is what was given out and not taken back.
 use Rattle.ref_share.proofs.Common.{◌≡◌, ℕ, ◌+◌, ◌<◌, true, List, [], ◌∷◌, ◌++◌, Option, Some, None, refl, sym, ap, ◌∙◌}
-use Rattle.ref_share.proofs.Common.{arith, false≢true, eq-eqb, State, tally, NamedStep, has, told_notice, Config, Fault}
-use Rattle.ref_share.proofs.Common.{Reply, Leads, GivesOut, HeapReply, IsHeapTurn, HeapEntry, IsHeapRun, first_state_of}
-use Rattle.ref_share.proofs.Common.{IsHeapRow}
+use Rattle.ref_share.proofs.Common.{arith, false≢true, eq-eqb, State, tally, NamedStep, has, Config, Fault}
+use Rattle.ref_share.proofs.Common.{Reply, Leads, GivesOut, HeapAnswer, IsHeapTurn, HeapEntry, IsHeapRun}
+use Rattle.ref_share.proofs.Common.{first_state_of}
+use Rattle.ref_share.proofs.Common.{IsHeapRow, heap_refusal, map, told_notices}
 use Rattle.std.proofs.Common.{is_some}
 use Rattle.ref_base.specs.CollectorRows.{IsHeapAnswer}
-use Rattle.ref_base.specs.CountedHolds.{holds_after}
+use Rattle.ref_base.specs.CountedHolds.{holds_after, more_of_each, more_of_first}
 use Rattle.ref_base.specs.Heaps.{one_more, one_fewer}
 use Rattle.ref_base.specs.Told.{told_object}
+use Rattle.ref_base.specs.Worlds.{Notice, object_of}
 use Rattle.ref_share.specs.HeapHistories.{minted_by, spent_by, minted, spent}
 use Rattle.ref_base.proofs.CountedRows.{heap_holds}
-use Rattle.ref_base.proofs.HoldCounts.{one_if, tally-first, tally-append, tally-one_more}
+use Rattle.ref_base.proofs.HoldCounts.{one_if, tally-first, tally-append, tally-more_of_each, tally-one_more}
 use Rattle.ref_base.proofs.RunLaws.{holds_over}
 use Rattle.ref_turn.proofs.Logs.{leads_cut}
 use Rattle.ref_share.proofs.HeapRuns.{IsCall}
@@ -48,16 +50,19 @@ one_taken : (hs left : List ℕ) (m n : ℕ) → left ≡ one_fewer hs m → has
     → tally left n + tally (m ∷ []) n ≡ tally [] n + tally hs n
 one_taken hs left m n same there = grind (arith, tally-one_fewer_there)
 
--- a step that tells of no notice and of no object gives no hold
-unhook_gave_none : (hs : List ℕ) (m s : ℕ) (reply : Reply) → told_notice reply ≡ None
-    → holds_after hs (heap.Unhook m s) reply ≡ hs
-unhook_gave_none hs m s (told.Notice n q cause) none = absurd (false≢true (sym (ap is_some none)))
-unhook_gave_none hs m s reply none = refl
+-- a hold of each of these, where notices of them are given
+some_given : (hs left : List ℕ) (notices : List Notice) (n : ℕ) → left ≡ more_of_each hs notices
+    → tally left n + tally [] n ≡ tally (map object_of notices) n + tally hs n
+some_given hs left notices n same = grind (arith, tally-more_of_each)
 
-hand_gave_none : (hs : List ℕ) (k : ℕ) (reply : Reply) → told_notice reply ≡ None
+-- a step that tells of no notice and of no object gives no hold
+unhook_gave_none : (hs : List ℕ) (m s : ℕ) (reply : Reply) → told_notices reply ≡ []
+    → holds_after hs (heap.Unhook m s) reply ≡ hs
+unhook_gave_none hs m s reply none = ap (more_of_first hs) none
+
+hand_gave_none : (hs : List ℕ) (k : ℕ) (reply : Reply) → told_notices reply ≡ []
     → holds_after hs (heap.Hand k) reply ≡ hs
-hand_gave_none hs k (told.Notice n q cause) none = absurd (false≢true (sym (ap is_some none)))
-hand_gave_none hs k reply none = refl
+hand_gave_none hs k reply none = ap (more_of_each hs) none
 
 hold_gave_none : (hs : List ℕ) (m s : ℕ) (reply : Reply) → told_object reply ≡ None
     → holds_after hs (heap.Hold m s) reply ≡ hs
@@ -68,17 +73,19 @@ abbrev holds_in : State → List ℕ
 holds_in x = x.world.heap.holds
 
 -- a call that takes a hold back gives none
-gives_none : (step : NamedStep) (reply : HeapReply) (n : ℕ) → spent_by step reply ≡ n ∷ [] → minted_by step reply ≡ []
+gives_none : (step : NamedStep) (reply : HeapAnswer) (n : ℕ) → spent_by step reply ≡ n ∷ [] → minted_by step reply ≡ []
 gives_none step (replies.Told reply) n spends = refl
 gives_none step (replies.Back fault hold) n spends = refl
 gives_none (heap.Plain plain.EndMark) (replies.Notice notice) n spends = absurd cc
 gives_none step (replies.Notice notice) n spends = absurd cc
 gives_none (heap.Plain plain.EndMark) (replies.Held hold) n spends = absurd cc
 gives_none step (replies.Held hold) n spends = absurd cc
+gives_none (heap.Plain plain.EndMark) (replies.Handed reply batch) n spends = absurd cc
+gives_none step (replies.Handed reply batch) n spends = absurd cc
 
 -- what one call of the heap does to what is held
 module _ (x y : State) (n : ℕ) where
-  abbrev Balances : NamedStep → HeapReply → Type 0
+  abbrev Balances : NamedStep → HeapAnswer → Type 0
   Balances step reply =
       tally (holds_in y) n + tally (spent_by step reply) n ≡ tally (minted_by step reply) n + tally (holds_in x) n
 
@@ -95,15 +102,21 @@ module _ (x y : State) (n : ℕ) where
   after_told (heap.Adopt m d hold) reply held row gives = absurd cc
   after_told (heap.Release hold) told.Done held row gives = grind (arith, one_taken)
   after_told (heap.Release hold) reply held row gives = absurd cc
+  after_told (heap.Hands k max batch) reply held row gives = absurd gives
   after_told step reply held row gives = no_change (holds_in x) (holds_in y) n held
 
-  held_turn : (step : NamedStep) (reply : HeapReply) → IsHeapTurn x step reply y → Balances step reply
+  held_turn : (step : NamedStep) (reply : HeapAnswer) → IsHeapTurn x step reply y → Balances step reply
   held_turn step (replies.Told reply) turn = search (after_told, row_holds)
   held_turn (heap.Unhook m s) (replies.Notice notice) turn = search (one_given, row_holds)
   held_turn (heap.Hand k) (replies.Notice notice) turn = search (one_given, row_holds)
   held_turn step (replies.Notice notice) turn = absurd turn.gives
   held_turn (heap.Hold m s) (replies.Held hold) turn = search (one_given, row_holds)
   held_turn step (replies.Held hold) turn = absurd turn.gives
+  held_turn (heap.Hands k max batch) (replies.Handed reply after) turn =
+      some_given (holds_in x) (holds_in y) (told_notices reply) n
+      (row_holds x y (heap_refusal x (heap.Hands k max batch)) (heap.Hands k max batch) reply turn.row)
+  held_turn step (replies.Handed reply after) turn = absurd turn.gives
+  held_turn (heap.Hands k max batch) (replies.Back fault hold) turn = absurd turn.gives
   held_turn (heap.Plain plain.EndMark) (replies.Back fault hold) turn = absurd turn.gives
   held_turn step (replies.Back fault hold) turn = search (no_change, row_holds)
 

@@ -3,8 +3,10 @@ pub mod Seats
 pub mod Polls
 pub mod HeapAnswers
 pub mod Places
+pub mod ReleasedRest
 pub mod SeatLists
 pub mod QueueRuns
+pub mod HandedNotices
 pub mod HeldRuns
 pub mod HeapRuns
 pub mod HeapReplays

@@ -1,8 +1,14 @@
 -- The history of a heap: what a mark's end dooms, no call gives from then on.
 use Rattle.ref_share.proofs.Common.{arith, ◌≡◌, ℕ, true, List, [], ◌∷◌, ◌++◌, Option, Some, None, inl, inr, ap, ◌∙◌}
 use Rattle.ref_share.proofs.Common.{append-nil, HeapAccepts, EndsMark, doomed_at, State, NamedStep, has, heap_refusal}
-use Rattle.ref_share.proofs.Common.{Config, Reply, Leads, entry, told_reply, HeapReply, IsHeapTurn, HeapEntry}
-use Rattle.ref_share.proofs.Common.{IsHeapRun, first_state_of}
+use Rattle.ref_share.proofs.Common.{Config, Reply, Leads, entry, told_reply, HeapAnswer, IsHeapTurn, HeapEntry}
+use Rattle.ref_share.proofs.Common.{IsHeapRun, first_state_of, AllByRecursion, World, false, ◌==◌, sym, subst}
+use Rattle.ref_share.proofs.Common.{cases_Bool}
+use Rattle.ref_share.proofs.Common.{false≢true, heap_replayed}
+use Rattle.std.proofs.lemmas.Bool.{eqb-true}
+use Rattle.ref_base.proofs.AgreeHeaps.{Agreeing}
+use Rattle.ref_base.proofs.ApartWorlds.{IsClosed}
+use Rattle.ref_base.proofs.HeapTurns.{IsRefusedOrAccepted}
 use Rattle.ref_base.specs.Told.{named_by}
 use Rattle.ref_base.proofs.AgreeHeaps.{gone_after}
 use Rattle.ref_base.proofs.ClosedRows.{named_is}
@@ -66,16 +72,38 @@ doomed_off config number by count front a b n first ends doomed =
 
 -- ---- so no call gives it
 
+-- what holds of each number of a list holds of one that it has
+holds_of : (V : ℕ → Type 0) (ns : List ℕ) (n : ℕ) → AllByRecursion V ns → has ns n ≡ true → V n
+holds_of V [] n all there = absurd (false≢true there)
+holds_of V (m ∷ ns) n all there =
+    elim (cases_Bool (m == n)) [
+      | inl same ↦ subst V (eqb-true m n same) all.0
+      | inr other ↦ holds_of V ns n all.1 (simp other at there)
+    ]
+
+-- nothing that a call names is off
+names_on : (gone : List ℕ) (w : World) (c e : State) (step : NamedStep) (reply : Reply) → Agreeing gone w c
+    → IsClosed (λ m. has (off gone c) m ≡ false) c.world → IsRefusedOrAccepted c step reply e
+    → AllByRecursion (λ m. has (off gone c) m ≡ false) (named_by reply)
+names_on gone w c e step reply agrees closed (inl of) =
+    subst (λ (r : Reply). AllByRecursion (λ m. has (off gone c) m ≡ false) (named_by r)) (sym of.1) tt
+names_on gone w c e step reply agrees closed (inr of) =
+    named_is (λ m. has (off gone c) m ≡ false) c e closed step reply (λ made. next_out gone w c agrees) of.0 of.1
+
 names_none : (config : Config) (number n : ℕ) (past : List HeapEntry)
-    (c : State) (step : NamedStep) (reply : HeapReply)
-    (e : State) → IsOffIn config number n past c → IsHeapTurn c step reply e → named_by (told_reply reply) ≡ Some n → ⊥
-names_none config number n past c step reply e is turn names = grind (arith, heap_kind, named_is, next_out)
+    (c : State) (step : NamedStep) (reply : HeapAnswer) (e : State) → IsOffIn config number n past c
+    → IsHeapTurn c step reply e → has (named_by (told_reply reply)) n ≡ true → ⊥
+names_none config number n past c step reply e is turn names =
+    let on = names_on is.0 (heap_replayed config number past) c e step (told_reply reply) is.1.0 is.1.1.closed
+    (heap_kind c e step (told_reply reply) turn.row) in
+    let none = holds_of (λ m. has (off is.0 c) m ≡ false) (named_by (told_reply reply)) n on names in
+    false≢true (sym none ∙ is.2)
 
 pub never_given : (config : Config) (number count : ℕ) (front : List HeapEntry) (a b : State)
-    (calls : List HeapEntry) (c : State) (step : NamedStep) (reply : HeapReply) (n : ℕ) (e : State)
+    (calls : List HeapEntry) (c : State) (step : NamedStep) (reply : HeapAnswer) (n : ℕ) (e : State)
     → IsHeapRun config number front a → IsHeapTurn a (heap.Plain plain.EndMark) (replies.Told (told.Doomed count)) b
     → Leads IsHeapTurn b calls c → has (doomed_at a) n ≡ true → IsHeapTurn c step reply e
-    → named_by (told_reply reply) ≡ Some n → ⊥
+    → has (named_by (told_reply reply)) n ≡ true → ⊥
 never_given config number count front a b calls c step reply n e first ends later doomed turn names =
     let end : HeapEntry = entry 0 (heap.Plain plain.EndMark) (replies.Told (told.Doomed count)) in
     let past : List HeapEntry = front ++ end ∷ [] in

@@ -12,6 +12,8 @@ use Rattle.ref_base.specs.declared.phase.Phase.TheVariants.{Marking, Clearing, I
 use Rattle.ref_base.specs.DoomedSets.{any_is, refers_into}
 use Rattle.ref_base.specs.Strengths.{IsRising}
 use Rattle.ref_base.specs.Refusals.{is_in}
+use Rattle.ref_base.specs.Replay.{handed_each, handed_on}
+use Rattle.ref_base.specs.Worlds.{Notice}
 use Rattle.ref_base.specs.declared.phase.Phase.{Phase}
 use Rattle.ref_base.proofs.AgreeHeaps.{Agreeing, none_waits}
 use Rattle.ref_base.proofs.ClearedOnwards.{StaysCleared, cleared_at, ended_cleared, heap_cleared}
@@ -191,6 +193,11 @@ abbrev IsCalm : NamedStep → Type 0
 IsCalm (heap.Plain (plain.ClearNext k)) = ⊥
 IsCalm step = EndsNoPhase step
 
+-- no hand ends a phase
+handed_phase : (w : World) (k : ℕ) (notices : List Notice) → (handed_each w k notices).phase ≡ w.phase
+handed_phase w k [] = refl
+handed_phase w k (notice ∷ rest) = handed_phase (handed_on w k notice.object) k rest
+
 -- it keeps what it keeps, where these three stay
 module _ (gone : List ℕ) (w : World) (a b : State) (is : Agreeing gone w a) (distinct : AreDistinct (joined a.scanned))
     (waits : Waits a) where
@@ -198,7 +205,7 @@ module _ (gone : List ℕ) (w : World) (a b : State) (is : Agreeing gone w a) (d
   Keeps = Waits b × ((n : ℕ) → IsPast n a → IsPast n b)
 
   calm_keeps : (step : NamedStep) (reply : Reply) → IsCalm step → HeapAccepts a step reply b → Keeps
-  calm_keeps step reply calm row = grind (arith, heap_outcome, still_waits, still_past)
+  calm_keeps step reply calm row = grind (arith, heap_outcome, still_waits, still_past, handed_phase)
 
   turn_keeps : (step : NamedStep) (reply answer : Reply) (phase : Phase) → IsNoEnd step → HeapAccepts a step reply b
       → reply ≡ answer → (outcome a step answer).world.phase ≡ phase → is_in phase Clearing ≡ false → Keeps

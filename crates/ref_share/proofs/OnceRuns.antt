@@ -2,22 +2,23 @@
 use Rattle.ref_share.proofs.Common.{◌≡◌, ℕ, zero, suc, ◌+◌, ◌≤◌, true, false, ◌==◌, List, [], ◌∷◌, ◌++◌, length, map}
 use Rattle.ref_share.proofs.Common.{replicate, Option, ◌⊎◌, Some, None, inl, inr, refl, sym, ap, ◌∙◌, subst, arith}
 use Rattle.ref_share.proofs.Common.{nat_eq, slice_index_or, slice_set, IsDistinct, AllByRecursion, cases_Bool, eq-eqb}
-use Rattle.ref_share.proofs.Common.{false≢true, is_waiting, HandsOn, HeapAccepts, State, joined, tally, NamedStep, has}
-use Rattle.ref_share.proofs.Common.{AreDistinct, heap_refusal, without_pending, told_notice, World, Pending, pending_of}
-use Rattle.ref_share.proofs.Common.{Cycle, Config, Fault, Reply, told_reply, GivesOut, HeapReply, HeapEntry, IsHeapRun}
-use Rattle.ref_share.proofs.Common.{gathered, all_handed_on, heap_replayed, first_state_of}
+use Rattle.ref_share.proofs.Common.{false≢true, is_waiting, HeapAccepts, State, joined, tally, NamedStep, has}
+use Rattle.ref_share.proofs.Common.{AreDistinct, as_notice, heap_refusal, told_notices, World, Pending, pending_of}
+use Rattle.ref_share.proofs.Common.{Config, Fault, Reply, told_reply, GivesOut, HeapAnswer, HeapEntry, IsHeapRun}
+use Rattle.ref_share.proofs.Common.{gathered, all_handed_on, heap_replayed, first_state_of, notices_of_hand}
 use Rattle.std.proofs.lemmas.Map.Keys.{IsDistinct-cons}
 use Rattle.std.proofs.lemmas.Bool.{eqb-true, false_from_ne_true}
 use Rattle.std.proofs.lemmas.List.{map-append}
-use Rattle.ref_base.specs.Replay.{pended}
-use Rattle.ref_base.specs.declared.cause.Cause.{Cause}
-use Rattle.ref_base.specs.Worlds.{pending_numbers}
+use Rattle.ref_base.specs.Replay.{pended, handed_on, handed_each}
+use Rattle.ref_base.specs.Worlds.{notice_from, object_of, pending_numbers}
 use Rattle.ref_share.specs.HeapTraces.{handed_by}
 use Rattle.ref_base.proofs.HoldCounts.{one_if, tally-first, tally-append}
 use Rattle.ref_base.proofs.LegalQueues.{distinct_nil}
-use Rattle.ref_base.proofs.RowChanges.{Changes, heap_tells, pending_after}
+use Rattle.ref_base.proofs.RowChanges.{Changes, heap_tells}
 use Rattle.ref_base.proofs.FoundLists.{AreDistinct-with_last, joined-emptied}
 use Rattle.ref_base.proofs.AgreeHeaps.{Agreeing}
+use Rattle.ref_share.proofs.HandedNotices.{GivesFront, one_is_told, some_are_told, references_told, one_of_front}
+use Rattle.ref_share.proofs.HandedNotices.{some_of_front, left_pending, then_pending, refused_gives}
 use Rattle.ref_share.proofs.HeapReplays.{run_known}
 use Rattle.ref_share.proofs.HeapRows.{gathered_last}
 use Rattle.ref_share.proofs.HeapRuns.{IsAccepted, IsCall, run_holds}
@@ -58,35 +59,33 @@ pended_count w k m (Some q) n =
     tally-one : (m n : ℕ) → tally (m ∷ []) n ≡ one_if m n
     tally-one m n = let first = tally-first m [] n in omega (arith, first)
 
--- and one that is handed on once less
-handed_count : (a b : State) (k : ℕ) (ps : List Pending) (m q : ℕ) (cause : Cause) (n : ℕ)
-    → pending_of a.world k ≡ ps → HandsOn a k ps (told.Notice m q cause) b
-    → b.world.pending ≡ slice_set a.world.pending k (without_pending (pending_of a.world k) m)
-    → one_if m n + tally (pending_numbers b.world.pending) n ≤ tally (pending_numbers a.world.pending) n
-handed_count a b k [] m q cause n is row pends = let no = row.0 in absurd cc
-handed_count a b k (p ∷ rest) m q cause n is row pends =
-    let told_as : told.Notice m q cause ≡ told.Notice p.object p.queue (Cycle p.cycle k) = row.0 in
-    let object : m ≡ p.object = cc in
-    let own : (p.object == m) ≡ true = eq-eqb p.object m (sym object) in
-    let left : without_pending (pending_of a.world k) m ≡ rest = rw (is, own) refl in
-    let first = tally-first p.object (numbers_in rest) n in
-    let same : one_if p.object n ≡ one_if m n = ap (λ i. one_if i n) (sym object) in
-    let list : tally (numbers_in (pending_of a.world k)) n ≡ tally (numbers_in (p ∷ rest)) n =
+-- and each that is handed on once less
+handed_count : (w : World) (k : ℕ) (front rest : List Pending) (n : ℕ) → pending_of w k ≡ front ++ rest
+    → tally (map object_of (map (notice_from k) front)) n
+    + tally (pending_numbers (handed_each w k (map (notice_from k) front)).pending) n
+    ≤ tally (pending_numbers w.pending) n
+handed_count w k [] rest n is = omega arith
+handed_count w k (p ∷ front) rest n is =
+    let next : World = handed_on w k p.object in
+    let more = handed_count next k front rest n (then_pending w k p (front ++ rest) is) in
+    let first = tally-first p.object (map object_of (map (notice_from k) front)) n in
+    let own = tally-first p.object (numbers_in (front ++ rest)) n in
+    let list : tally (numbers_in (pending_of w k)) n ≡ tally (numbers_in (p ∷ (front ++ rest))) n =
     ap (λ (qs : List Pending). tally (numbers_in qs) n) is in
-    let all = pending_set a.world.pending k rest n (one_if m n) 0 (omega (arith, first, same, list)) in
+    let all = pending_set w.pending k (front ++ rest) n (one_if p.object n) 0 (omega (arith, own, list)) in
     let now = ap (λ (lists : List (List Pending)). tally (pending_numbers lists) n)
-    (pends ∙ ap (slice_set a.world.pending k) left) in
-    omega (arith, all, now)
+    (left_pending w k p (front ++ rest) is) in
+    omega (arith, more, first, all, now)
 
 -- ---- a call
 
 -- the reference that a call clears for a worker
-abbrev cleared_by : NamedStep → HeapReply → List ℕ
+abbrev cleared_by : NamedStep → HeapAnswer → List ℕ
 cleared_by (heap.Plain (plain.ClearNext k)) (replies.Told (told.Cleared n)) = n ∷ []
 cleared_by step reply = []
 
 -- what is handed on was pending, and what is pending was cleared
-abbrev Counts : ℕ → State → State → NamedStep → HeapReply → Type 0
+abbrev Counts : ℕ → State → State → NamedStep → HeapAnswer → Type 0
 Counts n a b step reply =
     tally (handed_by step reply) n + tally (pending_numbers b.world.pending) n
     ≤ tally (pending_numbers a.world.pending) n + tally (cleared_by step reply) n
@@ -96,29 +95,44 @@ same_count : (n : ℕ) (v w : World) (more : ℕ) → w.pending ≡ v.pending
 same_count n v w more same =
     let count = ap (λ (lists : List (List Pending)). tally (pending_numbers lists) n) same in omega (arith, count)
 
-hand_told : (n k : ℕ) (a b : State) (reply : Reply) → told_notice reply ≡ None
-    → b.world.pending ≡ pending_after a.world (Some (heap.Hand k)) reply
-    → tally [] n + tally (pending_numbers b.world.pending) n ≤ tally (pending_numbers a.world.pending) n + 0
-hand_told n k a b (told.Notice m q cause) none pends = absurd cc
-hand_told n k a b reply none pends = same_count n a.world b.world 0 pends
+-- what a hand gives
+hand_counts : (n k : ℕ) (a b : State) (step : NamedStep) (reply : HeapAnswer) → GivesFront a.world k (told_reply reply)
+    → map as_notice (notices_of_hand step reply) ≡ told_notices (told_reply reply)
+    → b.world.pending ≡ (handed_each a.world k (told_notices (told_reply reply))).pending
+    → tally (handed_by step reply) n + tally (pending_numbers b.world.pending) n
+    ≤ tally (pending_numbers a.world.pending) n + 0
+hand_counts n k a b step reply gives are pends =
+    let count = handed_count a.world k gives.front gives.rest n gives.pending in
+    let given = ap (λ ns. tally ns n)
+    (references_told (notices_of_hand step reply) (told_notices (told_reply reply)) are
+    ∙ ap (map object_of) gives.tells) in
+    let left = ap (λ (lists : List (List Pending)). tally (pending_numbers lists) n)
+    (pends ∙ ap (λ ns. (handed_each a.world k ns).pending) gives.tells) in
+    omega (arith, count, given, left)
 
 module _ (n : ℕ) (x y : State) where
-  accepted_counts : (step : NamedStep) (reply : HeapReply) → IsAccepted x step reply y
+  accepted_counts : (step : NamedStep) (reply : HeapAnswer) → IsAccepted x step reply y
       → GivesOut x.world.heap.no step reply
       → Changes x (Some step) (told_reply reply) y → Counts n x y step reply
-  accepted_counts (heap.Hand k) (replies.Notice notice) of gives changes = grind (arith, handed_count)
-  accepted_counts (heap.Hand k) (replies.Told reply) of gives changes =
-      hand_told n k x y reply gives changes.pending
-  accepted_counts (heap.Hand k) reply of gives changes = absurd gives
+  accepted_counts (heap.Hand k) reply of gives changes =
+      hand_counts n k x y (heap.Hand k) reply (one_of_front x y k (told_reply reply) of.1)
+      (one_is_told x.world.heap.no k reply gives) changes.pending
+  accepted_counts (heap.Hands k max batch) reply of gives changes =
+      hand_counts n k x y (heap.Hands k max batch) reply (some_of_front x y k max batch (told_reply reply) of.1)
+      (some_are_told x.world.heap.no k max batch reply gives) changes.pending
   accepted_counts (heap.Plain (plain.ClearNext k)) (replies.Told (told.Cleared m)) of gives changes =
       grind (arith, pended_count)
+  accepted_counts (heap.Plain step) (replies.Handed reply batch) of gives changes = absurd gives
   accepted_counts step reply of gives changes = same_count n x.world y.world _ changes.pending
 
-  refused_counts : (step : NamedStep) (reply : HeapReply) (fault : Fault) → told_reply reply ≡ told.Refused fault
-      → y ≡ x → Counts n x y step reply
-  refused_counts (heap.Hand k) (replies.Notice notice) fault answer same = absurd cc
-  refused_counts step reply fault answer same =
-      same_count n x.world y.world _ (ap (λ (a : State). a.world.pending) same)
+  refused_counts : (step : NamedStep) (reply : HeapAnswer) (fault : Fault) → told_reply reply ≡ told.Refused fault
+      → GivesOut x.world.heap.no step reply → y ≡ x → Counts n x y step reply
+  refused_counts step reply fault answer gives same =
+      let none : tally (handed_by step reply) n ≡ 0 =
+      ap (λ ns. tally (map (λ notice. notice.hold.object) ns) n)
+      (refused_gives x.world.heap.no step reply fault answer gives) in
+      let count = ap (λ (a : State). tally (pending_numbers a.world.pending) n) same in
+      omega (arith, none, count)
 
 -- a call clears nothing, or one that waited and is past then
 abbrev ClearsOne : State → State → List ℕ → Type 0
@@ -126,14 +140,14 @@ ClearsOne a b ns = (ns ≡ []) ⊎ ((n : ℕ) × (ns ≡ n ∷ []) × (is_waitin
 
 module _ (gone : List ℕ) (w : World) (x y : State) (is : Agreeing gone w x)
     (distinct : AreDistinct (joined x.scanned)) (waits : Waits x) where
-  accepted_clears : (step : NamedStep) (reply : HeapReply) → IsAccepted x step reply y
+  accepted_clears : (step : NamedStep) (reply : HeapAnswer) → IsAccepted x step reply y
       → ClearsOne x y (cleared_by step reply)
   accepted_clears (heap.Plain (plain.ClearNext k)) (replies.Told (told.Cleared n)) of =
       let once = clears_once gone w x y is distinct waits k n of.0 of.1 in
       inr (n, refl, once.0, once.1)
   accepted_clears step reply of = inl refl
 
-refused_clears : (a b : State) (step : NamedStep) (reply : HeapReply) (fault : Fault)
+refused_clears : (a b : State) (step : NamedStep) (reply : HeapAnswer) (fault : Fault)
     → told_reply reply ≡ told.Refused fault → ClearsOne a b (cleared_by step reply)
 refused_clears a b (heap.Plain (plain.ClearNext k)) (replies.Told (told.Cleared n)) fault answer = absurd cc
 refused_clears a b step reply fault answer = inl refl
@@ -250,7 +264,7 @@ call_once config number past x call y run is turn =
             (subst (λ (s : State). AreDistinct (joined s.scanned)) (sym of.2) cleared.distinct)
             (subst Waits (sym of.2) cleared.waits) (λ n past_it. subst (IsPast n) (sym of.2) past_it)
             (refused_clears a b call.step call.reply of.0 of.1),
-        λ n. refused_counts n x y call.step call.reply of.0 of.1 of.2,
+        λ n. refused_counts n x y call.step call.reply of.0 of.1 turn.gives of.2,
       )
       | inr of ↦
           let tells = heap_tells a b step reply of.1 in

@@ -4,7 +4,13 @@ use Rattle.ref_share.proofs.Common.{ap, sym, subst, ◌∙◌, ◌≢◌, arith,
 use Rattle.ref_share.proofs.Common.{false≢true, Fault, BadQueue, HeldNotice, Put, AreSeats, PutsAt, PutsNotice}
 use Rattle.ref_share.proofs.Common.{IsQueueSeat, queue_view, SharedQueue, QueueSeat}
 use Rattle.std.specs.Prelude.{unwrap_or}
-use Rattle.ref_share.specs.QueueCalls.{refuses_put}
+use Rattle.ref_base.specs.Outs.{Outs}
+use Rattle.ref_share.proofs.Common.{None, HoldName, HeapView, ShareFault, Busy, Notice}
+use Rattle.ref_clear.specs.declared.handed.Handed.{Handed}
+use Rattle.ref_share.specs.Deliveries.{PutsBatchAt, GoBack, TellsReleased, SendsBatch, DeliversBatch, refused_in}
+use Rattle.ref_share.specs.HeapCalls.{GivesBatch}
+use Rattle.ref_share.specs.declared.answers.ShareFault.TheVariants.{Refused, Held}
+use Rattle.ref_share.specs.QueueCalls.{PutsBatch, refuses_put}
 
 -- what stands in a list after a change at k is what it was changed to, or stood there before, elsewhere
 pub changed_there : {T : Type 0} (xs : List T) (k j : ℕ) (t y : T) → slice_get (slice_set xs k t) j ≡ Some y
@@ -44,3 +50,53 @@ put_at_place notice queues seats old new (Ok answer) within there puts faults =
 put_at_place notice queues seats old new (Err (BadQueue, back)) within there puts faults = absurd (false≢true faults)
 put_at_place notice queues seats old new (Err (fault, back)) within there puts faults =
     record { old = old; new = new; within = within; there = there; after_is = refl; puts = puts }
+
+-- a put of a batch by the seat at a place
+pub batch_put_at_place : {A : Type 0} (place : ℕ) (batch : List HeldNotice) (queues : List (SharedQueue A))
+    (seats : List QueueSeat) (old new : QueueSeat) (result : Result Outs Fault) (left : List HeldNotice)
+    → place < length queues → slice_get seats place ≡ Some old
+    → PutsBatch (queue_view old) batch result left (queue_view new)
+    → IfErr result (λ fault. refuses_put fault ≡ true)
+    → PutsBatchAt place batch queues seats result left (slice_set seats place new)
+batch_put_at_place place batch queues seats old new (Ok outs) left within there puts faults =
+    record { old = old; new = new; within = within; there = there; after_is = refl; puts = puts }
+batch_put_at_place place batch queues seats old new (Err BadQueue) left within there puts faults =
+    absurd (false≢true faults)
+batch_put_at_place place batch queues seats old new (Err fault) left within there puts faults =
+    record { old = old; new = new; within = within; there = there; after_is = refl; puts = puts }
+
+-- ---- the delivery of a batch
+
+module _ {A : Type 0} (queues : List (SharedQueue A)) (seats after : List QueueSeat) where
+  -- what a queue didn't take goes back to the heap
+  pub rest_sent : (place : ℕ) (batch rest : List HeldNotice) (outs : Outs) (v : HeapView)
+      (released : Result (Unit {0}) (Fault × HoldName)) (left : List HeldNotice) (w : HeapView)
+      (result : Result (Option Outs) ShareFault) → PutsBatchAt place batch queues seats (Ok outs) rest after
+      → refused_in outs.done ≡ None → GoBack rest v released left w → TellsReleased outs released result
+      → SendsBatch place batch queues seats v result left w after
+  rest_sent place batch rest outs v (Ok done) left w result put none goes tells =
+      subst (λ (r : Result (Option Outs) ShareFault). SendsBatch place batch queues seats v r left w after) (sym tells)
+      (rest, put, none, goes)
+  rest_sent place batch rest outs v (Err (fault, hold)) left w result put none goes tells =
+      subst (λ (r : Result (Option Outs) ShareFault). SendsBatch place batch queues seats v r left w after) (sym tells)
+      (outs, (rest, put, none, goes))
+
+  -- what a hand of a batch, which was empty, gives is sent
+  pub sent_delivered : (k max : ℕ) (v : HeapView) (start : List HeldNotice) (handed : Handed)
+      (batch : List HeldNotice) (u : HeapView) (result : Result (Option Outs) ShareFault) (left : List HeldNotice)
+      (w : HeapView) → start ≡ [] → GivesBatch v k max start (Ok (Some handed)) batch u
+      → SendsBatch handed.queue batch queues seats u result left w after
+      → DeliversBatch k max v queues seats result left w after
+  sent_delivered k max v start handed batch u result left w none gives sends =
+      delivered result sends
+      (subst (λ (ns : List HeldNotice). GivesBatch v k max ns (Ok (Some handed)) batch u) none gives)
+    where
+      delivered : (result : Result (Option Outs) ShareFault)
+          → SendsBatch handed.queue batch queues seats u result left w after
+          → GivesBatch v k max [] (Ok (Some handed)) batch u → DeliversBatch k max v queues seats result left w after
+      delivered (Ok None) sends gives = absurd sends
+      delivered (Ok (Some outs)) sends gives = (handed, batch, u, gives, sends)
+      delivered (Err (Refused fault)) sends gives = inr (handed, batch, u, gives, sends)
+      delivered (Err Busy) sends gives = absurd sends
+      delivered (Err (Notice back fault)) sends gives = absurd sends
+      delivered (Err (Held hold fault)) sends gives = (handed, batch, u, gives, sends)

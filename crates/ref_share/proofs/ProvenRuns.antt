@@ -1,25 +1,29 @@
 -- The history of a heap: each notice that is given comes from the entries up to it.
 use Rattle.ref_share.proofs.Common.{arith, ◌≡◌, ℕ, List, [], ◌∷◌, ◌++◌, Option, Some, None, inl, inr, refl, sym, ap}
 use Rattle.ref_share.proofs.Common.{◌∙◌, subst, slice_index_or, AllByRecursion, append-nil, State, NamedStep, Pending}
-use Rattle.ref_share.proofs.Common.{World, new_queue, Config, Reply, Row, Step, entry, HeldNotice, as_notice}
+use Rattle.ref_share.proofs.Common.{World, new_queue, Config, Reply, Row, Step, as_notice}
 use Rattle.ref_share.proofs.Common.{told_reply, IsHeapTurn, HeapEntry, IsHeapRun, first_state_of, world_step, row_of}
-use Rattle.ref_share.proofs.Common.{rows_of, IsHeapRow, IsRow, with_handed, Mutator, Worker}
-use Rattle.ref_base.specs.Provenance.{IsProven}
+use Rattle.ref_share.proofs.Common.{rows_of, IsHeapRow, IsRow, with_handed, Mutator, Worker, HeapAnswer, told_notices}
+use Rattle.ref_share.proofs.Common.{notices_given, notices_of_hand, true, Fault}
+use Rattle.ref_base.specs.Provenance.{IsProven, cycle_after}
 use Rattle.ref_base.specs.QueueLists.{Lists}
 use Rattle.ref_base.specs.Refusals.{refusal}
-use Rattle.ref_base.specs.Worlds.{Notice, SameOthers}
-use Rattle.ref_base.proofs.CarryLaws.{notice_from}
+use Rattle.ref_base.specs.Worlds.{Notice, SameOthers, notice_from}
+use Rattle.ref_base.specs.Provenance.{gives_notices}
 use Rattle.ref_base.proofs.CarryRows.{first_carries}
 use Rattle.ref_base.proofs.GivenNotices.{answered}
 use Rattle.ref_base.proofs.HeapRowLaws.{row_others}
 use Rattle.ref_base.proofs.HeapTurns.{IsRefusedOrAccepted, heap_kind}
-use Rattle.ref_base.proofs.ProvenTraces.{IsMade, Known, lifted, row_known}
+use Rattle.ref_base.proofs.ProvenTraces.{IsMade, Known, cycle_from, cycle_last, lifted, row_known}
 use Rattle.ref_base.proofs.ReplayKeeps.{handed_keeps}
 use Rattle.ref_base.proofs.SoundWorlds.{first_hand}
 use Rattle.ref_turn.proofs.Logs.{leads_cut}
+use Rattle.ref_share.proofs.HandedNotices.{all_given, one_is_told, some_are_told}
 use Rattle.ref_share.proofs.HeapRows.{rows_last, HandsFree, still_free, told_row}
 use Rattle.ref_share.proofs.HeapRuns.{run_holds}
 use Rattle.ref_base.specs.declared.heap_step.HeapStep.TheVariants as heap
+use Rattle.ref_base.specs.declared.plain_step.PlainStep.TheVariants as plain
+use Rattle.ref_base.specs.declared.reply.Reply.TheVariants as told
 use Rattle.ref_base.specs.declared.step.Step.TheVariants as steps
 use Rattle.ref_world.specs.declared.heap_machine.HeapReply.TheVariants as replies
 
@@ -62,12 +66,40 @@ pub record IsFrom (past : List HeapEntry) (x : State) : Type 0 where
   pub free : HandsFree x.world
   pub known : Known (rows_of past) x.world
 
+-- a refused row begins no cycle
+refused_cycle : (cycle : ℕ) (step : Step) (fault : Fault) → cycle_after cycle step (told.Refused fault) ≡ cycle
+refused_cycle cycle (steps.Plain (plain.Begin now how)) fault = refl
+refused_cycle cycle step fault = refl
+
+refused_known : (rows : List Row) (a : State) (step : Step) (reply : Reply) (fault : Fault)
+    → reply ≡ told.Refused fault → Known rows a.world
+    → Known (rows ++ record { step = step; reply = reply } ∷ []) a.world
+refused_known rows a step reply fault is known =
+    let last : Row = record { step = step; reply = reply } in
+    let more = lifted rows a last known in
+    record {
+      objects = more.objects;
+      pendings = more.pendings;
+      of_mutators = more.of_mutators;
+      of_workers = more.of_workers;
+      stands = more.stands;
+      goes_on = cycle_last 0 rows last ∙ ap (cycle_after (cycle_from 0 rows) step) is
+          ∙ refused_cycle (cycle_from 0 rows) step fault ∙ known.goes_on;
+    }
+
 told_known : (rows : List Row) (a b : State) (asked : NamedStep) (reply : Reply) (o : Option Step)
     → world_step asked ≡ o → HandsFree a.world → Known rows a.world → IsHeapRow a asked reply b
     → Known (rows ++ row_of o reply) b.world
 told_known rows a b asked reply None is free known row = search (append-nil, none_known, heap_kind)
 told_known rows a b asked reply (Some step) is free known row =
-    search (some_known, told_row, row_others, still_free a b asked reply free row)
+    elim (heap_kind a b asked reply row) [
+      | inl of ↦
+          subst (λ (s : State). Known (rows ++ record { step = step; reply = reply } ∷ []) s.world) (sym of.2)
+          (refused_known rows a step reply of.0 of.1 known)
+      | inr of ↦
+          some_known rows a b step reply known (told_row a b asked step reply is free of.0 of.1)
+          (row_others a b asked reply row) (still_free a b asked reply free row)
+    ]
 
 call_from : (past : List HeapEntry) (x : State) (call : HeapEntry) (y : State) → IsFrom past x
     → IsHeapTurn x call.step call.reply y → IsFrom (past ++ call ∷ []) y
@@ -91,28 +123,49 @@ run_from config number calls last run =
 
 -- ---- what is given
 
-given_at : (rows : List Row) (x y : State) (step : NamedStep) (notice : HeldNotice) → HandsFree x.world
-    → Known rows x.world → IsHeapTurn x step (replies.Notice notice) y
-    → IsProven (rows ++ row_of (world_step step) (told_reply (replies.Notice notice))) (as_notice notice)
-given_at rows x y (heap.Unhook m s) notice free known turn =
-    let step : Step = steps.Unhook m s in
-    let reply : Reply = told_reply (replies.Notice notice) in
-    answered rows x (with_handed y step reply) step (refusal x step) notice.hold.object notice.queue
-    notice.cause refl known (told_row x y (heap.Unhook m s) step reply refl free turn.row)
-given_at rows x y (heap.Hand k) notice free known turn =
-    let step : Step = steps.Hand k in
-    let reply : Reply = told_reply (replies.Notice notice) in
-    answered rows x (with_handed y step reply) step (refusal x step) notice.hold.object notice.queue
-    notice.cause refl known (told_row x y (heap.Hand k) step reply refl free turn.row)
-given_at rows x y step notice free known turn = absurd turn.gives
+-- a call that tells notices, and isn't refused
+told_at : (rows : List Row) (x y : State) (asked : NamedStep) (step : Step) (reply : Reply)
+    → gives_notices step ≡ true → world_step asked ≡ Some step → HandsFree x.world → Known rows x.world
+    → IsHeapRow x asked reply y
+    → AllByRecursion (IsProven (rows ++ record { step = step; reply = reply } ∷ [])) (told_notices reply)
+told_at rows x y asked step reply gives is free known row =
+    elim (heap_kind x y asked reply row) [
+      | inl of ↦
+          subst (λ (r : Reply). AllByRecursion (IsProven (rows ++ record { step = step; reply = reply } ∷ []))
+          (told_notices r)) (sym of.1) tt
+      | inr of ↦
+          answered rows x (with_handed y step reply) step reply (refusal x step) gives known
+          (told_row x y asked step reply is free of.0 of.1)
+    ]
 
-pub given_proven : (config : Config) (number by : ℕ) (front back : List HeapEntry) (step : NamedStep)
-    (notice : HeldNotice) (last : State)
-    → IsHeapRun config number (front ++ entry by step (replies.Notice notice) ∷ back) last
-    → IsProven (rows_of (front ++ entry by step (replies.Notice notice) ∷ [])) (as_notice notice)
-given_proven config number by front back step notice last run =
-    let call : HeapEntry = entry by step (replies.Notice notice) in
+given_at : (rows : List Row) (x y : State) (step : NamedStep) (reply : HeapAnswer) → HandsFree x.world
+    → Known rows x.world → IsHeapTurn x step reply y
+    → AllByRecursion (λ notice. IsProven (rows ++ row_of (world_step step) (told_reply reply)) (as_notice notice))
+    (notices_given step reply)
+given_at rows x y (heap.Unhook m s) (replies.Notice notice) free known turn =
+    told_at rows x y (heap.Unhook m s) (steps.Unhook m s) (told_reply (replies.Notice notice)) refl refl free known
+    turn.row
+given_at rows x y (heap.Hand k) reply free known turn =
+    let step : NamedStep = heap.Hand k in
+    let P : Notice → Type 0 = IsProven (rows ++ row_of (world_step step) (told_reply reply)) in
+    all_given P (notices_of_hand step reply)
+    (subst (AllByRecursion P) (sym (one_is_told x.world.heap.no k reply turn.gives))
+    (told_at rows x y step (steps.Hand k) (told_reply reply) refl refl free known turn.row))
+given_at rows x y (heap.Hands k max batch) reply free known turn =
+    let step : NamedStep = heap.Hands k max batch in
+    let P : Notice → Type 0 = IsProven (rows ++ row_of (world_step step) (told_reply reply)) in
+    all_given P (notices_of_hand step reply)
+    (subst (AllByRecursion P) (sym (some_are_told x.world.heap.no k max batch reply turn.gives))
+    (told_at rows x y step (steps.Hands k max) (told_reply reply) refl refl free known turn.row))
+given_at rows x y step reply free known turn = tt
+
+pub given_proven : (config : Config) (number : ℕ) (front back : List HeapEntry) (call : HeapEntry) (last : State)
+    → IsHeapRun config number (front ++ call ∷ back) last
+    → AllByRecursion (λ notice. IsProven (rows_of (front ++ call ∷ [])) (as_notice notice))
+    (notices_given call.step call.reply)
+given_proven config number front back call last run =
     let parts = leads_cut IsHeapTurn front (call ∷ back) (first_state_of config number) last run in
     let is = run_from config number front parts.0 parts.1 in
-    subst (λ (rs : List Row). IsProven rs (as_notice notice)) (sym (rows_last front call))
-    (given_at (rows_of front) parts.0 parts.2.0 step notice is.free is.known parts.2.1)
+    subst (λ (rs : List Row). AllByRecursion (λ notice. IsProven rs (as_notice notice))
+    (notices_given call.step call.reply)) (sym (rows_last front call))
+    (given_at (rows_of front) parts.0 parts.2.0 call.step call.reply is.free is.known parts.2.1)

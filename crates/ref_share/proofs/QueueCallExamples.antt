@@ -2,7 +2,15 @@
 -- of reference 2 is put.
 use Rattle.ref_share.proofs.Common.{ℕ, List, [], ◌∷◌, Some, Ok, Err, true, false, refl, ap, arith, map, new_queue}
 use Rattle.ref_share.proofs.Common.{TurnsSpent, HeldNotice, entry, Idle, PutsNotice, PollsUntil, QueueView, QueueEntry}
-use Rattle.ref_share.proofs.Common.{Took, Busy}
+use Rattle.ref_share.proofs.Common.{Took, Busy, ◌≡◌, ◌∙◌, sym, false≢true}
+use Rattle.ref_base.specs.Outs.{Outs}
+use Rattle.ref_base.specs.declared.fault.Fault.TheVariants.{BadConfig}
+use Rattle.ref_base.specs.declared.out.Done.TheVariants as done
+use Rattle.ref_queue.specs.declared.queue.PolledBatch.TheVariants as some
+use Rattle.ref_share.specs.QueueHistories.{added_by_call}
+use Rattle.ref_share.specs.QueueMachines.{reported_object}
+use Rattle.ref_share.specs.QueueCalls.{PutsBatch, PollsBatchNow, HoldsTaken}
+use Rattle.ref_share.specs.declared.answers.ShareFault.TheVariants.{Refused}
 use Rattle.std.proofs.Common.{◌-◌, ◌^◌}
 use Rattle.ref_base.specs.declared.cause.Cause.TheVariants.{Own}
 use Rattle.ref_share.specs.declared.answers.Polled.TheVariants.{Closed, Empty, TimedOut}
@@ -97,3 +105,49 @@ it_was_open = ((refl, refl, refl), ([], refl), refl)
 
 told_open_where_it_was_closed : ¬ (ClosesQueue v (Ok true) (seat (entry 0 steps.Close (replies.Closed false) ∷ []) 1 1))
 told_open_where_it_was_closed is = let answer = ap (map (λ (call : QueueEntry). call.reply)) is.2 in absurd cc
+
+-- ---- batches
+
+-- of two notices of one reference the first is added
+abbrev outs : Outs
+outs = record { before = 0; done = done.Added ∷ done.Already ∷ [] }
+
+abbrev added_one : QueueEntry
+added_one = entry 0 (steps.PutBatch (notice ∷ notice ∷ [])) (replies.PutBatch (Ok outs) (notice ∷ []))
+
+one_came_back : PutsBatch v (notice ∷ notice ∷ []) (Ok outs) (notice ∷ []) (seat (added_one ∷ []) 1 1)
+one_came_back = ((refl, refl, refl), ([], refl), refl)
+
+told_and_dropped_it : ¬ (PutsBatch v (notice ∷ notice ∷ []) (Ok outs) [] (seat (added_one ∷ []) 1 1))
+told_and_dropped_it is = let answer = ap (map (λ (call : QueueEntry). call.reply)) is.2 in absurd cc
+
+spent_and_dropped_it : (w : QueueView) → ¬ (PutsBatch v (notice ∷ []) (Err TurnsSpent) [] w)
+spent_and_dropped_it w is = let none : [] ≡ notice ∷ [] = is.0 in absurd cc
+
+the_one_that_was_added_has_its_position : added_by_call added_one.step added_one.reply ≡ (notice, 0) ∷ []
+the_one_that_was_added_has_its_position = refl
+
+abbrev took_some : QueueEntry
+took_some = entry 0 (steps.PollBatch 2 []) (replies.PolledBatch (Ok (some.Took (2 ∷ []))) (notice ∷ []))
+
+it_was_taken_into_the_batch : PollsBatchNow v 2 [] (Ok (some.Took (2 ∷ []))) (notice ∷ []) (seat (took_some ∷ []) 1 1)
+it_was_taken_into_the_batch = (refl, ((refl, refl, refl), ([], refl), refl))
+
+it_stands_in_the_batch : HoldsTaken [] (Ok (some.Took (2 ∷ []))) (notice ∷ [])
+it_stands_in_the_batch = (notice ∷ [], refl, refl)
+
+took_it_and_lost_it : ¬ (HoldsTaken [] (Ok (some.Took (2 ∷ []))) [])
+took_it_and_lost_it is = let numbers : 2 ∷ [] ≡ map reported_object is.0 = is.1 in
+    let none : [] ≡ is.0 = is.2 in
+    let absent : 2 ∷ [] ≡ [] = numbers ∙ ap (map reported_object) (sym none) in absurd cc
+
+busy_and_lost_the_batch : ¬ (HoldsTaken (notice ∷ []) (Err Busy) [])
+busy_and_lost_the_batch is = let none : [] ≡ notice ∷ [] = is in absurd cc
+
+-- a batch has room for 32
+too_many_are_refused : PollsBatchNow v 32 (notice ∷ []) (Err (Refused BadConfig)) (notice ∷ [])
+    (seat (entry 0 (steps.PollBatch 32 (notice ∷ [])) (replies.PolledBatch (Err BadConfig) (notice ∷ [])) ∷ []) 1 1)
+too_many_are_refused = (refl, ((refl, refl, refl), ([], refl), refl))
+
+refused_with_room_for_all : (w : QueueView) → ¬ (PollsBatchNow v 32 [] (Err (Refused BadConfig)) [] w)
+refused_with_room_for_all w is = absurd (false≢true (sym is.0))

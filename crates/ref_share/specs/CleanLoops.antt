@@ -3,7 +3,7 @@ use Rattle.std.specs.Prelude.{◌≡◌, ℕ, ◌+◌, ◌⊎◌, List, [], ◌�
 use Rattle.ref_base.specs.declared.heap_step.HeapStep.TheVariants as heap
 use Rattle.ref_base.specs.declared.heap_step.HoldName.{HoldName}
 use Rattle.ref_base.specs.declared.reply.Reply.TheVariants as told
-use Rattle.ref_clear.specs.ClearHeaps.{HeldNotice}
+use Rattle.ref_base.specs.HeapSteps.{HeldNotice}
 use Rattle.ref_queue.specs.declared.queue.Polled.TheVariants as found
 use Rattle.ref_turn.specs.Seats.{entry}
 use Rattle.ref_world.specs.declared.heap_machine.HeapReply.TheVariants as replies

@@ -10,7 +10,7 @@ use Rattle.ref_base.specs.declared.plain_step.PlainStep.{PlainStep}
 use Rattle.ref_base.specs.declared.plain_step.PlainStep.TheVariants as plain
 use Rattle.ref_base.specs.declared.reply.Reply.{Reply}
 use Rattle.ref_base.specs.declared.strength.Strength.TheVariants.{Phantom}
-use Rattle.ref_clear.specs.ClearHeaps.{HeldNotice}
+use Rattle.ref_base.specs.HeapSteps.{HeldNotice}
 use Rattle.ref_queue.specs.declared.job.Ran.{Ran}
 use Rattle.ref_world.specs.declared.heap_machine.HeapReply.TheVariants as replies
 use Rattle.ref_share.specs.CleanSeats.{CleanView}

@@ -1,8 +1,8 @@
--- From the heap to a queue: which calls `enqueue` and `deliver_one` have made, and what they answer; and what stops a
--- whole cycle (this project's profile; Java SE 17 has `Reference.enqueue`).
-use Rattle.std.specs.Prelude.{◌≡◌, ℕ, ◌<◌, ◌≤◌, ◌⊎◌, Bool, true, false, List, length, Some, None, Result, Ok}
-use Rattle.std.specs.Prelude.{Err, slice_get, slice_set}
-use Rattle.ref_base.specs.HeapSteps.{NamedStep}
+-- From the heap to a queue: which calls `enqueue`, `deliver_one` and `deliver_batch` have made, and what they answer;
+-- and what stops a whole cycle (this project's profile; Java SE 17 has `Reference.enqueue`).
+use Rattle.std.specs.Prelude.{◌≡◌, ℕ, ◌<◌, ◌≤◌, ◌⊎◌, Bool, true, false, List, [], ◌∷◌, length, Option, Some, None}
+use Rattle.std.specs.Prelude.{Result, Ok, Err, slice_get, slice_set}
+use Rattle.ref_base.specs.HeapSteps.{HeldNotice, NamedStep}
 use Rattle.ref_base.specs.declared.fault.Fault.{Fault}
 use Rattle.ref_base.specs.declared.fault.Fault.TheVariants.{BadQueue, GreyLeft, ClearingLeft, SweepLeft}
 use Rattle.ref_base.specs.declared.heap_step.HeapStep.TheVariants.{Hand}
@@ -10,12 +10,15 @@ use Rattle.ref_base.specs.declared.heap_step.HoldName.{HoldName}
 use Rattle.ref_base.specs.declared.plain_step.PlainStep.{PlainStep}
 use Rattle.ref_base.specs.declared.plain_step.PlainStep.TheVariants as plain
 use Rattle.ref_base.specs.declared.urgency.Urgency.{Urgency}
-use Rattle.ref_clear.specs.ClearHeaps.{HeldNotice}
 use Rattle.ref_queue.specs.declared.queue.Put.{Put}
 use Rattle.ref_queue.specs.declared.queue.Put.TheVariants as puts
-use Rattle.ref_share.specs.HeapCalls.{GivesNotice, Releases, Declined}
+use Rattle.ref_base.specs.Outs.{Outs}
+use Rattle.ref_base.specs.declared.out.Done.{Done}
+use Rattle.ref_base.specs.declared.out.Done.TheVariants as done
+use Rattle.ref_clear.specs.declared.handed.Handed.{Handed}
+use Rattle.ref_share.specs.HeapCalls.{GivesNotice, GivesBatch, Releases, Declined}
 use Rattle.ref_share.specs.HeapSeats.{HeapView}
-use Rattle.ref_share.specs.QueueCalls.{PutsNotice}
+use Rattle.ref_share.specs.QueueCalls.{PutsNotice, PutsBatch}
 use Rattle.ref_share.specs.QueueSeats.{SharedQueue, QueueSeat, queue_view, IsQueueSeat}
 use Rattle.ref_share.specs.declared.answers.Delivery.{Delivery}
 use Rattle.ref_share.specs.declared.answers.Delivery.TheVariants.{Nothing, Added, Dropped}
@@ -41,6 +44,10 @@ GoesBack n hold v (Ok (Dropped m)) w = (m ≡ n) × Releases v hold (Ok tt) w
 GoesBack n hold v (Err (Held back fault)) w = Releases v hold (Err (fault, back)) w
 GoesBack n hold v result w = ⊥
 
+-- one of the lists ends before this place
+abbrev pub IsBeyond : {A : Type 0} → ℕ → List (SharedQueue A) → List QueueSeat → Type 0
+IsBeyond place queues seats = (length queues ≤ place) ⊎ (length seats ≤ place)
+
 module _ {A : Type 0} (notice : HeldNotice) (queues : List (SharedQueue A)) (seats : List QueueSeat) where
   -- there is a queue at the place of the notice's own, and its seat puts it in, with this answer; the others do nothing
   pub record IsPut (answer : Result (Put HeldNotice) (Fault × HeldNotice)) (after : List QueueSeat) : Type 0 where
@@ -51,13 +58,9 @@ module _ {A : Type 0} (notice : HeldNotice) (queues : List (SharedQueue A)) (sea
     pub after_is : after ≡ slice_set seats notice.queue new
     pub puts : PutsNotice (queue_view old) notice answer (queue_view new)
 
-  -- one of the lists ends before that place
-  abbrev pub IsBeyond : Type 0
-  IsBeyond = (length queues ≤ notice.queue) ⊎ (length seats ≤ notice.queue)
-
   -- the notice is put in at its place; or there is none for it, and no queue does anything
   abbrev pub PutsAt : Result (Put HeldNotice) (Fault × HeldNotice) → List QueueSeat → Type 0
-  PutsAt (Err (BadQueue, back)) after = IsBeyond × (after ≡ seats)
+  PutsAt (Err (BadQueue, back)) after = IsBeyond notice.queue queues seats × (after ≡ seats)
   PutsAt answer after = IsPut answer after
 
   -- no queue takes it: it was put in before, or its queue is closed
@@ -81,6 +84,81 @@ module _ {A : Type 0} (step : NamedStep) (v : HeapView) (queues : List (SharedQu
     Delivers result w after =
         (notice : HeldNotice) × (u : HeapView) × GivesNotice v step (Ok (Some notice)) u
         × Sends notice queues seats u result w after
+
+-- ---- a batch
+
+-- the fault with which one of these was refused, if one was
+abbrev pub refused_in : List Done → Option Fault
+refused_in [] = None
+refused_in (done.Refused fault ∷ ds) = Some fault
+refused_in (d ∷ ds) = refused_in ds
+
+-- The holds of these notices go back to the heap, first first, by a release each. Where one doesn't, it comes back,
+-- with the fault, and those behind it are left.
+abbrev pub GoBack : List HeldNotice → HeapView → Result (Unit {0}) (Fault × HoldName) → List HeldNotice → HeapView
+    → Type 0
+GoBack [] v (Ok _) left w = (left ≡ []) × (w ≡ v)
+GoBack [] v (Err back) left w = ⊥
+GoBack (notice ∷ rest) v result left w =
+    ((u : HeapView) × Releases v notice.hold (Ok tt) u × GoBack rest u result left w)
+    ⊎ ((back : Fault × HoldName) × (result ≡ Err back) × Releases v notice.hold (Err back) w × (left ≡ rest))
+
+-- that, told with what became of each
+abbrev pub TellsReleased : Outs → Result (Unit {0}) (Fault × HoldName) → Result (Option Outs) ShareFault → Type 0
+TellsReleased outs (Ok _) result = result ≡ Ok (Some outs)
+TellsReleased outs (Err back) result = result ≡ Err (Held back.1 back.0)
+
+module _ {A : Type 0} (place : ℕ) (batch : List HeldNotice) (queues : List (SharedQueue A)) (seats : List QueueSeat)
+  where
+    -- there is a queue at the place, and its seat puts the batch in, with this answer; the others do nothing
+    pub record IsBatchPut (answer : Result Outs Fault) (left : List HeldNotice) (after : List QueueSeat) : Type 0
+      where
+        pub old : QueueSeat
+        pub new : QueueSeat
+        pub within : place < length queues
+        pub there : slice_get seats place ≡ Some old
+        pub after_is : after ≡ slice_set seats place new
+        pub puts : PutsBatch (queue_view old) batch answer left (queue_view new)
+
+    -- the batch is put in at the place; or there is no queue, and none does anything
+    abbrev pub PutsBatchAt : Result Outs Fault → List HeldNotice → List QueueSeat → Type 0
+    PutsBatchAt (Err BadQueue) left after = IsBeyond place queues seats × (left ≡ batch) × (after ≡ seats)
+    PutsBatchAt answer left after = IsBatchPut answer left after
+
+    -- of the batch, which was put in, this is left, and none was refused for want of memory: they go back to the heap
+    abbrev pub ReleasesRest : Outs → HeapView → Result (Unit {0}) (Fault × HoldName) → List HeldNotice → HeapView
+        → List QueueSeat → Type 0
+    ReleasesRest outs v released left w after =
+        (rest : List HeldNotice) × IsBatchPut (Ok outs) rest after × (refused_in outs.done ≡ None)
+        × GoBack rest v released left w
+
+    -- The batch goes into its queue, and what that doesn't take goes back to the heap; or it could not be put in, or
+    -- one of its notices was refused, and what wasn't added is left, and the heap does nothing; or a hold could not go
+    -- back.
+    abbrev pub SendsBatch : HeapView → Result (Option Outs) ShareFault → List HeldNotice → HeapView → List QueueSeat
+        → Type 0
+    SendsBatch v (Ok (Some outs)) left w after = ReleasesRest outs v (Ok tt) left w after
+    SendsBatch v (Err (Refused fault)) left w after =
+        (w ≡ v)
+        × (PutsBatchAt (Err fault) left after
+        ⊎ ((outs : Outs) × IsBatchPut (Ok outs) left after × (refused_in outs.done ≡ Some fault)))
+    SendsBatch v (Err (Held hold fault)) left w after =
+        (outs : Outs) × ReleasesRest outs v (Err (fault, hold)) left w after
+    SendsBatch v result left w after = ⊥
+
+module _ {A : Type 0} (k max : ℕ) (v : HeapView) (queues : List (SharedQueue A)) (seats : List QueueSeat) where
+  -- the notices that the hand gave are sent
+  abbrev pub GivesAndSends : Result (Option Outs) ShareFault → List HeldNotice → HeapView → List QueueSeat → Type 0
+  GivesAndSends result left w after =
+      (handed : Handed) × (batch : List HeldNotice) × (u : HeapView) × GivesBatch v k max [] (Ok (Some handed)) batch u
+      × SendsBatch handed.queue batch queues seats u result left w after
+
+  -- the heap's hand of a batch, which was empty, is called; the notices that it gives, if it gives some, are sent
+  abbrev pub DeliversBatch : Result (Option Outs) ShareFault → List HeldNotice → HeapView → List QueueSeat → Type 0
+  DeliversBatch (Ok None) left w after = GivesBatch v k max [] (Ok None) left w × (after ≡ seats)
+  DeliversBatch (Err (Refused fault)) left w after =
+      (GivesBatch v k max [] (Err fault) left w × (after ≡ seats)) ⊎ GivesAndSends (Err (Refused fault)) left w after
+  DeliversBatch result left w after = GivesAndSends result left w after
 
 -- ---- what stops a cycle
 

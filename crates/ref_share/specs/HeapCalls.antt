@@ -1,6 +1,6 @@
 -- What the calls of a shared heap answer, as calls that its seat has made (this project's profile).
-use Rattle.std.specs.Prelude.{◌≡◌, ◌⊎◌, ℕ, Bool, true, false, Option, Some, None, Result, Ok, Err}
-use Rattle.ref_base.specs.HeapSteps.{NamedStep}
+use Rattle.std.specs.Prelude.{◌≡◌, ◌⊎◌, ℕ, Bool, true, false, List, ◌++◌, Option, Some, None, Result, Ok, Err}
+use Rattle.ref_base.specs.HeapSteps.{HeldNotice, NamedStep}
 use Rattle.ref_base.specs.declared.fault.Fault.{Fault}
 use Rattle.ref_base.specs.declared.fault.Fault.TheVariants.{TurnsSpent}
 use Rattle.ref_base.specs.declared.heap_step.HeapStep.TheVariants as heap
@@ -8,7 +8,9 @@ use Rattle.ref_base.specs.declared.heap_step.HoldName.{HoldName}
 use Rattle.ref_base.specs.declared.plain_step.PlainStep.{PlainStep}
 use Rattle.ref_base.specs.declared.reply.Reply.{Reply}
 use Rattle.ref_base.specs.declared.reply.Reply.TheVariants as told
-use Rattle.ref_clear.specs.ClearHeaps.{HeldNotice}
+use Rattle.ref_base.specs.Told.{told_notices}
+use Rattle.ref_clear.specs.ClearCalls.{handed_reply, held_notices}
+use Rattle.ref_clear.specs.declared.handed.Handed.{Handed}
 use Rattle.ref_world.specs.declared.heap_machine.HeapReply.TheVariants as replies
 use Rattle.ref_share.specs.HeapSeats.{HeapView}
 use Rattle.ref_share.specs.SeatCalls.{Called, RanOut}
@@ -68,6 +70,29 @@ GivesNotice v step (Ok (Some notice)) w = Called v step (replies.Notice notice) 
 GivesNotice v step (Ok None) w = Called v step (replies.Told told.Nothing) w
 GivesNotice v step (Err fault) w = Refuses v step fault w
 
+-- a hand of a batch is refused with this fault, and the batch comes back as it was; with TurnsSpent no turn was left
+-- for it
+abbrev pub RefusesBatch : HeapView → (k max : ℕ) → List HeldNotice → Fault → HeapView → Type 0
+RefusesBatch v k max batch TurnsSpent w = RanOut v w
+RefusesBatch v k max batch fault w =
+    Called v (heap.Hands k max batch) (replies.Handed (told.Refused fault) batch) w
+
+-- the heap gives the notices of a hand of a batch, behind what stands in the batch, or tells that there are none: it is
+-- one call; or it refuses them
+abbrev pub GivesBatch : HeapView → (k max : ℕ) → List HeldNotice → Result (Option Handed) Fault → List HeldNotice
+    → HeapView → Type 0
+GivesBatch v k max batch (Ok answer) left w =
+    ((heap_no : ℕ) × (left ≡ batch ++ held_notices heap_no (told_notices (handed_reply k answer))))
+    × Called v (heap.Hands k max batch) (replies.Handed (handed_reply k answer) left) w
+GivesBatch v k max batch (Err fault) left w = (left ≡ batch) × RefusesBatch v k max batch fault w
+
+-- how a reply to a hand of a batch is told
+abbrev pub TellsOfBatch : Reply → Result (Option Handed) Fault → Type 0
+TellsOfBatch (told.Notices ns q cycle k) result =
+    result ≡ Ok (Some (record { numbers = ns; queue = q; cycle = cycle }))
+TellsOfBatch (told.Refused fault) result = result ≡ Err fault
+TellsOfBatch reply result = result ≡ Ok None
+
 -- what is answered to such a step where a reply comes without a notice
 abbrev pub TellsOfNone : Reply → Result (Option HeldNotice) Fault → Type 0
 TellsOfNone (told.Refused fault) result = result ≡ Err fault
@@ -88,6 +113,13 @@ abbrev pub takes_a_hold : NamedStep → Bool
 takes_a_hold (heap.Adopt m d hold) = true
 takes_a_hold (heap.Release hold) = true
 takes_a_hold step = false
+
+-- whether it takes anything along: a hold, or a batch
+abbrev pub takes_along : NamedStep → Bool
+takes_along (heap.Adopt m d hold) = true
+takes_along (heap.Release hold) = true
+takes_along (heap.Hands k max batch) = true
+takes_along step = false
 
 -- the one or the other
 abbrev pub Spends : HeapView → NamedStep → Result (Unit {0}) (Fault × HoldName) → HeapView → Type 0

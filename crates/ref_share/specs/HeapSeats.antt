@@ -9,7 +9,7 @@ use Rattle.ref_turn.specs.History.{Leads}
 use Rattle.ref_turn.specs.Turns.{view}
 use Rattle.ref_turn.specs.declared.history.Entry.{Entry}
 use Rattle.ref_turn.specs.declared.history.View.{View}
-use Rattle.ref_world.specs.declared.heap_machine.HeapReply.{HeapReply}
+use Rattle.ref_world.specs.HeapReplies.{HeapAnswer}
 use Rattle.ref_share.specs.HeapMachines.{IsHeapTurn}
 use Rattle.ref_share.specs.SharedSeats.{IsSeatIn}
 use Rattle.ref_share.specs.StartedSeats.{IsFirstFrom, IsLeftFrom}
@@ -18,17 +18,17 @@ use Rattle.ref_share.specs.declared.shared.Shared.{Shared}
 use Rattle.ref_share.specs.declared.shared_heap.HeapFrame.{HeapFrame}
 
 abbrev pub SharedHeap : Type 0 → Type 0
-SharedHeap A = Shared ClearHeap A NamedStep HeapReply HeapFrame
+SharedHeap A = Shared ClearHeap A NamedStep HeapAnswer HeapFrame
 
 abbrev pub HeapSeat : Type 0
-HeapSeat = SeatFor ClearHeap NamedStep HeapReply HeapFrame
+HeapSeat = SeatFor ClearHeap NamedStep HeapAnswer HeapFrame
 
 abbrev pub HeapView : Type 0
-HeapView = View ClearHeap NamedStep HeapReply
+HeapView = View ClearHeap NamedStep HeapAnswer
 
 -- one call in the history of a heap: the number of the seat that made it, its step and its reply
 abbrev pub HeapEntry : Type 0
-HeapEntry = Entry NamedStep HeapReply
+HeapEntry = Entry NamedStep HeapAnswer
 
 -- what a seat knows
 abbrev pub heap_view : HeapSeat → HeapView

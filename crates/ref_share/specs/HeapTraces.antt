@@ -1,10 +1,10 @@
 -- What the history of a heap tells as a trace does, read off its entries alone (package `java.lang.ref` of Java SE 17:
 -- a reference is cleared, and enqueued, once its referent is no longer reachable; the rest is this project's profile).
-use Rattle.std.specs.Prelude.{◌≡◌, ℕ, List, [], ◌∷◌, ◌++◌, Option, Some, None}
-use Rattle.ref_base.specs.ClearingOrder.{if_worked}
+use Rattle.std.specs.Prelude.{◌≡◌, ℕ, List, [], ◌∷◌, ◌++◌, drop, length, map, Option, Some, None}
+use Rattle.ref_base.specs.ClearingOrder.{all_worked}
 use Rattle.ref_base.specs.CollectorRows.{referent_of}
 use Rattle.ref_base.specs.Heaps.{reference_at}
-use Rattle.ref_base.specs.HeapSteps.{NamedStep}
+use Rattle.ref_base.specs.HeapSteps.{HeldNotice, NamedStep}
 use Rattle.ref_base.specs.MarkEnds.{IsDead}
 use Rattle.ref_base.specs.Replay.{after_heap}
 use Rattle.ref_base.specs.Worlds.{World, first_world_of}
@@ -19,7 +19,7 @@ use Rattle.ref_base.specs.declared.step.Step.TheVariants as steps
 use Rattle.ref_turn.specs.Seats.{entry}
 use Rattle.ref_world.specs.Cores.{as_notice}
 use Rattle.ref_world.specs.HeapReplies.{told_reply}
-use Rattle.ref_world.specs.declared.heap_machine.HeapReply.{HeapReply}
+use Rattle.ref_world.specs.HeapReplies.{HeapAnswer}
 use Rattle.ref_world.specs.declared.heap_machine.HeapReply.TheVariants as replies
 use Rattle.ref_share.specs.HeapSeats.{HeapEntry}
 
@@ -33,6 +33,7 @@ world_step (heap.Hold m s) = None
 world_step (heap.Adopt m d hold) = None
 world_step (heap.Release hold) = None
 world_step (heap.Hand k) = Some (steps.Hand k)
+world_step (heap.Hands k max batch) = Some (steps.Hands k max)
 
 abbrev pub row_of : Option Step → Reply → List Row
 row_of None reply = []
@@ -70,23 +71,32 @@ pub record HeapMarkEnded (config : Config) (number : ℕ) (calls : List HeapEntr
 -- ---- what it gives
 
 -- what calls tell, one after the other
-abbrev pub gathered : (NamedStep → HeapReply → List ℕ) → List HeapEntry → List ℕ
+abbrev pub gathered : (NamedStep → HeapAnswer → List ℕ) → List HeapEntry → List ℕ
 gathered told_by [] = []
 gathered told_by (call ∷ calls) = told_by call.step call.reply ++ gathered told_by calls
 
--- the reference whose notice one call of a worker's hand gives
-abbrev pub handed_by : NamedStep → HeapReply → List ℕ
-handed_by (heap.Hand k) (replies.Notice notice) = notice.hold.object ∷ []
-handed_by step reply = []
+-- the notices that one call of a worker's hand gives, first first: into a batch they come behind what stands there
+abbrev pub notices_of_hand : NamedStep → HeapAnswer → List HeldNotice
+notices_of_hand (heap.Hand k) (replies.Notice notice) = notice ∷ []
+notices_of_hand (heap.Hands k max batch) (replies.Handed reply after) = drop (length batch) after
+notices_of_hand step reply = []
+
+-- and those that any call gives: an unhook gives one too
+abbrev pub notices_given : NamedStep → HeapAnswer → List HeldNotice
+notices_given (heap.Unhook m s) (replies.Notice notice) = notice ∷ []
+notices_given step reply = notices_of_hand step reply
+
+-- the references whose notices one call of a hand gives
+abbrev pub handed_by : NamedStep → HeapAnswer → List ℕ
+handed_by step reply = map (λ notice. notice.hold.object) (notices_of_hand step reply)
 
 -- the references whose notices the calls of hands give, in order
 abbrev pub all_handed_on : List HeapEntry → List ℕ
 all_handed_on calls = gathered handed_by calls
 
 -- and of these the ones that worker k cleared and that are for queue q
-abbrev pub handed_of : ℕ → ℕ → NamedStep → HeapReply → List ℕ
-handed_of k q (heap.Hand worker) (replies.Notice notice) = if_worked k q (as_notice notice)
-handed_of k q step reply = []
+abbrev pub handed_of : ℕ → ℕ → NamedStep → HeapAnswer → List ℕ
+handed_of k q step reply = all_worked k q (map as_notice (notices_of_hand step reply))
 
 abbrev pub handed_in : ℕ → ℕ → List HeapEntry → List ℕ
 handed_in k q calls = gathered (handed_of k q) calls

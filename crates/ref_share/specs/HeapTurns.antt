@@ -7,12 +7,12 @@ use Rattle.ref_base.specs.declared.reply.Reply.{Reply}
 use Rattle.ref_clear.specs.ClearHeaps.{ClearHeap}
 use Rattle.ref_clear.specs.Standing.{HeapStands}
 use Rattle.ref_clear.proofs.HeapLaws.{each_step, stands_number}
-use Rattle.ref_world.specs.declared.heap_machine.HeapReply.{HeapReply}
+use Rattle.ref_world.specs.HeapReplies.{HeapAnswer}
 use Rattle.ref_world.specs.HeapReplies.{GivesOut}
 use Rattle.ref_share.specs.HeapMachines.{IsHeapTurn, Acts}
 
 -- what it does is a row, from each state that it stands for to one that it then stands for
-pub acts_as_a_row : (c d : ClearHeap) (step : NamedStep) (reply : HeapReply) → Acts c step reply d
+pub acts_as_a_row : (c d : ClearHeap) (step : NamedStep) (reply : HeapAnswer) → Acts c step reply d
     → (x : State) → HeapStands c x → (y : State) × IsHeapTurn x step reply y × HeapStands d y
 acts_as_a_row c d step reply acts x stands =
     let row = each_step c step x stands in (

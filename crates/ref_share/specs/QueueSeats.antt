@@ -6,28 +6,26 @@ use Rattle.ref_turn.specs.Turns.{view}
 use Rattle.ref_turn.specs.declared.history.Entry.{Entry}
 use Rattle.ref_turn.specs.declared.history.View.{View}
 use Rattle.ref_share.specs.QueueMachines.{IsQueueTurn}
-use Rattle.ref_share.specs.QueueStates.{NoticeLists}
+use Rattle.ref_share.specs.QueueStates.{NoticeLists, QueueCall, QueueAnswer}
 use Rattle.ref_share.specs.Selves.{IsItself}
 use Rattle.ref_share.specs.SharedSeats.{IsSeatIn}
 use Rattle.ref_share.specs.StartedSeats.{IsFirstFrom, IsLeftFrom}
-use Rattle.ref_share.specs.declared.queue_machine.QueueStep.{QueueStep}
-use Rattle.ref_share.specs.declared.queue_machine.QueueReply.{QueueReply}
 use Rattle.ref_share.specs.declared.shared.SeatFor.{SeatFor}
 use Rattle.ref_share.specs.declared.shared.Shared.{Shared}
 use Rattle.ref_share.specs.declared.shared_queue.QueueFrame.{QueueFrame}
 
 abbrev pub SharedQueue : Type 0 → Type 0
-SharedQueue A = Shared NoticeLists A QueueStep QueueReply QueueFrame
+SharedQueue A = Shared NoticeLists A QueueCall QueueAnswer QueueFrame
 
 abbrev pub QueueSeat : Type 0
-QueueSeat = SeatFor NoticeLists QueueStep QueueReply QueueFrame
+QueueSeat = SeatFor NoticeLists QueueCall QueueAnswer QueueFrame
 
 abbrev pub QueueView : Type 0
-QueueView = View NoticeLists QueueStep QueueReply
+QueueView = View NoticeLists QueueCall QueueAnswer
 
 -- one call in the history of a queue: the number of the seat that made it, its step and its reply
 abbrev pub QueueEntry : Type 0
-QueueEntry = Entry QueueStep QueueReply
+QueueEntry = Entry QueueCall QueueAnswer
 
 -- what a seat knows
 abbrev pub queue_view : QueueSeat → QueueView

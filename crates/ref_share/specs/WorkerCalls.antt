@@ -1,21 +1,22 @@
 -- What a worker's thread hands on and puts into queues, read off the calls of its own seats (this project's profile;
 -- Java SE 17 `java.lang.ref` says of no order).
 use Rattle.std.specs.Prelude.{◌≡◌, ℕ, zero, suc, ◌<◌, ◌⊎◌, ◌==◌, ◌&&◌, Bool, true, false, if◌then◌else◌, List, [], ◌∷◌}
-use Rattle.std.specs.Prelude.{◌++◌, length, slice_get, Some, Result, Err}
+use Rattle.std.specs.Prelude.{◌++◌, length, slice_get, Option, Some, Result, Err}
 use Rattle.ref_base.specs.ClearingOrder.{is_by}
-use Rattle.ref_base.specs.HeapSteps.{NamedStep}
+use Rattle.ref_base.specs.HeapSteps.{HeldNotice, NamedStep}
+use Rattle.ref_base.specs.Outs.{Outs}
 use Rattle.ref_base.specs.declared.fault.Fault.TheVariants.{TurnsSpent}
 use Rattle.ref_base.specs.declared.heap_step.HeapStep.TheVariants as heap
-use Rattle.ref_clear.specs.ClearHeaps.{HeldNotice}
-use Rattle.ref_world.specs.declared.heap_machine.HeapReply.{HeapReply}
+use Rattle.ref_world.specs.HeapReplies.{HeapAnswer}
 use Rattle.ref_world.specs.declared.heap_machine.HeapReply.TheVariants as replies
-use Rattle.ref_share.specs.Deliveries.{Delivers}
+use Rattle.ref_share.specs.Deliveries.{Delivers, DeliversBatch}
+use Rattle.ref_share.specs.HeapTraces.{notices_of_hand}
 use Rattle.ref_share.specs.HeapSeats.{HeapView, HeapEntry}
 use Rattle.ref_share.specs.QueueSeats.{SharedQueue, QueueSeat, QueueEntry, queue_view}
 use Rattle.ref_share.specs.declared.answers.Delivery.{Delivery}
 use Rattle.ref_share.specs.declared.answers.ShareFault.{ShareFault}
-use Rattle.ref_share.specs.declared.answers.ShareFault.TheVariants.{Notice}
-use Rattle.ref_share.specs.declared.queue_machine.QueueStep.{QueueStep}
+use Rattle.ref_share.specs.declared.answers.ShareFault.TheVariants.{Notice, Refused}
+use Rattle.ref_share.specs.QueueStates.{QueueCall}
 use Rattle.ref_share.specs.declared.queue_machine.QueueStep.TheVariants as queue
 
 -- ---- notices of what worker k cleared, for queue q
@@ -24,15 +25,23 @@ use Rattle.ref_share.specs.declared.queue_machine.QueueStep.TheVariants as queue
 abbrev pub worked_notice : ℕ → ℕ → HeldNotice → List HeldNotice
 worked_notice k q notice = if (notice.queue == q) && is_by k notice.cause then notice ∷ [] else []
 
--- the one that a call of a hand gives
-abbrev pub notice_handed : ℕ → ℕ → NamedStep → HeapReply → List HeldNotice
-notice_handed k q (heap.Hand j) (replies.Notice notice) = worked_notice k q notice
-notice_handed k q step reply = []
+-- those among several, in order
+abbrev pub worked_notices : ℕ → ℕ → List HeldNotice → List HeldNotice
+worked_notices k q [] = []
+worked_notices k q (notice ∷ notices) = worked_notice k q notice ++ worked_notices k q notices
 
--- the one that a put puts in, or tries to
-abbrev pub notice_put : ℕ → ℕ → QueueStep → List HeldNotice
-notice_put k q (queue.Put notice) = worked_notice k q notice
-notice_put k q step = []
+-- the ones that a call of a hand gives
+abbrev pub notice_handed : ℕ → ℕ → NamedStep → HeapAnswer → List HeldNotice
+notice_handed k q step reply = worked_notices k q (notices_of_hand step reply)
+
+-- the notices that a put puts in, or is asked to
+abbrev pub asked_to_put : QueueCall → List HeldNotice
+asked_to_put (queue.Put notice) = notice ∷ []
+asked_to_put (queue.PutBatch batch) = batch
+asked_to_put step = []
+
+abbrev pub notice_put : ℕ → ℕ → QueueCall → List HeldNotice
+notice_put k q step = worked_notices k q (asked_to_put step)
 
 -- those of some calls, in order
 abbrev pub notices_handed : ℕ → ℕ → List HeapEntry → List HeldNotice
@@ -50,6 +59,11 @@ abbrev pub had_turn : Result Delivery ShareFault → Bool
 had_turn (Err (Notice back TurnsSpent)) = false
 had_turn result = true
 
+-- nor did the delivery of a batch: there the notices would be left
+abbrev pub batch_had_turn : Result (Option Outs) ShareFault → List HeldNotice → Bool
+batch_had_turn (Err (Refused TurnsSpent)) (notice ∷ left) = false
+batch_had_turn result left = true
+
 module _ {A : Type 0} (k : ℕ) (queues : List (SharedQueue A)) where
   -- of what worker k cleared each queue's seat has put in just what the heap's has handed on for that queue, in this
   -- order
@@ -64,6 +78,12 @@ module _ {A : Type 0} (k : ℕ) (queues : List (SharedQueue A)) where
       (j : ℕ) × (result : Result Delivery ShareFault) × (had_turn result ≡ true)
       × Delivers (heap.Hand j) v queues seats result w after
 
+  -- or a worker's hand of a batch is
+  abbrev pub IsBatchDelivered : HeapView → List QueueSeat → HeapView → List QueueSeat → Type 0
+  IsBatchDelivered v seats w after =
+      (j max : ℕ) × (result : Result (Option Outs) ShareFault) × (left : List HeldNotice)
+      × (batch_had_turn result left ≡ true) × DeliversBatch j max v queues seats result left w after
+
   -- other calls were made, which neither hand on nor put in what worker k cleared
   abbrev pub IsAside : HeapView → List QueueSeat → HeapView → List QueueSeat → Type 0
   IsAside v seats w after =
@@ -72,12 +92,12 @@ module _ {A : Type 0} (k : ℕ) (queues : List (SharedQueue A)) where
       → (r : QueueSeat) × (slice_get seats q ≡ Some r)
       × (notices_put k q (queue_view s).mine ≡ notices_put k q (queue_view r).mine))
 
-  -- so often the one or the other
+  -- so often one of these
   abbrev pub Works : ℕ → HeapView → List QueueSeat → HeapView → List QueueSeat → Type 0
   Works zero v seats w after = (w ≡ v) × (after ≡ seats)
   Works (suc count) v seats w after =
       (u : HeapView) × (between : List QueueSeat) × Works count v seats u between
-      × (IsDelivered u between w after ⊎ IsAside u between w after)
+      × (IsDelivered u between w after ⊎ (IsBatchDelivered u between w after ⊎ IsAside u between w after))
 
 -- the references that the notices report
 abbrev pub references_of : List HeldNotice → List ℕ

@@ -1,18 +1,20 @@
 //! From the heap to a queue: a notice that the heap gives is put into its own queue, by one thread, in turns of its
 //! own. No lock is held between them.
 
-ghost use Rattle.std.specs.Prelude.{◌≡◌, List, Ok, Err, IfOk, IfErr};
+ghost use Rattle.std.specs.Prelude.{◌≡◌, [], List, Ok, Err, IfOk, IfErr};
 ghost use Rattle.ref_base.specs.declared.heap_step.HeapStep.TheVariants as steps;
 ghost use Rattle.ref_base.specs.HeapSteps.{NamedStep};
 ghost use Rattle.ref_share.specs.HeapSeats.{HeapView, heap_view, IsHeapSeat};
 ghost use Rattle.ref_share.specs.HeapCalls.{GivesNotice};
 ghost use Rattle.ref_share.specs.Deliveries.{AreSeats, PutsAt, Sends, Delivers, GoesBack, was_added};
+ghost use Rattle.ref_share.specs.Deliveries.{DeliversBatch, GoBack, PutsBatchAt, SendsBatch, TellsReleased};
+ghost use Rattle.ref_share.specs.Deliveries.{refused_in};
 ghost use Rattle.ref_share.specs.QueueCalls.{ComesBack};
 ghost use Rattle.ref_share.specs.QueueSeats.{QueueSeat};
 ghost use Rattle.ref_share.specs.declared.answers.Delivery.TheVariants.{Nothing};
 
 use crate::{Delivery, HeapSeat, QueueSeat, ShareFault, SharedHeap, SharedQueue};
-use ref_base::{Fault, MutNo, ObjNo, Parcel, SlotNo, WorkerNo};
+use ref_base::{Batch, Done, Fault, MutNo, ObjNo, Outs, Parcel, QueueNo, SlotNo, WorkerNo};
 use ref_clear::Notice;
 use ref_objects::Hold;
 use ref_queue::Put;
@@ -72,6 +74,56 @@ pub fn deliver_one<R: Wait, A: Allocator + Copy>(
 {
     let given = heap.hand(rt, heap_seat, worker);
     deliver(rt, heap, heap_seat, queues, queue_seats, given)
+}
+
+/// Hands on the first of the worker's pending references, so many at most, and all of one queue and one cycle: their
+/// notices go into that queue, one after the other. It answers what became of each; what was `Already` in the queue, or
+/// found it closed, goes back to the heap. `None` exactly where none is pending. The batch, which is empty and only
+/// saves taking its memory anew, comes back in each case: empty, but for the cases below.
+///
+/// So many turns at most: a hand of the heap, a put of the queue, and a release by the heap for each notice that wasn't
+/// added. The lists have an entry for each queue of the heap's configuration, in order, by the caller. In expected time
+/// of the notices, amortized. Only what is added takes memory.
+///
+/// `Refused` with the faults of a hand of a batch, as `BadConfig` where `max` is outside 1 to 32, or `TurnsSpent` where
+/// the heap has no turn left: then nothing was done. `Refused` too where the notices could not be put in, which are in
+/// the batch then: with `TurnsSpent` where the queue has no turn left, with `BadQueue` just where one of the lists ends
+/// before its place, and with `WrongQueue` where another queue stands there; and with `NoMemory` where one of them was
+/// refused so: then the batch holds all that were not added, and nothing was released. `Held` where a hold could not be
+/// released, since the heap has no turn left for it, or doesn't count it: the batch holds those that were to be
+/// released after it.
+pub fn deliver_batch<R: Wait, A: Allocator + Copy>(
+    rt: &R,
+    heap: &SharedHeap<A>,
+    heap_seat: &mut HeapSeat<A>,
+    queues: &[SharedQueue<A>],
+    queue_seats: &mut [QueueSeat<A>],
+    worker: WorkerNo,
+    max: u32,
+    batch: Batch<Notice, A>,
+) -> (Result<Option<Outs>, ShareFault>, Batch<Notice, A>)
+    requires seats { IsHeapSeat heap.now heap_seat.old × AreSeats queues.now queue_seats.old }
+    requires empty { batch ≡ [] }
+    ensures seats { IsHeapSeat heap.now heap_seat.new × AreSeats queues.now queue_seats.new }
+    ensures calls { DeliversBatch worker max (heap_view heap_seat.old) queues.now queue_seats.old result.0 result.1
+        (heap_view heap_seat.new) queue_seats.new }
+{
+    let (given, batch) = heap.hand_batch(rt, heap_seat, worker, max, batch);
+    match given {
+        Ok(Some(handed)) => {
+            send_batch(
+                rt,
+                heap,
+                heap_seat,
+                queues,
+                queue_seats,
+                handed.queue,
+                batch,
+            )
+        }
+        Ok(None) => (Ok(None), batch),
+        Err(fault) => (Err(ShareFault::Refused(fault)), batch),
+    }
 }
 
 /// Hands on all that is pending of the worker, as `deliver_one` does one after the other, until there is `Nothing`.
@@ -181,6 +233,93 @@ fn give_back<R: Wait, A: Allocator + Copy>(
 {
     match heap.release(rt, seat, hold) {
         Ok(()) => Ok(Delivery::Dropped(object)),
+        Err((fault, hold)) => Err(ShareFault::Held(hold, fault)),
+    }
+}
+
+// The notices go into the queue at this place, and what it doesn't take goes back to the heap.
+fn send_batch<R: Wait, A: Allocator + Copy>(
+    rt: &R,
+    heap: &SharedHeap<A>,
+    heap_seat: &mut HeapSeat<A>,
+    queues: &[SharedQueue<A>],
+    queue_seats: &mut [QueueSeat<A>],
+    queue: QueueNo,
+    batch: Batch<Notice, A>,
+) -> (Result<Option<Outs>, ShareFault>, Batch<Notice, A>)
+    requires { IsHeapSeat heap.now heap_seat.old × AreSeats queues.now queue_seats.old }
+    ensures seats { IsHeapSeat heap.now heap_seat.new × AreSeats queues.now queue_seats.new }
+    ensures sends { SendsBatch queue batch queues.now queue_seats.old (heap_view heap_seat.old) result.0 result.1
+        (heap_view heap_seat.new) queue_seats.new }
+{
+    let (answer, batch) = put_batch_at(rt, queues, queue_seats, queue, batch);
+    match answer {
+        Ok(outs) => match refused_in(outs.as_slice()) {
+            None => {
+                let (answer, batch) = give_all_back(rt, heap, heap_seat, batch);
+                (told_of(outs, answer), batch)
+            }
+            Some(fault) => (Err(ShareFault::Refused(fault)), batch),
+        },
+        Err(fault) => (Err(ShareFault::Refused(fault)), batch),
+    }
+}
+
+// The queue at this place puts the notices in.
+fn put_batch_at<R: Wait, A: Allocator + Copy>(
+    rt: &R,
+    queues: &[SharedQueue<A>],
+    seats: &mut [QueueSeat<A>],
+    queue: QueueNo,
+    batch: Batch<Notice, A>,
+) -> (Result<Outs, Fault>, Batch<Notice, A>)
+    requires { AreSeats queues.now seats.old }
+    ensures seats { AreSeats queues.now seats.new }
+    ensures puts { PutsBatchAt queue batch queues.now seats.old result.0 result.1 seats.new }
+{
+    let place = queue.0 as usize;
+    if queues.len() <= place || seats.len() <= place {
+        return (Err(Fault::BadQueue), batch);
+    }
+    queues[place].put_batch(rt, &mut seats[place], batch)
+}
+
+// The fault with which one of them was refused, if one was.
+fn refused_in(done: &[Done]) -> Option<Fault>
+    ensures { result ≡ refused_in done.now }
+{
+    match done {
+        [Done::Refused(fault), ..] => Some(*fault),
+        [_, rest @ ..] => refused_in(rest),
+        [] => None,
+    }
+}
+
+// The holds of notices that no queue took go back to the heap, first first, until one doesn't.
+fn give_all_back<R: Wait, A: Allocator + Copy>(
+    rt: &R,
+    heap: &SharedHeap<A>,
+    seat: &mut HeapSeat<A>,
+    mut batch: Batch<Notice, A>,
+) -> (Result<(), (Fault, Hold)>, Batch<Notice, A>)
+    requires { IsHeapSeat heap.now seat.old }
+    ensures seat { IsHeapSeat heap.now seat.new }
+    ensures gives { GoBack batch (heap_view seat.old) result.0 result.1 (heap_view seat.new) }
+{
+    while let Some(notice) = batch.take_first() {
+        if let Err(back) = heap.release(rt, seat, notice.into_hold()) {
+            return (Err(back), batch);
+        }
+    }
+    (Ok(()), batch)
+}
+
+// What became of the notices; or the hold that could not be released, if there is one.
+fn told_of(outs: Outs, released: Result<(), (Fault, Hold)>) -> Result<Option<Outs>, ShareFault>
+    ensures { TellsReleased outs released result }
+{
+    match released {
+        Ok(()) => Ok(Some(outs)),
         Err((fault, hold)) => Err(ShareFault::Held(hold, fault)),
     }
 }

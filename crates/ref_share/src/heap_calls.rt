@@ -6,16 +6,17 @@ ghost use Rattle.ref_base.specs.declared.heap_step.HeapStep.TheVariants as steps
 ghost use Rattle.ref_share.specs.HeapSeats.{heap_view, IsHeapSeat};
 ghost use Rattle.ref_share.specs.HeapCalls.{AsksHeap, Performs, HoldsSlot, asks_for_a_notice};
 ghost use Rattle.ref_share.specs.HeapCalls.{GivesNotice, TellsOfNone, takes_a_hold, Spends, Adopts, Releases};
+ghost use Rattle.ref_share.specs.HeapCalls.{GivesBatch, TellsOfBatch, takes_along};
 ghost use Rattle.ref_share.specs.HeapMachines.{Acts};
 ghost use Rattle.ref_share.specs.SeatCalls.{Called, RanOut};
 ghost use Rattle.ref_clear.specs.ClearHeaps.{ClearHeap};
 
 use crate::{HeapSeat, SharedHeap};
-use ref_base::{Fault, HeapStep, MutNo, PlainStep, Reply, SlotNo, WorkerNo};
-use ref_clear::Notice;
+use ref_base::{Batch, Fault, HeapStep, MutNo, PlainStep, Reply, SlotNo, WorkerNo};
+use ref_clear::{Handed, Notice};
 use ref_objects::Hold;
 use ref_turn::TurnFault;
-use ref_world::HeapReply;
+use ref_world::{HeapAnswer, HeapCall, HeapReply};
 use std::alloc::Allocator;
 use std::sync::Wait;
 
@@ -78,13 +79,38 @@ impl<A: Allocator + Copy> SharedHeap<A> {
         self.notice(rt, seat, HeapStep::Hand { worker })
     }
 
+    /// The notices of the next references that the worker cleared, all of one queue and one cycle, so many at most, in
+    /// the batch, behind what is in it, once the turn is free; none where none is pending. The batch comes back in each
+    /// case. Tried in this order: `TurnsSpent` where no turn is left, `NoSuchActor` where the worker is outside the
+    /// configuration, `BadConfig` where `max` is not from 1 to the room that is left in the batch, which has room for
+    /// 32, `NumbersSpent` where fewer holds than one for each notice can be counted. Refused, heap and batch are as
+    /// before. Takes no memory.
+    pub fn hand_batch<R: Wait>(
+        &self,
+        rt: &R,
+        seat: &mut HeapSeat<A>,
+        worker: WorkerNo,
+        max: u32,
+        batch: Batch<Notice, A>,
+    ) -> (Result<Option<Handed>, Fault>, Batch<Notice, A>)
+        requires { IsHeapSeat self.now seat.old }
+        ensures seat { IsHeapSeat self.now seat.new }
+        ensures gives { GivesBatch (heap_view seat.old) worker max batch result.0 result.1 (heap_view seat.new) }
+    {
+        match self.call(rt, seat, HeapStep::Hands { worker, max, batch }) {
+            Ok(HeapReply::Handed(reply, batch)) => (handed_on(reply), batch),
+            Err(TurnFault::Spent(HeapStep::Hands { batch, .. })) => (Err(Fault::TurnsSpent), batch),
+            _answer => unreachable!(),
+        }
+    }
+
     // The notice that the step may give.
     #[inline(always)]
     fn notice<R: Wait>(
         &self,
         rt: &R,
         seat: &mut HeapSeat<A>,
-        step: HeapStep<Hold>,
+        step: HeapCall<A>,
     ) -> Result<Option<Notice>, Fault>
         requires seat { IsHeapSeat self.now seat.old }
         requires step { asks_for_a_notice step ≡ true }
@@ -168,7 +194,7 @@ impl<A: Allocator + Copy> SharedHeap<A> {
         &self,
         rt: &R,
         seat: &mut HeapSeat<A>,
-        step: HeapStep<Hold>,
+        step: HeapCall<A>,
     ) -> Result<(), (Fault, Hold)>
         requires seat { IsHeapSeat self.now seat.old }
         requires step { takes_a_hold step ≡ true }
@@ -223,16 +249,16 @@ impl<A: Allocator + Copy> SharedHeap<A> {
         }
     }
 
-    // Does a step that takes no hold along. `TurnsSpent` where no turn is left.
+    // Does a step that takes neither a hold nor a batch along. `TurnsSpent` where no turn is left.
     #[inline(always)]
     fn without_hold<R: Wait>(
         &self,
         rt: &R,
         seat: &mut HeapSeat<A>,
-        step: HeapStep<Hold>,
-    ) -> Result<HeapReply, Fault>
+        step: HeapCall<A>,
+    ) -> Result<HeapAnswer<A>, Fault>
         requires seat { IsHeapSeat self.now seat.old }
-        requires step { takes_a_hold step ≡ false }
+        requires step { takes_along step ≡ false }
         ensures seat { IsHeapSeat self.now seat.new }
         ensures ok { IfOk result (λ reply. Called (heap_view seat.old) step reply (heap_view seat.new)) }
         ensures acted { IfOk result (λ reply. (c d : ClearHeap) × Acts c step reply d) }
@@ -245,9 +271,30 @@ impl<A: Allocator + Copy> SharedHeap<A> {
                 HeapStep::Adopt { hold: _hold, .. } | HeapStep::Release { hold: _hold } => {
                     unreachable!()
                 }
+                HeapStep::Hands { batch: _batch, .. } => unreachable!(),
                 _ => Err(Fault::TurnsSpent),
             },
         }
+    }
+}
+
+// What was handed on at once, by the reply that tells it.
+fn handed_on(reply: Reply) -> Result<Option<Handed>, Fault>
+    ensures { TellsOfBatch reply result }
+{
+    match reply {
+        Reply::Notices {
+            objects,
+            queue,
+            cycle,
+            ..
+        } => Ok(Some(Handed {
+            numbers: objects,
+            queue,
+            cycle,
+        })),
+        Reply::Refused(fault) => Err(fault),
+        _ => Ok(None),
     }
 }
 

@@ -1,10 +1,8 @@
 //! The heap as a machine of turns.
 
 use crate::shared_heap::HeapFrame;
-use ref_base::HeapStep;
-use ref_objects::Hold;
 use ref_turn::Machine;
-use ref_world::{HeapReply, WorldHeap, apply_heap};
+use ref_world::{HeapAnswer, HeapCall, WorldHeap, apply_heap};
 use std::alloc::{Allocator, Global};
 use std::marker::Model;
 
@@ -28,9 +26,9 @@ impl<A: Allocator + Copy> Machine for HeapMachine<A> {
     ghost use Rattle.ref_share.specs.HeapMachines.{IsHeapTurn, Acts};
     ghost use Rattle.ref_share.specs.HeapTurns.{acts_as_a_row};
 
-    type Step = HeapStep<Hold>;
+    type Step = HeapCall<A>;
 
-    type Reply = HeapReply;
+    type Reply = HeapAnswer<A>;
 
     type Frame = HeapFrame;
 
@@ -44,7 +42,8 @@ impl<A: Allocator + Copy> Machine for HeapMachine<A> {
 
     ghost acts = { Acts };
 
-    fn apply(&mut self, step: HeapStep<Hold>) -> HeapReply {
+    #[inline(always)]
+    fn apply(&mut self, step: HeapCall<A>) -> HeapAnswer<A> {
         apply_heap(&mut self.heap, step)
     }
 

@@ -1,15 +1,15 @@
 //! What holds of the history of each shared queue, heap and cleaner, so of whatever threads do: what the core proves of
 //! lists of steps, turn by turn.
 
-ghost use Rattle.std.specs.Prelude.{◌≡◌, ℕ, ◌+◌, ◌<◌, true, List, [], ◌∷◌, ◌++◌, length, Ok, Option, Some, None};
+ghost use Rattle.std.specs.Prelude.{◌≡◌, ℕ, ◌+◌, ◌<◌, true, List, [], ◌∷◌, ◌++◌, length, Option, Some, None};
 ghost use Rattle.std.specs.Prelude.{nat_eq, slice_get};
-ghost use Rattle.std.specs.List.{IsDistinct};
+ghost use Rattle.std.specs.List.{AllByRecursion, IsDistinct};
 ghost use Rattle.ref_base.specs.CollectorRows.{IsLeft, doomed_at, referent_of, is_subsequence};
 ghost use Rattle.ref_base.specs.Collectors.{State};
 ghost use Rattle.ref_base.specs.CountedHolds.{tally};
 ghost use Rattle.ref_base.specs.DoomedSets.{new_clears};
 ghost use Rattle.ref_base.specs.Heaps.{slot_at, reference_at};
-ghost use Rattle.ref_base.specs.HeapSteps.{NamedStep};
+ghost use Rattle.ref_base.specs.HeapSteps.{HeldNotice, NamedStep};
 ghost use Rattle.ref_base.specs.LeavingEdges.{FirstLeaves, LeavesBy};
 ghost use Rattle.ref_base.specs.MarkEnds.{AreOutOfReach};
 ghost use Rattle.ref_base.specs.Members.{has};
@@ -25,31 +25,27 @@ ghost use Rattle.ref_base.specs.declared.heap_step.HeapStep.TheVariants.{Plain};
 ghost use Rattle.ref_base.specs.declared.heap_step.HoldName.{HoldName};
 ghost use Rattle.ref_base.specs.declared.plain_step.PlainStep.TheVariants.{EndMark, Get};
 ghost use Rattle.ref_base.specs.declared.reply.Reply.TheVariants.{Refused, Doomed, Object};
-ghost use Rattle.ref_clear.specs.ClearHeaps.{HeldNotice};
 ghost use Rattle.ref_queue.specs.CleanTables.{job_of};
-ghost use Rattle.ref_queue.specs.declared.queue.Put.TheVariants.{Added};
 ghost use Rattle.ref_turn.specs.History.{Leads};
 ghost use Rattle.ref_turn.specs.Seats.{entry};
 ghost use Rattle.ref_world.specs.Cores.{as_notice};
 ghost use Rattle.ref_world.specs.HeapReplies.{told_reply};
-ghost use Rattle.ref_world.specs.declared.heap_machine.HeapReply.{HeapReply};
-ghost use Rattle.ref_world.specs.declared.heap_machine.HeapReply.TheVariants.{Told, Notice};
+ghost use Rattle.ref_world.specs.HeapReplies.{HeapAnswer};
+ghost use Rattle.ref_world.specs.declared.heap_machine.HeapReply.TheVariants.{Told};
 ghost use Rattle.ref_share.specs.CleanHistories.{some_registers, job_left};
 ghost use Rattle.ref_share.specs.CleanSeats.{Jobs, CleanEntry, IsCleanRun};
 ghost use Rattle.ref_share.specs.HeapHistories.{minted, spent, spent_by};
 ghost use Rattle.ref_share.specs.HeapMachines.{IsHeapTurn};
 ghost use Rattle.ref_share.specs.HeapSeats.{HeapEntry, HeapSeat, HeapView, SharedHeap, heap_view};
 ghost use Rattle.ref_share.specs.HeapSeats.{IsHeapRun, IsHeapSeat};
-ghost use Rattle.ref_share.specs.HeapTraces.{HeapMarkEnded, handed_in, all_handed_on, rows_of};
+ghost use Rattle.ref_share.specs.HeapTraces.{HeapMarkEnded, handed_in, all_handed_on, notices_given, rows_of};
 ghost use Rattle.ref_base.specs.Told.{named_by};
-ghost use Rattle.ref_share.specs.QueueHistories.{KeepsLists, all_put_in, is_closed_after};
+ghost use Rattle.ref_share.specs.QueueHistories.{KeepsLists, added_by_call, all_put_in, is_closed_after};
 ghost use Rattle.ref_share.specs.QueueSeats.{QueueEntry, QueueSeat, SharedQueue, IsQueueRun, queue_view};
 ghost use Rattle.ref_share.specs.QueueStates.{NoticeLists};
 ghost use Rattle.ref_share.specs.WorkerCalls.{KeepsPace, Works, notices_put, references_of};
 ghost use Rattle.ref_share.specs.declared.clean_machine.CleanStep.TheVariants.{Take};
 ghost use Rattle.ref_share.specs.declared.clean_machine.CleanReply.TheVariants.{Taken};
-ghost use Rattle.ref_share.specs.declared.queue_machine.QueueStep.TheVariants as steps;
-ghost use Rattle.ref_share.specs.declared.queue_machine.QueueReply.TheVariants as replies;
 
 /// After every history of a queue its lists are those of the entries: what was taken, followed by what stands, is what
 /// was put in, in order; nothing was put in twice; and it is closed where an entry closed it.
@@ -64,15 +60,17 @@ pub fn nothing_is_put_in_behind_a_close()
         → IsQueueRun number (front ++ back) last → is_closed_after front ≡ true → all_put_in back ≡ [] }
 {}
 
-/// In every history of a queue each notice that was added is for this queue, and is told how many were put in before.
+/// In every history of a queue each notice that was added, alone or in a batch, is for this queue, and is told how many
+/// were put in before: by the calls before its own, and in its own before it.
 pub fn each_added_notice_is_for_its_queue()
-    ensures { (number by : ℕ) (front back : List QueueEntry) (notice : HeldNotice) (position : ℕ) (last : NoticeLists)
-        → IsQueueRun number (front ++ entry by (steps.Put notice) (replies.Put (Ok (Added position))) ∷ back) last
-        → (notice.queue ≡ number) × (position ≡ length (all_put_in front)) }
+    ensures { (number : ℕ) (front back : List QueueEntry) (call : QueueEntry) (last : NoticeLists) (i : ℕ)
+        (notice : HeldNotice) (position : ℕ) → IsQueueRun number (front ++ call ∷ back) last
+        → slice_get (added_by_call call.step call.reply) i ≡ Some (notice, position)
+        → (notice.queue ≡ number) × (position ≡ length (all_put_in front) + i) }
 {}
 
-/// After every history of a heap what is held is what its entries gave out and did not take back: an unhook or a hand
-/// that gave a notice, and a hold, give a hold of its object; an accepted adopt or release takes one back.
+/// After every history of a heap what is held is what its entries gave out and did not take back: each notice that an
+/// unhook or a hand gave, and a hold, is a hold of its object; an accepted adopt or release takes one back.
 pub fn what_is_held_was_given_out_and_not_taken_back()
     ensures { (config : Config) (number : ℕ) (calls : List HeapEntry) (last : State)
         → IsHeapRun config number calls last → (n : ℕ)
@@ -109,10 +107,10 @@ pub fn no_get_answers_what_a_marks_end_cleared()
 /// notice, whichever seat makes it.
 pub fn no_call_gives_what_a_marks_end_doomed()
     ensures { (config : Config) (number count : ℕ) (front : List HeapEntry) (a b : State) (calls : List HeapEntry)
-        (c : State) (step : NamedStep) (reply : HeapReply) (n : ℕ) (e : State)
+        (c : State) (step : NamedStep) (reply : HeapAnswer) (n : ℕ) (e : State)
         → IsHeapRun config number front a → IsHeapTurn a (Plain EndMark) (Told (Doomed count)) b
         → Leads IsHeapTurn b calls c
-        → has (doomed_at a) n ≡ true → IsHeapTurn c step reply e → named_by (told_reply reply) ≡ Some n
+        → has (doomed_at a) n ≡ true → IsHeapTurn c step reply e → has (named_by (told_reply reply)) n ≡ true
         → ⊥ }
 {}
 
@@ -148,22 +146,23 @@ pub fn a_mark_goes_on_only_while_an_object_is_left()
         → (n : ℕ) × IsLeft a n }
 {}
 
-/// In the history of a heap each notice that an unhook or a hand gives comes from the entries up to that one: one of
-/// them made its reference, registered with the notice's queue; and one is its cause, an unhook that gave a notice of
-/// the reference, or its clearing, in the cycle and by the worker that the cause names.
+/// In the history of a heap each notice that an unhook or a hand gives, of one or of a batch, comes from the entries up
+/// to that one: one of them made its reference, registered with the notice's queue; and one is its cause, an unhook
+/// that gave a notice of the reference, or its clearing, in the cycle and by the worker that the cause names.
 pub fn each_notice_that_is_given_has_its_own_queue_and_cause()
-    ensures { (config : Config) (number by : ℕ) (front back : List HeapEntry) (step : NamedStep) (notice : HeldNotice)
-        (last : State) → IsHeapRun config number (front ++ entry by step (Notice notice) ∷ back) last
-        → IsProven (rows_of (front ++ entry by step (Notice notice) ∷ [])) (as_notice notice) }
+    ensures { (config : Config) (number : ℕ) (front back : List HeapEntry) (call : HeapEntry) (last : State)
+        → IsHeapRun config number (front ++ call ∷ back) last
+        → AllByRecursion (λ notice. IsProven (rows_of (front ++ call ∷ [])) (as_notice notice))
+        (notices_given call.step call.reply) }
 {}
 
-/// And where its cause is a cycle, it comes after the end of that cycle's mark: in the world that the entries before
-/// that end give by replay, the notice's reference has a referent, an object to which no kept path leads.
+/// And each whose cause is a cycle comes after the end of that cycle's mark: in the world that the entries before that
+/// end give by replay, the notice's reference has a referent, an object to which no kept path leads.
 pub fn each_notice_of_a_cycle_comes_after_its_mark_ended()
-    ensures { (config : Config) (number by : ℕ) (front back : List HeapEntry) (step : NamedStep) (notice : HeldNotice)
-        (last : State) (cycle worker : ℕ)
-        → IsHeapRun config number (front ++ entry by step (Notice notice) ∷ back) last
-        → notice.cause ≡ Cycle cycle worker → HeapMarkEnded config number front cycle notice.hold.object }
+    ensures { (config : Config) (number : ℕ) (front back : List HeapEntry) (call : HeapEntry) (last : State)
+        → IsHeapRun config number (front ++ call ∷ back) last
+        → AllByRecursion (λ notice. (cycle worker : ℕ) → notice.cause ≡ Cycle cycle worker
+        → HeapMarkEnded config number front cycle notice.hold.object) (notices_given call.step call.reply) }
 {}
 
 /// In the history of a heap workers hand each reference on at most once, over all cycles.
@@ -180,9 +179,9 @@ pub fn each_worker_hands_on_in_its_clearing_order()
         → is_subsequence (handed_in k q calls) (clearing_order (rows_of calls) k q) ≡ true }
 {}
 
-/// A worker's thread hands on by `deliver_one` alone, with one seat of the heap and one of each queue, and makes other
-/// calls in between. Then, while turns are left, each queue's seat has put in just the notices that the heap's has
-/// handed on for that queue of what the worker cleared, in the same order.
+/// A worker's thread hands on by `deliver_one` and `deliver_batch` alone, with one seat of the heap and one of each
+/// queue, and makes other calls in between. Then, while turns are left, each queue's seat has put in just the notices
+/// that the heap's has handed on for that queue of what the worker cleared, in the same order.
 pub fn each_queue_gets_what_a_worker_hands_on<A>()
     ensures { (k : ℕ) (queues : List (SharedQueue A)) (count : ℕ) (v w : HeapView) (seats after : List QueueSeat)
         → Works k queues count v seats w after → KeepsPace k queues v seats → KeepsPace k queues w after }

@@ -11,10 +11,9 @@ ghost use Rattle.ref_share.specs.SeatCalls.{Called, RanOut, IsTryFault, MakesUnl
 ghost use Rattle.ref_share.specs.HeapSeats.{heap_view, IsHeapSeat, IsNewHeap, LeavesHeap};
 
 use crate::{HeapMachine, SeatFor, Shared};
-use ref_base::{Config, Fault, HeapStep};
-use ref_objects::Hold;
+use ref_base::{Config, Fault};
 use ref_turn::{Turn, TurnFault};
-use ref_world::{HeapReply, WorldHeap};
+use ref_world::{HeapAnswer, HeapCall, WorldHeap};
 use std::alloc::{Allocator, Global};
 use std::sync::Wait;
 
@@ -84,8 +83,8 @@ impl<A: Allocator + Copy> SharedHeap<A> {
         &self,
         rt: &R,
         seat: &mut HeapSeat<A>,
-        step: HeapStep<Hold>,
-    ) -> Result<HeapReply, TurnFault<HeapStep<Hold>>>
+        step: HeapCall<A>,
+    ) -> Result<HeapAnswer<A>, TurnFault<HeapCall<A>>>
         requires { IsHeapSeat self.now seat.old }
         ensures seat { IsHeapSeat self.now seat.new }
         ensures ok { IfOk result (λ reply. Called (heap_view seat.old) step reply (heap_view seat.new)) }
@@ -100,8 +99,8 @@ impl<A: Allocator + Copy> SharedHeap<A> {
     pub fn try_call(
         &self,
         seat: &mut HeapSeat<A>,
-        step: HeapStep<Hold>,
-    ) -> Result<HeapReply, TurnFault<HeapStep<Hold>>>
+        step: HeapCall<A>,
+    ) -> Result<HeapAnswer<A>, TurnFault<HeapCall<A>>>
         requires { IsHeapSeat self.now seat.old }
         ensures seat { IsHeapSeat self.now seat.new }
         ensures ok { IfOk result (λ reply. Called (heap_view seat.old) step reply (heap_view seat.new)) }

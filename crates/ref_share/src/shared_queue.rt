@@ -1,20 +1,25 @@
 //! The queue that threads share.
 
-ghost use Rattle.std.specs.Prelude.{◌≡◌, ◌<◌, ◌≤◌, ◌⊎◌, true, IfOk, IfErr, OnErr, Err};
+ghost use Rattle.std.specs.Prelude.{◌≡◌, ◌<◌, ◌≤◌, ◌⊎◌, true, false, IfOk, IfErr, OnErr, Err};
 ghost use Rattle.ref_base.specs.declared.fault.Fault.TheVariants.{BadConfig, NoMemory};
 ghost use Rattle.ref_share.specs.declared.answers.ShareFault.TheVariants.{Refused, Busy};
 ghost use Rattle.ref_share.specs.QueueSeats.{queue_view, IsQueueSeat, IsNewQueue, LeavesQueue};
 ghost use Rattle.ref_share.specs.QueueCalls.{PutsNotice, PollsNow, PollsWithin, PollsUntil, ClosesQueue};
 ghost use Rattle.ref_share.specs.QueueCalls.{ComesBack, IsPollAnswer, IsUnmade, PollsOnce, TellsPoll, refuses_put};
+ghost use Rattle.ref_share.specs.QueueCalls.{PutsBatch, PollsBatchNow, HoldsTaken, IsBatchUnmade, has_batch};
+ghost use Rattle.ref_queue.specs.QueueBatches.{left_by};
 ghost use Rattle.ref_share.specs.QueueMachines.{IsQueueTurn};
 ghost use Rattle.ref_share.specs.Selves.{IsItself};
 ghost use Rattle.ref_turn.specs.Seats.{IsLeftOpen};
 
 use crate::bell::Bell;
-use crate::{Polled, QueueMachine, QueueReply, QueueStep, SeatFor, ShareFault, Shared};
-use ref_base::{Fault, QueueNo};
+use crate::{
+    Polled, QueueAnswer, QueueCall, QueueMachine, QueueReply, QueueStep, SeatFor, ShareFault,
+    Shared,
+};
+use ref_base::{Batch, Fault, Outs, QueueNo};
 use ref_clear::Notice;
-use ref_queue::{Polled as Answer, Put, Queue};
+use ref_queue::{Polled as Answer, PolledBatch, Put, Queue};
 use ref_turn::{Turn, TurnFault};
 use std::alloc::{Allocator, Global};
 use std::sync::Wait;
@@ -101,6 +106,33 @@ impl<A: Allocator + Copy> SharedQueue<A> {
         }
     }
 
+    /// Puts the notices of a batch in, one after the other, in one turn, once it is free. It answers what became of
+    /// each that was tried, as `Queue::put_batch` does, and the batch, with what wasn't added, in order. Tried in this
+    /// order: `TurnsSpent` where no turn is left, `WrongQueue` where some notice names another queue; then all of them
+    /// are in the batch, and nothing has changed. In expected time of the notices, amortized. Only what is added takes
+    /// memory.
+    pub fn put_batch<R: Wait>(
+        &self,
+        rt: &R,
+        seat: &mut QueueSeat<A>,
+        batch: Batch<Notice, A>,
+    ) -> (Result<Outs, Fault>, Batch<Notice, A>)
+        requires { IsQueueSeat self.now seat.old }
+        ensures seat { IsQueueSeat self.now seat.new }
+        ensures puts { PutsBatch (queue_view seat.old) batch result.0 result.1 (queue_view seat.new) }
+        ensures left { result.1 ≡ left_by batch result.0 }
+        ensures faults { IfErr result.0 (λ fault. refuses_put fault ≡ true) }
+    {
+        match self.step(rt, seat, QueueStep::PutBatch(batch)) {
+            Ok(QueueReply::PutBatch(answer, batch)) => {
+                self.frame.bell.ring_for_all(rt);
+                (answer, batch)
+            }
+            Err(TurnFault::Spent(QueueStep::PutBatch(batch))) => (Err(Fault::TurnsSpent), batch),
+            _answer => unreachable!(),
+        }
+    }
+
     /// Takes the first that stands, or answers that nothing does, at once or not at all: `Busy` where another turn is
     /// open, or took this one. `Refused(TurnsSpent)` where no turn is left. Never `TimedOut`. Takes no memory.
     pub fn poll_now(&self, seat: &mut QueueSeat<A>) -> Result<Polled, ShareFault>
@@ -109,6 +141,32 @@ impl<A: Allocator + Copy> SharedQueue<A> {
         ensures polls { PollsNow (queue_view seat.old) result (queue_view seat.new) }
     {
         polled(self.try_step(seat, QueueStep::Poll))
+    }
+
+    /// Takes the first that stand, so many at most, into a batch, behind what is in it, or answers that nothing stands,
+    /// at once or not at all; the batch comes back in each case. It answers the numbers of what it took, first first.
+    /// Tried in this order: `Refused(TurnsSpent)` where no turn is left, `Busy` where another turn is open, or took
+    /// this one, `Refused(BadConfig)` where `max` is not from 1 to the room that is left in the batch, which has room
+    /// for 32; that one takes a turn, in which nothing is done. In time of what is taken. Takes no memory.
+    pub fn poll_batch_now(
+        &self,
+        seat: &mut QueueSeat<A>,
+        max: u32,
+        batch: Batch<Notice, A>,
+    ) -> (Result<PolledBatch, ShareFault>, Batch<Notice, A>)
+        requires { IsQueueSeat self.now seat.old }
+        ensures seat { IsQueueSeat self.now seat.new }
+        ensures polls { PollsBatchNow (queue_view seat.old) max batch result.0 result.1 (queue_view seat.new) }
+        ensures holds { HoldsTaken batch result.0 result.1 }
+    {
+        match self.try_step(seat, QueueStep::PollBatch { max, batch }) {
+            Ok(QueueReply::PolledBatch(answer, batch)) => match answer {
+                Ok(polled) => (Ok(polled), batch),
+                Err(fault) => (Err(ShareFault::Refused(fault)), batch),
+            },
+            Ok(_reply) => unreachable!(),
+            Err(fault) => batch_unmade(fault),
+        }
     }
 
     // One poll, once the turn is free: its answer, or none where nothing stood.
@@ -213,7 +271,9 @@ impl<A: Allocator + Copy> SharedQueue<A> {
 }
 
 // The answer to a poll, or why none was made.
-fn polled(answer: Result<QueueReply, TurnFault<QueueStep>>) -> Result<Polled, ShareFault>
+fn polled<A: Allocator>(
+    answer: Result<QueueAnswer<A>, TurnFault<QueueCall<A>>>,
+) -> Result<Polled, ShareFault>
     requires { IsPollAnswer answer }
     ensures { TellsPoll answer result }
 {
@@ -226,8 +286,9 @@ fn polled(answer: Result<QueueReply, TurnFault<QueueStep>>) -> Result<Polled, Sh
     }
 }
 
-// Why a step of a queue was not made. A notice comes back with it.
-fn unmade(fault: TurnFault<QueueStep>) -> ShareFault
+// Why a step of a queue that has no batch was not made. A notice comes back with it.
+fn unmade<A: Allocator>(fault: TurnFault<QueueCall<A>>) -> ShareFault
+    requires { has_batch fault ≡ false }
     ensures { IsUnmade fault result }
 {
     let (step, is_busy) = match fault {
@@ -238,5 +299,27 @@ fn unmade(fault: TurnFault<QueueStep>) -> ShareFault
         QueueStep::Put(notice) => ShareFault::Notice(notice, Fault::TurnsSpent),
         QueueStep::Poll | QueueStep::Close if is_busy => ShareFault::Busy,
         QueueStep::Poll | QueueStep::Close => ShareFault::Refused(Fault::TurnsSpent),
+        QueueStep::PutBatch(_batch) | QueueStep::PollBatch { batch: _batch, .. } => unreachable!(),
+    }
+}
+
+// Why a poll into a batch was not made, and the batch.
+fn batch_unmade<A: Allocator>(
+    fault: TurnFault<QueueCall<A>>,
+) -> (Result<PolledBatch, ShareFault>, Batch<Notice, A>)
+    requires { has_batch fault ≡ true }
+    ensures { IsBatchUnmade fault result.0 result.1 }
+{
+    match fault {
+        TurnFault::Busy(QueueStep::PutBatch(batch)) => (Err(ShareFault::Busy), batch),
+        TurnFault::Busy(QueueStep::PollBatch { max: _, batch }) => (Err(ShareFault::Busy), batch),
+        TurnFault::Spent(QueueStep::PutBatch(batch)) => (
+            Err(ShareFault::Refused(Fault::TurnsSpent)),
+            batch,
+        ),
+        TurnFault::Spent(QueueStep::PollBatch { max: _, batch }) => {
+            (Err(ShareFault::Refused(Fault::TurnsSpent)), batch)
+        }
+        TurnFault::Busy(_step) | TurnFault::Spent(_step) => unreachable!(),
     }
 }

@@ -82,9 +82,11 @@ pub packed-unpacked : (bits : ℕ) → packed (bits_held (word_held (unpacked bi
 packed-unpacked bits =
     let colour : ℕ = bits / 2 ^ 30 in
     let place : ℕ = bits % 2 ^ 30 in
-    let below : place < 2 ^ 62 = lt_trans (mod_below bits (2 ^ 30) (ltb-true 0 (2 ^ 30) refl)) (ltb-true (2 ^ 30) (2 ^ 62) refl) in
+    let below : place < 2 ^ 62 =
+    lt_trans (mod_below bits (2 ^ 30) (ltb-true 0 (2 ^ 30) refl)) (ltb-true (2 ^ 30) (2 ^ 62) refl) in
     ap packed (bits-word_held (unpacked bits))
-    ∙ ap₂ (λ (c p : ℕ). c * 2 ^ 30 + p) (div-mul-add colour (2 ^ 62) place below) (mod-mul-add colour (2 ^ 62) place below)
+    ∙ ap₂ (λ (c p : ℕ). c * 2 ^ 30 + p) (div-mul-add colour (2 ^ 62) place below)
+    (mod-mul-add colour (2 ^ 62) place below)
     ∙ div-add-mod' bits (2 ^ 30)
 
 -- a word, as what is held

@@ -11,8 +11,8 @@ use std::marker::Model;
 /// where the format has the address of the frame's page. In a clause it is that word, if there is one.
 #[derive(Clone, Copy)]
 pub struct Word {
-    // 0 is null. Else the colour's number in the two highest bits, and 64 more than the place of the cell in the others:
-    // half as many bits as the word has, so that an object's fields take half the memory.
+    // 0 is null. Else the colour's number in the two highest bits, and 64 more than the place of the cell in the
+    // others: half as many bits as the word has, so that an object's fields take half the memory.
     bits: u32,
 }
 
@@ -41,7 +41,7 @@ impl Word {
         Word { bits: 0 }
     }
 
-    /// The word of the cell at this place, in this colour.
+    /// The word of the cell at this place, which is below 2^30 - 64, in this colour.
     #[inline(always)]
     pub fn of_place(colour: Colour, place: u32) -> Self
         requires { place + 64 < 2 ^ 30 }

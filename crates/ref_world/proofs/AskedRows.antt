@@ -1,6 +1,6 @@
 -- What a step of the world asks of its heap is a row of the world, with what it leaves in the hands.
-use Rattle.ref_world.proofs.Common.{◌≡◌, Bool, true, false, List, [], ◌∷◌, Option, Some, None, Result, Ok, Err, refl}
-use Rattle.ref_world.proofs.Common.{ap, subst, ◌∙◌, arith, told_notice, Notice, heap_refusal, refusal, State}
+use Rattle.ref_world.proofs.Common.{◌≡◌, Bool, true, false, List, [], ◌∷◌, Some, Result, Ok, Err, refl}
+use Rattle.ref_world.proofs.Common.{ap, subst, ◌∙◌, arith, told_notices, Notice, heap_refusal, refusal, State}
 use Rattle.ref_world.proofs.Common.{with_world, IsRow, Actor, Mutator, Worker, Reply, Step, WorldHeap}
 use Rattle.ref_world.proofs.Common.{HeapDoes, answer_in, after_in, HeapStands, received, Core, Hands, with_hand_in}
 use Rattle.ref_world.proofs.Common.{with_rest_in, Stands, IsRowOf, Fault, answered, Does}
@@ -26,8 +26,9 @@ hands_are c a stands = grind arith
 
 -- what a row of the heap leaves in the hands
 abbrev pub handed_in : Hands → Step → Reply → Hands
-handed_in hands (steps.Unhook m s) reply = received hands (Mutator m) (told_notice reply)
-handed_in hands (steps.Hand k) reply = received hands (Worker k) (told_notice reply)
+handed_in hands (steps.Unhook m s) reply = received hands (Mutator m) (told_notices reply)
+handed_in hands (steps.Hand k) reply = received hands (Worker k) (told_notices reply)
+handed_in hands (steps.Hands k max) reply = received hands (Worker k) (told_notices reply)
 handed_in hands (steps.Adopt m d) reply =
     if is_some (told_object reply) then with_rest_in hands (Mutator m) else hands
 handed_in hands (steps.Release who) reply = if is_done reply then with_rest_in hands who else hands
@@ -42,10 +43,10 @@ only-with : (w : World) (who : Actor) (hand : List Notice)
 only-with w (Mutator m) hand = refl
 only-with w (Worker k) hand = refl
 
-only-taking : (w : World) (who : Actor) (given : Option Notice)
+only-taking : (w : World) (who : Actor) (given : List Notice)
     → taking w who given ≡ with_hands_of w (received (hands_of w) who given)
-only-taking w who None = refl
-only-taking w who (Some notice) = only-with w who (notice ∷ [])
+only-taking w who [] = refl
+only-taking w who (notice ∷ rest) = only-with w who (notice ∷ rest)
 
 only-rest : (w : World) (who : Actor) → with_rest w who ≡ with_hands_of w (with_rest_in (hands_of w) who)
 only-rest w (Mutator m) = refl
@@ -59,8 +60,9 @@ only-if false w who = refl
 
 handed-only : (w : World) (step : Step) (reply : Reply)
     → handed w step reply ≡ with_hands_of w (handed_in (hands_of w) step reply)
-handed-only w (steps.Unhook m s) reply = only-taking w (Mutator m) (told_notice reply)
-handed-only w (steps.Hand k) reply = only-taking w (Worker k) (told_notice reply)
+handed-only w (steps.Unhook m s) reply = only-taking w (Mutator m) (told_notices reply)
+handed-only w (steps.Hand k) reply = only-taking w (Worker k) (told_notices reply)
+handed-only w (steps.Hands k max) reply = only-taking w (Worker k) (told_notices reply)
 handed-only w (steps.Adopt m d) reply = only-if (is_some (told_object reply)) w (Mutator m)
 handed-only w (steps.Release who) reply = only-if (is_done reply) w who
 handed-only w step reply = refl

@@ -1,17 +1,19 @@
 -- Rows of the steps that fill or empty a hand by way of the heap.
 use Rattle.ref_world.proofs.Common.{arith, ◌≡◌, ℕ, true, List, [], ◌∷◌, Some, None, refl, sym, ap, subst, ◌∙◌, has}
-use Rattle.ref_world.proofs.Common.{told_notice, Notice, hand_of, unless, has_slot, drop_refusal}
+use Rattle.ref_world.proofs.Common.{told_notices, Notice, hand_of, unless, has_slot, drop_refusal}
 use Rattle.ref_world.proofs.Common.{Actor, Mutator, Worker, NoSuchActor, Reply, unless_refused, HeapDoes, WorldHeap}
 use Rattle.ref_world.proofs.Common.{answer_in, received, Core, Hands, hand_in, with_rest_in, has_hand, filling_refusal}
+use Rattle.ref_world.proofs.Common.{filling_some_refusal, refusal}
 use Rattle.ref_world.proofs.Common.{emptying_refusal, IsReached, IsRowOf, heap_no_of, model_heap, State, heap_refusal}
 use Rattle.ref_world.proofs.Common.{Stands}
 use Rattle.std.proofs.Common.{◌==◌, ◌&&◌}
+use Rattle.ref_base.specs.Refusals.{fits}
 use Rattle.ref_base.specs.HeapSteps.{hold_of, spending}
 use Rattle.ref_base.specs.declared.fault.Fault.TheVariants.{ForeignHold}
 use Rattle.ref_base.specs.declared.heap_step.HoldName.{HoldName}
 use Rattle.ref_world.specs.HeapReplies.{told_reply, GivesOut, IsTold}
-use Rattle.ref_world.specs.declared.heap_machine.HeapReply.{HeapReply}
-use Rattle.ref_world.specs.declared.heap_machine.HeapReply.TheVariants.{Told, Notice as Given, Held, Back}
+use Rattle.ref_world.specs.HeapReplies.{HeapAnswer}
+use Rattle.ref_world.specs.declared.heap_machine.HeapReply.TheVariants.{Told, Notice as Given, Held, Back, Handed}
 use Rattle.ref_clear.proofs.HeapLaws.{stands_number}
 use Rattle.ref_base.proofs.HeapRowLaws.{free_unhook, free_hand, full_adopt, full_release}
 use Rattle.ref_world.proofs.AskedRows.{handed_in, asked_core, row_to, asked_row}
@@ -27,37 +29,57 @@ use Rattle.ref_base.specs.declared.step.Step.TheVariants as steps
 pub free_from : (hands : Hands) (who : Actor) → filling_refusal hands who ≡ None → hand_in hands who ≡ []
 free_from hands who accepted = grind arith
 
+-- where it may be filled with so many at most
+pub free_for_some : (hands : Hands) (who : Actor) (max : ℕ) → filling_some_refusal hands who max ≡ None
+    → (filling_refusal hands who ≡ None) × (fits max 0 ≡ true)
+free_for_some hands who max accepted = grind arith
+
 -- the hand that an unhook's notice goes to
 pub unhook_row : (c : Core) (m s : ℕ) → hand_in c.hands (Mutator m) ≡ []
     → IsRowOf c (steps.Unhook m s) (answer_in c.heap (heap.Unhook m s))
-    (asked_core c (heap.Unhook m s) (received c.hands (Mutator m) (told_notice (answer_in c.heap (heap.Unhook m s)))))
+    (asked_core c (heap.Unhook m s) (received c.hands (Mutator m) (told_notices (answer_in c.heap (heap.Unhook m s)))))
 unhook_row c m s free a stands =
     asked_row c a (steps.Unhook m s) (heap.Unhook m s) stands refl
     (free_unhook a m s (same_hand c a stands (Mutator m) ∙ free))
 
 pub hand_row : (c : Core) (k : ℕ) → hand_in c.hands (Worker k) ≡ []
     → IsRowOf c (steps.Hand k) (answer_in c.heap (heap.Hand k))
-    (asked_core c (heap.Hand k) (received c.hands (Worker k) (told_notice (answer_in c.heap (heap.Hand k)))))
+    (asked_core c (heap.Hand k) (received c.hands (Worker k) (told_notices (answer_in c.heap (heap.Hand k)))))
 hand_row c k free a stands =
     asked_row c a (steps.Hand k) (heap.Hand k) stands refl
     (free_hand a k (same_hand c a stands (Worker k) ∙ free))
 
+-- an empty hand is filled with so many at most as there is room for in it
+free_hands : (a : State) (k max : ℕ) → hand_of a.world (Worker k) ≡ []
+    → refusal a (steps.Hands k max) ≡ heap_refusal a (heap.Hands k max [])
+free_hands a k max free = grind arith
+
+pub hands_row : (c : Core) (k max : ℕ) → hand_in c.hands (Worker k) ≡ []
+    → IsRowOf c (steps.Hands k max) (answer_in c.heap (heap.Hands k max []))
+    (asked_core c (heap.Hands k max [])
+    (received c.hands (Worker k) (told_notices (answer_in c.heap (heap.Hands k max [])))))
+hands_row c k max free a stands =
+    asked_row c a (steps.Hands k max) (heap.Hands k max []) stands refl
+    (free_hands a k max (same_hand c a stands (Worker k) ∙ free))
+
 -- ---- a full hand: its first notice is a hold that the heap counts, so an adopt and a release are accepted
 
 -- what is accepted gives no hold back
-pub adopted_told : (number m d : ℕ) (hold : HoldName) (reply : HeapReply) (n : ℕ)
+pub adopted_told : (number m d : ℕ) (hold : HoldName) (reply : HeapAnswer) (n : ℕ)
     → GivesOut number (heap.Adopt m d hold) reply → told_reply reply ≡ replies.Object n → IsTold reply
 adopted_told number m d hold (Told told) n gives is = tt
 adopted_told number m d hold (Given notice) n gives is = absurd gives
 adopted_told number m d hold (Held held) n gives is = absurd gives
 adopted_told number m d hold (Back fault back) n gives is = absurd cc
+adopted_told number m d hold (Handed told batch) n gives is = absurd gives
 
-pub released_told : (number : ℕ) (hold : HoldName) (reply : HeapReply) → GivesOut number (heap.Release hold) reply
-    → told_reply reply ≡ replies.Done → IsTold reply
+pub released_told : (number : ℕ) (hold : HoldName) (reply : HeapAnswer)
+    → GivesOut number (heap.Release hold) reply → told_reply reply ≡ replies.Done → IsTold reply
 released_told number hold (Told told) gives is = tt
 released_told number hold (Given notice) gives is = absurd gives
 released_told number hold (Held held) gives is = absurd gives
 released_told number hold (Back fault back) gives is = absurd cc
+released_told number hold (Handed told batch) gives is = absurd gives
 
 -- the hold of what a notice reports: the world's heap has number 0
 abbrev pub own_hold : Notice → HoldName

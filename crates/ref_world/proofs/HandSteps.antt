@@ -2,7 +2,7 @@
 use Rattle.ref_world.proofs.Common.{◌≡◌, ℕ, ◌∷◌, [], List, None, Result, refl, subst, sym, Notice, Actor, Mutator}
 use Rattle.ref_world.proofs.Common.{Fault, Reply, Core, Hands, hand_in, emptying_refusal, filling_refusal, with_rest_in}
 use Rattle.ref_world.proofs.Common.{IsSound, Step, Does, answered, HeapDoes, WorldHeap, drop_refusal, model_heap}
-use Rattle.ref_world.proofs.Common.{answer_in, received, told_notice, IsRowOf}
+use Rattle.ref_world.proofs.Common.{answer_in, received, told_notices, IsRowOf}
 use Rattle.ref_base.specs.HeapSteps.{NamedStep}
 use Rattle.ref_base.specs.declared.heap_step.HoldName.{HoldName}
 use Rattle.ref_world.proofs.AskedRows.{as_told, does_answered, asked_core}
@@ -46,8 +46,8 @@ module _ {c now : Core} (sound : IsSound c) (seen : c ≡ now) (result : Result 
   -- an empty hand is filled with what the heap gives, if anything
   pub filled_does : (who : Actor) (step : Step) (asked : NamedStep) → filling_refusal c.hands who ≡ None
       → (hand_in c.hands who ≡ [] → IsRowOf c step (answer_in c.heap asked)
-      (asked_core c asked (received c.hands who (told_notice (answer_in c.heap asked))))) → {k : WorldHeap}
-      {hands : Hands} → hands ≡ received c.hands who (told_notice (answered result))
+      (asked_core c asked (received c.hands who (told_notices (answer_in c.heap asked))))) → {k : WorldHeap}
+      {hands : Hands} → hands ≡ received c.hands who (told_notices (answered result))
       → HeapDoes c.heap asked (answered result) k
       → Done now step result (record c { heap = k; hands = hands })
   filled_does who step asked free row {k} {hands} is does =

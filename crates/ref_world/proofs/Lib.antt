@@ -1,9 +1,12 @@
 pub mod Common
 pub mod HeapSteps
+pub mod OneQueueHands
 pub mod ReachedCores
 pub mod AskedRows
 pub mod Refusals
 pub mod HandRows
+pub mod HandedNotices
+pub mod BatchWorlds
 pub mod QueueRows
 pub mod SoundCores
 pub mod HandSteps

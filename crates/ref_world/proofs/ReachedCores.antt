@@ -10,6 +10,7 @@ use Rattle.ref_base.proofs.LegalQueues.{run_sound}
 use Rattle.ref_base.proofs.RowLaws.{actor_has}
 use Rattle.ref_base.proofs.RunLaws.{holds_after, run_more}
 use Rattle.ref_base.proofs.SoundWorlds.{IsSound, NoticesBelow, first_sound}
+use Rattle.ref_world.proofs.OneQueueHands.{OfOne, HandsOfOne, of_one_queue, row_of_one, none_of_one}
 use Rattle.ref_mark.specs.MarkRows.{starting_state}
 use Rattle.ref_objects.specs.declared.start.Start.{Start}
 
@@ -108,3 +109,14 @@ module _ (c : Core) (reached : IsReached c) where
       subst (NoticesBelow reached.state.world.heap.config.queues) (same_hand c reached.state reached.stands who ∙ full)
       (sound.hands_below who) in
       subst (λ (qs : List (Lists Notice)). notice.queue < length qs) reached.stands.queues (rw sound.queues below.0)
+
+  -- and all that a hand holds is for one queue
+  of_one : HandsOfOne reached.state.world
+  of_one =
+      holds_after IsRow first (λ past a. HandsOfOne a.world)
+      (λ past a row b before is h. row_of_one a row b (run_sound first past a first_is before) is h)
+      (none_of_one reached.config) reached.rows reached.state reached.run
+
+  pub hand_of_one : (who : Actor) → OfOne (hand_in c.hands who)
+  hand_of_one who =
+      subst OfOne (same_hand c reached.state reached.stands who) (of_one_queue reached.state.world who of_one)

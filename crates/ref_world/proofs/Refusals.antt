@@ -1,12 +1,13 @@
 -- Where a step of the world is refused before its heap or a queue is asked.
-use Rattle.ref_world.proofs.Common.{arith, ◌≡◌, ℕ, ◌<◌, length, Bool, true, false, Option, Some, None}
+use Rattle.ref_world.proofs.Common.{arith, ◌≡◌, ℕ, ◌<◌, [], length, Bool, true, false, Option, Some, None}
 use Rattle.ref_world.proofs.Common.{refl, sym, ap, subst, ◌∙◌, hand_of, unless, empty_hand_refusal, has_slot}
 use Rattle.ref_world.proofs.Common.{is_actor, drop_refusal, heap_refusal, refusal, State, Actor, Mutator, Worker}
-use Rattle.ref_world.proofs.Common.{Config, Fault, NoSuchActor, Step, Core, filling_refusal, emptying_refusal}
+use Rattle.ref_world.proofs.Common.{Config, Fault, NoSuchActor, Step, Core, filling_refusal, filling_some_refusal}
+use Rattle.ref_world.proofs.Common.{emptying_refusal}
 use Rattle.ref_world.proofs.Common.{calling_refusal, Stands, IsReached, IsRowOf, model_heap}
 use Rattle.std.specs.Prelude.{nat_lt}
-use Rattle.ref_base.specs.Refusals.{unless_full, is_mutator, is_queue}
-use Rattle.ref_base.specs.declared.fault.Fault.TheVariants.{BadQueue}
+use Rattle.ref_base.specs.Refusals.{unless_full, is_mutator, is_queue, fits}
+use Rattle.ref_base.specs.declared.fault.Fault.TheVariants.{BadConfig, BadQueue}
 use Rattle.ref_world.specs.Cores.{queue_refusal}
 use Rattle.ref_base.proofs.RowForms.{unless_passes}
 use Rattle.ref_world.proofs.ReachedCores.{same_config, same_hand, same_actors, queue_count}
@@ -51,6 +52,14 @@ module _ (c : Core) (reached : IsReached c) where
       → unless (is_actor a.world.heap who) NoSuchActor (unless_full (hand_of a.world who) later) ≡ Some fault
   filling who fault refused later a stands = grind (arith, same_actors)
 
+  -- or one that is asked to take none, or more than it has room for
+  filling_some : (who : Actor) (max : ℕ) (fault : Fault) → filling_some_refusal c.hands who max ≡ Some fault
+      → (later : Option Fault) → (a : State) → Stands c a
+      → unless (is_actor a.world.heap who) NoSuchActor
+      (unless (fits max (length (hand_of a.world who))) BadConfig (unless_full (hand_of a.world who) later))
+      ≡ Some fault
+  filling_some who max fault refused later a stands = grind (arith, same_actors)
+
   emptying : (who : Actor) (fault : Fault) → emptying_refusal c.hands who ≡ Some fault → (a : State) → Stands c a
       → unless (is_actor a.world.heap who) NoSuchActor (empty_hand_refusal (hand_of a.world who)) ≡ Some fault
   emptying who fault refused a stands =
@@ -77,6 +86,12 @@ module _ (c : Core) (reached : IsReached c) where
       refused_row c (steps.Hand k) fault (λ a stands.
       filling (Worker k) fault refused (heap_refusal a (heap.Hand k)) a stands)
 
+  pub full_at_hands : (k max : ℕ) (fault : Fault) → filling_some_refusal c.hands (Worker k) max ≡ Some fault
+      → IsRowOf c (steps.Hands k max) (replies.Refused fault) c
+  full_at_hands k max fault refused =
+      refused_row c (steps.Hands k max) fault (λ a stands.
+      filling_some (Worker k) max fault refused (heap_refusal a (heap.Hands k max [])) a stands)
+
   pub full_at_poll : (m q : ℕ) (fault : Fault) → calling_refusal c m q ≡ None
       → filling_refusal c.hands (Mutator m) ≡ Some fault → IsRowOf c (steps.Poll m q) (replies.Refused fault) c
   full_at_poll m q fault called refused =
@@ -87,6 +102,19 @@ module _ (c : Core) (reached : IsReached c) where
       rw (there, same_queues c a stands q ∙ queue.0)
       (subst (λ test. unless test NoSuchActor (unless_full (hand_of a.world (Mutator m)) None) ≡ Some fault) there
       (filling (Mutator m) fault refused None a stands)))
+
+  pub full_at_polls : (m q max : ℕ) (fault : Fault) → calling_refusal c m q ≡ None
+      → filling_some_refusal c.hands (Mutator m) max ≡ Some fault
+      → IsRowOf c (steps.Polls m q max) (replies.Refused fault) c
+  full_at_polls m q max fault called refused =
+      refused_row c (steps.Polls m q max) fault (λ a stands.
+      let mutator = unless_passes (is_mutator (model_heap c.heap) m) NoSuchActor (queue_refusal c q) called in
+      let queue = unless_passes (is_queue (model_heap c.heap) q) BadQueue None mutator.1 in
+      let there : is_mutator a.world.heap m ≡ true = same_mutators c a stands m ∙ mutator.0 in
+      rw (there, same_queues c a stands q ∙ queue.0)
+      (subst (λ test. unless test NoSuchActor (unless (fits max (length (hand_of a.world (Mutator m)))) BadConfig
+      (unless_full (hand_of a.world (Mutator m)) None)) ≡ Some fault) there
+      (filling_some (Mutator m) max fault refused None a stands)))
 
   -- the queue of an accepted call is there
   pub queue_within : (m q : ℕ) → calling_refusal c m q ≡ None → q < length c.queues
@@ -108,3 +136,7 @@ module _ (c : Core) (reached : IsReached c) where
   pub empty_at_put : (who : Actor) (fault : Fault) → emptying_refusal c.hands who ≡ Some fault
       → IsRowOf c (steps.Put who) (replies.Refused fault) c
   empty_at_put who fault refused = refused_row c (steps.Put who) fault (emptying who fault refused)
+
+  pub empty_at_puts : (who : Actor) (fault : Fault) → emptying_refusal c.hands who ≡ Some fault
+      → IsRowOf c (steps.Puts who) (replies.Refused fault) c
+  empty_at_puts who fault refused = refused_row c (steps.Puts who) fault (emptying who fault refused)

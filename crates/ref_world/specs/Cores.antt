@@ -1,6 +1,7 @@
 -- The core, as plain data: the heap, everybody's hands and the queues (this project's profile).
-use Rattle.std.specs.Prelude.{ℕ, Bool, ◌&&◌, nat_lt, List, [], ◌∷◌, Option, Some, None, length, replicate}
+use Rattle.std.specs.Prelude.{◌≡◌, ℕ, Bool, ◌&&◌, nat_lt, List, [], ◌∷◌, Option, Some, None, length, replicate}
 use Rattle.std.specs.Prelude.{slice_index_or, slice_set}
+use Rattle.ref_base.specs.HeapSteps.{HeldNotice}
 use Rattle.ref_base.specs.Members.{rest_of}
 use Rattle.ref_base.specs.QueueLists.{Lists, new_queue, new_queues}
 use Rattle.ref_base.specs.Worlds.{Notice}
@@ -8,10 +9,10 @@ use Rattle.ref_base.specs.declared.actor.Actor.{Actor}
 use Rattle.ref_base.specs.declared.actor.Actor.TheVariants.{Mutator, Worker}
 use Rattle.ref_base.specs.declared.config.Config.{Config}
 use Rattle.ref_base.specs.declared.fault.Fault.{Fault}
-use Rattle.ref_base.specs.declared.fault.Fault.TheVariants.{NoSuchActor, BadQueue}
-use Rattle.ref_base.specs.Refusals.{unless, unless_full, empty_hand_refusal, is_mutator, is_queue}
+use Rattle.ref_base.specs.declared.fault.Fault.TheVariants.{NoSuchActor, BadConfig, BadQueue}
+use Rattle.ref_base.specs.Refusals.{unless, unless_full, empty_hand_refusal, is_mutator, is_queue, fits}
 use Rattle.ref_objects.specs.declared.start.Start.{Start}
-use Rattle.ref_clear.specs.ClearHeaps.{HeldNotice, first_clear_heap}
+use Rattle.ref_clear.specs.ClearHeaps.{first_clear_heap}
 use Rattle.ref_world.specs.WorldHeaps.{WorldHeap, model_heap}
 
 -- the notices in the hands of mutators and of workers, each in the order of their numbers
@@ -28,6 +29,10 @@ pub record Core : Type 0 where
 -- a notice, but for its heap
 abbrev pub as_notice : HeldNotice → Notice
 as_notice held = record { object = held.hold.object; queue = held.queue; cause = held.cause }
+
+-- and it is of the world's own heap
+abbrev pub IsOfWorld : HeldNotice → Type 0
+IsOfWorld held = held.hold.heap_no ≡ 0
 
 -- ---- at first there is nothing anywhere
 
@@ -72,11 +77,22 @@ with_rest_in hands who = with_hand_in hands who (rest_of (hand_in hands who))
 
 -- whether there is such a hand, and it has room for one more notice
 abbrev pub has_room : Hands → Actor → Bool
-has_room hands who = has_hand hands who && nat_lt (length (hand_in hands who)) 1
+has_room hands who = has_hand hands who && nat_lt (length (hand_in hands who)) 32
+
+-- the queue that the first notice is for, if there is one
+abbrev pub queue_if_any : List Notice → Option ℕ
+queue_if_any [] = None
+queue_if_any (notice ∷ rest) = Some notice.queue
 
 -- of a step that fills a hand: NoSuchActor, then HandFull
 abbrev pub filling_refusal : Hands → Actor → Option Fault
 filling_refusal hands who = unless (has_hand hands who) NoSuchActor (unless_full (hand_in hands who) None)
+
+-- and of one that fills it with so many at most: BadConfig comes between where they aren't one at least, or don't fit
+abbrev pub filling_some_refusal : Hands → Actor → ℕ → Option Fault
+filling_some_refusal hands who max =
+    unless (has_hand hands who) NoSuchActor
+    (unless (fits max (length (hand_in hands who))) BadConfig (unless_full (hand_in hands who) None))
 
 -- and of one that takes its first notice: NoSuchActor, then HandEmpty
 abbrev pub emptying_refusal : Hands → Actor → Option Fault

@@ -1,15 +1,22 @@
--- What a queue answers to a step of the world, and the notice that is then left for the hand (this project's profile).
-use Rattle.std.specs.Prelude.{◌≡◌, Option, Some, None, Result, Ok, Err}
+-- What a queue answers to a step of the world, and what is then left for the hand (this project's profile).
+use Rattle.std.specs.Prelude.{◌≡◌, ℕ, List, [], Option, Some, None, Result, Ok, Err}
+use Rattle.ref_base.specs.Outs.{Outs}
+use Rattle.ref_base.specs.QueueBatches.{TellsBatch, after_each}
 use Rattle.ref_base.specs.QueueLists.{Lists}
 use Rattle.ref_base.specs.Worlds.{Notice, object_of}
 use Rattle.ref_base.specs.declared.fault.Fault.{Fault}
 use Rattle.ref_base.specs.declared.reply.Reply.{Reply}
 use Rattle.ref_base.specs.declared.reply.Reply.TheVariants as replies
+use Rattle.ref_base.specs.declared.actor.Actor.TheVariants.{Mutator}
 use Rattle.ref_queue.specs.QueueAnswers.{AnswersPut, after_put, AnswersPoll}
+use Rattle.ref_queue.specs.QueueBatches.{AnswersPolls}
 use Rattle.ref_queue.specs.declared.queue.Put.{Put}
 use Rattle.ref_queue.specs.declared.queue.Put.TheVariants.{Added, Already, Closed}
 use Rattle.ref_queue.specs.declared.queue.Polled.{Polled}
 use Rattle.ref_queue.specs.declared.queue.Polled.TheVariants.{Took, Empty, Closed as Ended}
+use Rattle.ref_queue.specs.declared.queue.PolledBatch.{PolledBatch}
+use Rattle.ref_queue.specs.declared.queue.PolledBatch.TheVariants as polled
+use Rattle.ref_world.specs.Cores.{Hands, with_hand_in}
 
 -- the reply to a put
 abbrev pub put_reply : Result (Put Notice) (Fault × Notice) → Result Reply Fault
@@ -52,3 +59,23 @@ pub record PollsOne (q : Lists Notice) (reply : Reply) (taken : Option Notice) (
   pub answers : AnswersPoll object_of q polled r
   pub reply_is : reply ≡ poll_reply polled
   pub taken_is : taken ≡ taken_by_poll polled
+
+-- ---- batches
+
+-- a put of several notices into their queue, one after the other, with what becomes of each
+pub record PutsEach (q : Lists Notice) (hand : List Notice) (outs : Outs) (r : Lists Notice) : Type 0 where
+  pub tells : TellsBatch object_of (λ n. n.queue) q hand outs
+  pub after : r ≡ after_each q hand outs.done
+
+-- the reply to a poll of several
+abbrev pub polls_reply : PolledBatch → Reply
+polls_reply (polled.Took numbers) = replies.TookSome numbers
+polls_reply polled.Empty = replies.Empty
+polls_reply polled.Closed = replies.Closed
+
+-- a poll of at most so many into a mutator's hand, which is empty, with what it answers and the hands after it
+pub record PollsSome (q : Lists Notice) (max : ℕ) (hands : Hands) (m : ℕ) (answer : PolledBatch) (r : Lists Notice)
+    (left : Hands) : Type 0 where
+  pub taken : List Notice
+  pub answers : AnswersPolls object_of q max [] answer r taken
+  pub left_is : left ≡ with_hand_in hands (Mutator m) taken

@@ -1,19 +1,21 @@
 //! The heap's own machine: one step in, one reply out, with the holds and notices that go with them.
 
-ghost use Rattle.std.specs.Prelude.{◌≡◌, true};
+ghost use Rattle.std.specs.Prelude.{◌≡◌, true, ◌++◌};
 ghost use Rattle.ref_base.specs.Collectors.{State};
 ghost use Rattle.ref_base.specs.CollectorRows.{IsHeapRow};
+ghost use Rattle.ref_base.specs.Told.{told_notices};
 ghost use Rattle.ref_mark.specs.MarkCalls.{reply_of, reply_or_back, hold_reply, done_reply};
-ghost use Rattle.ref_clear.specs.ClearCalls.{HeapDoes, notice_reply, IsOfHeap};
+ghost use Rattle.ref_clear.specs.ClearCalls.{HeapDoes, notice_reply, IsOfHeap, held_notices};
 ghost use Rattle.ref_clear.specs.Standing.{HeapStands};
 ghost use Rattle.ref_world.specs.HeapReplies.{told_reply, GivesOut, IsGiven, IsHeld, IsBack, IsTold};
 ghost use Rattle.ref_world.specs.Standing.{answered};
 ghost use Rattle.ref_world.specs.WorldHeaps.{heap_no_of};
 
+use crate::hand::is_within;
 use crate::replies::{
-    began, done, doomed, looked, made, moved, refers, scanned, selected, swept, value,
+    began, done, doomed, handed_on, looked, made, moved, refers, scanned, selected, swept, value,
 };
-use ref_base::{Fault, HeapStep, ObjNo, PlainStep, Reply};
+use ref_base::{Batch, Fault, HeapStep, ObjNo, PlainStep, Reply, WorkerNo};
 use ref_clear::Notice;
 use ref_move::MovingHeap;
 use ref_objects::Hold;
@@ -22,9 +24,12 @@ use std::alloc::{Allocator, Global};
 /// The heap that a world has.
 pub type WorldHeap<A = Global> = MovingHeap<A>;
 
+/// A step of a heap that has the hold which it spends, and the batch which it fills.
+pub type HeapCall<A = Global> = HeapStep<Hold, Batch<Notice, A>>;
+
 /// What a step of a heap answers, with what it gives out.
 #[derive(Debug)]
-pub enum HeapReply {
+pub enum HeapReply<B> {
     /// The reply, and nothing is given out.
     Told(Reply),
     /// The notice that an unhook or a hand gives.
@@ -33,11 +38,20 @@ pub enum HeapReply {
     Held(Hold),
     /// An adopt or a release is refused with this fault, and its hold comes back.
     Back(Fault, Hold),
+    /// The reply to a hand of a batch, refused or not, and the batch, which always comes back: behind what was in it
+    /// stand the notices that are told.
+    Handed(Reply, B),
 }
 
+/// What a step of a heap answers, with the batch that was to be filled.
+pub type HeapAnswer<A = Global> = HeapReply<Batch<Notice, A>>;
+
 /// Does one step of a heap, and answers it. Refused, with the first fault that applies, it has changed nothing, and the
-/// hold of an adopt or a release comes back. Costs are those of the heap's calls. Takes no memory.
-pub fn apply_heap<A: Allocator + Copy>(heap: &mut WorldHeap<A>, step: HeapStep<Hold>) -> HeapReply
+/// hold of an adopt or a release comes back. The batch of a hand of several comes back whatever is answered; such a
+/// hand is `BadConfig`, behind `NoSuchActor`, where it asks for none or for more than the batch has room for. Costs are
+/// those of the heap's calls. Takes no memory.
+#[inline(always)]
+pub fn apply_heap<A: Allocator + Copy>(heap: &mut WorldHeap<A>, step: HeapCall<A>) -> HeapAnswer<A>
     ensures does { HeapDoes heap.old step (told_reply result) heap.new }
     ensures gives { GivesOut (heap_no_of heap.old) step result }
 
@@ -49,7 +63,8 @@ pub fn apply_heap<A: Allocator + Copy>(heap: &mut WorldHeap<A>, step: HeapStep<H
 }
 
 // The call of the heap that does the step. That it is a row follows from these clauses, once for all steps.
-fn called<A: Allocator + Copy>(heap: &mut WorldHeap<A>, step: HeapStep<Hold>) -> HeapReply
+#[inline(always)]
+fn called<A: Allocator + Copy>(heap: &mut WorldHeap<A>, step: HeapCall<A>) -> HeapAnswer<A>
     ensures does { HeapDoes heap.old step (told_reply result) heap.new }
     ensures gives { GivesOut (heap_no_of heap.old) step result }
 {
@@ -64,10 +79,12 @@ fn called<A: Allocator + Copy>(heap: &mut WorldHeap<A>, step: HeapStep<Hold>) ->
         HeapStep::Release { hold } => released(heap.release(hold)),
         HeapStep::Unhook { mutator, reference } => given(heap.unhook(mutator, reference)),
         HeapStep::Hand { worker } => given(heap.hand(worker)),
+        HeapStep::Hands { worker, max, batch } => handed(heap, worker, max, batch),
     }
 }
 
 // The call of the heap that does a step which hands nothing over.
+#[inline(always)]
 fn plain_call<A: Allocator + Copy>(heap: &mut WorldHeap<A>, step: PlainStep) -> Reply
     ensures { HeapDoes heap.old (HeapStep.Plain step) result heap.new }
 {
@@ -127,8 +144,46 @@ fn plain_call<A: Allocator + Copy>(heap: &mut WorldHeap<A>, step: PlainStep) -> 
     }
 }
 
+// A hand of several, which come into the batch: NoSuchActor, then BadConfig.
+#[inline(never)]
+fn handed<A: Allocator + Copy>(
+    heap: &mut WorldHeap<A>,
+    worker: WorkerNo,
+    max: u32,
+    batch: Batch<Notice, A>,
+) -> HeapAnswer<A>
+    ensures does { HeapDoes heap.old (HeapStep.Hands worker max batch) (told_reply result) heap.new }
+    ensures gives { GivesOut (heap_no_of heap.old) (HeapStep.Hands worker max batch) result }
+{
+    let mut batch = batch;
+    let reply = handed_into(heap, worker, max, &mut batch);
+    HeapReply::Handed(reply, batch)
+}
+
+// The reply to a hand of several.
+fn handed_into<A: Allocator + Copy>(
+    heap: &mut WorldHeap<A>,
+    worker: WorkerNo,
+    max: u32,
+    batch: &mut Batch<Notice, A>,
+) -> Reply
+    ensures does { HeapDoes heap.old (HeapStep.Hands worker max batch.old) result heap.new }
+    ensures given { batch.new ≡ batch.old ++ held_notices (heap_no_of heap.old) (told_notices result) }
+{
+    if worker.0 >= heap.config().workers {
+        return Reply::Refused(Fault::NoSuchActor);
+    }
+    if !is_within(max, batch.len()) {
+        return Reply::Refused(Fault::BadConfig);
+    }
+    match heap.hand_batch(worker, max, batch) {
+        Ok(handed) => handed_on(worker, handed),
+        Err(fault) => Reply::Refused(fault),
+    }
+}
+
 // A hold, or the fault.
-fn held(answer: Result<Hold, Fault>) -> HeapReply
+fn held<A: Allocator>(answer: Result<Hold, Fault>) -> HeapAnswer<A>
     ensures answer { told_reply result ≡ reply_of hold_reply answer }
     ensures held { IsHeld answer result }
 {
@@ -139,7 +194,7 @@ fn held(answer: Result<Hold, Fault>) -> HeapReply
 }
 
 // A notice, none, or the fault.
-fn given(answer: Result<Option<Notice>, Fault>) -> HeapReply
+fn given<A: Allocator>(answer: Result<Option<Notice>, Fault>) -> HeapAnswer<A>
     ensures answer { told_reply result ≡ reply_of notice_reply answer }
     ensures given { IsGiven answer result }
 {
@@ -151,7 +206,7 @@ fn given(answer: Result<Option<Notice>, Fault>) -> HeapReply
 }
 
 // The object of the hold that was taken back, or the fault with the hold.
-fn adopted(answer: Result<ObjNo, (Fault, Hold)>) -> HeapReply
+fn adopted<A: Allocator>(answer: Result<ObjNo, (Fault, Hold)>) -> HeapAnswer<A>
     ensures answer { told_reply result ≡ reply_or_back Reply.Object answer }
     ensures back { IsBack answer result }
 {
@@ -162,7 +217,7 @@ fn adopted(answer: Result<ObjNo, (Fault, Hold)>) -> HeapReply
 }
 
 // That the hold was taken back, or the fault with the hold.
-fn released(answer: Result<(), (Fault, Hold)>) -> HeapReply
+fn released<A: Allocator>(answer: Result<(), (Fault, Hold)>) -> HeapAnswer<A>
     ensures answer { told_reply result ≡ reply_or_back done_reply answer }
     ensures back { IsBack answer result }
 {
@@ -173,7 +228,8 @@ fn released(answer: Result<(), (Fault, Hold)>) -> HeapReply
 }
 
 // The reply of a step that gives nothing out, or why it is refused.
-pub(crate) fn told(reply: HeapReply) -> Result<Reply, Fault>
+#[inline(always)]
+pub(crate) fn told<A: Allocator>(reply: HeapAnswer<A>) -> Result<Reply, Fault>
     requires { IsTold reply }
     ensures { answered result ≡ told_reply reply }
 {

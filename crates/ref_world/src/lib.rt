@@ -6,11 +6,12 @@ mod hand;
 mod hands;
 mod heap_machine;
 mod notice;
+mod passage;
 mod replies;
 mod trace;
 mod world;
 
-pub use heap_machine::{HeapReply, WorldHeap, apply_heap};
+pub use heap_machine::{HeapAnswer, HeapCall, HeapReply, WorldHeap, apply_heap};
 pub use notice::WorldNotice;
 pub use ref_base::{HeapStep, PlainStep, Reply, Row, Step};
 pub use trace::{Trace, run};

@@ -22,8 +22,8 @@ use ref_queue::Queue;
 use std::alloc::{AllocError, Allocator, Global};
 use std::marker::Model;
 
-/// One heap, of number 0, its queues, and a hand for each mutator and each worker, which holds one notice at most. It
-/// must be ended by `end`.
+/// One heap, of number 0, its queues, and a hand for each mutator and each worker, which holds 32 notices at most, all
+/// for one queue. It must be ended by `end`.
 ///
 /// All its memory is taken as it is made, but for what is put into queues.
 pub struct World<A: Allocator = Global> {
@@ -60,9 +60,7 @@ impl<A: Allocator + Copy> World<A> {
         ensures stands { IfOk result (λ world. Stands world (starting_state config 0 start.obj start.cycle)) }
     {
         let heap = WorldHeap::starting(alloc, config, 0, start)?;
-        let Ok(hands) = Hands::new(alloc, config) else {
-            return Err(Fault::NoMemory);
-        };
+        let hands = Hands::new(alloc, config)?;
         match empty_queues(alloc, config.queues) {
             Ok(queues) => Ok(World {
                 heap,

@@ -10,7 +10,7 @@ use Rattle.ref_base.specs.declared.urgency.Urgency.{Urgency}
 use Rattle.ref_base.specs.declared.step.Step.{Step}
 use Rattle.ref_base.specs.declared.plain_step.PlainStep.TheVariants.{Store, Load, EndMark, EndClear, EndSweep}
 use Rattle.ref_base.specs.declared.plain_step.PlainStep.TheVariants.{Select, EndMove}
-use Rattle.ref_base.specs.declared.step.Step.TheVariants.{Release}
+use Rattle.ref_base.specs.declared.step.Step.TheVariants.{Release, Puts, Polls, Hands}
 use Rattle.refrun.specs.StepForms.{Form}
 use Rattle.ref_base.specs.declared.step.Step.TheVariants as steps
 use Rattle.refrun.specs.declared.script_step.ScriptStep.TheVariants as scripts
@@ -103,6 +103,13 @@ form_of_world_step (steps.Plain (Load m d s i)) =
     ((d, refl), ((s, refl), ((i, refl), tt)))
 form_of_world_step (Put (Mutator m)) = alone 109 m (codes "put") refl
 form_of_world_step (Put (Worker w)) = alone 119 w (codes "put") refl
+form_of_world_step (Puts (Mutator m)) = alone 109 m (codes "puts") refl
+form_of_world_step (Puts (Worker w)) = alone 119 w (codes "puts") refl
+form_of_world_step (Polls m q max) =
+    has_form (By 109 m) (codes "polls") (Queue ∷ Number ∷ []) (queue q ∷ number max ∷ []) refl
+    ((q, refl), ((max, refl), tt))
+form_of_world_step (Hands w max) =
+    has_form (By 119 w) (codes "hands") (Number ∷ []) (number max ∷ []) refl ((max, refl), tt)
 form_of_world_step (Release (Mutator m)) = alone 109 m (codes "release") refl
 form_of_world_step (Release (Worker w)) = alone 119 w (codes "release") refl
 form_of_world_step (steps.Plain (Begin now urgency)) =

@@ -19,8 +19,8 @@ pub record Form : Type 0 where
 abbrev pub form : List ℕ → List Operand → Form
 form name operands = record { name = name; operands = operands }
 
--- the steps of a mutator: those that make objects, those of slots and fields, those of references, and those of queues
--- and notices
+-- the steps of a mutator: those that make objects, those of slots and fields, those of references, those of queues and
+-- notices, and those of several notices at once
 abbrev pub making_forms : List Form
 making_forms =
     form (codes "new") (Slot ∷ Number ∷ [])
@@ -54,25 +54,36 @@ notice_forms =
     ∷ form (codes "close") (Queue ∷ [])
     ∷ []
 
+-- and those of several notices at once
+abbrev pub batch_forms : List Form
+batch_forms = form (codes "puts") [] ∷ form (codes "polls") (Queue ∷ Number ∷ []) ∷ []
+
 -- the steps of a mutator in the world
 abbrev pub mutator_forms : List Form
-mutator_forms = making_forms ++ slot_forms ++ reference_forms ++ notice_forms
+mutator_forms = making_forms ++ slot_forms ++ reference_forms ++ notice_forms ++ batch_forms
 
 -- and its steps of jobs
 abbrev pub job_forms : List Form
 job_forms = form (codes "job") (Slot ∷ Number ∷ []) ∷ form (codes "run") (Slot ∷ []) ∷ []
 
--- the steps of a worker
-abbrev pub worker_forms : List Form
-worker_forms =
+-- the steps of a worker: those that have no operands, and that of several notices at once
+abbrev pub work_forms : List Form
+work_forms =
     form (codes "scan") []
     ∷ form (codes "clearnext") []
     ∷ form (codes "hand") []
     ∷ form (codes "sweep") []
     ∷ form (codes "move") []
     ∷ form (codes "put") []
+    ∷ form (codes "puts") []
     ∷ form (codes "release") []
     ∷ []
+
+abbrev pub hands_forms : List Form
+hands_forms = form (codes "hands") (Number ∷ []) ∷ []
+
+abbrev pub worker_forms : List Form
+worker_forms = work_forms ++ hands_forms
 
 -- the steps that have no actor: the turns of a cycle, and those of moves
 abbrev pub turn_forms : List Form

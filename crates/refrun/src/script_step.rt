@@ -2,7 +2,7 @@
 
 ghost use Rattle.std.specs.Prelude.{Some};
 ghost use Rattle.ref_base.specs.Texts.{text_of};
-ghost use Rattle.refrun.specs.ScriptSteps.{script_step_words, script_reply_words, script_row_text};
+ghost use Rattle.refrun.specs.ScriptSteps.{script_step_words, script_reply_text, script_row_text};
 
 use ref_base::{MutNo, Reply, SlotNo, Step};
 use ref_queue::Ran;
@@ -67,11 +67,11 @@ impl fmt::Display for ScriptStep {
 }
 
 impl fmt::Display for ScriptReply {
-    ghost output = { λ reply. Some (text_of (script_reply_words reply)) };
+    ghost output = { λ reply. Some (script_reply_text reply) };
 
     fn fmt<W: fmt::Write>(&self, f: &mut fmt::Formatter<W>) -> fmt::Result {
-        match *self {
-            ScriptReply::World(reply) => fmt::Display::fmt(&reply, f),
+        match self {
+            ScriptReply::World(reply) => fmt::Display::fmt(reply, f),
             ScriptReply::Registered => f.write_str("ok"),
             ScriptReply::Used => f.write_str("used"),
             ScriptReply::Ran(Ran { number, answer }) => write!(f, "ran {number} {answer}"),
@@ -84,8 +84,8 @@ impl fmt::Display for ScriptRow {
     ghost output = { λ row. Some (script_row_text row) };
 
     fn fmt<W: fmt::Write>(&self, f: &mut fmt::Formatter<W>) -> fmt::Result {
-        let step = self.step;
-        let reply = self.reply;
+        let step = &self.step;
+        let reply = &self.reply;
         write!(f, "{step} : {reply}")
     }
 }

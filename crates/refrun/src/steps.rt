@@ -9,8 +9,8 @@ ghost use Rattle.refrun.specs.ScriptSteps.{script_step_words};
 ghost use Rattle.refrun.specs.Spelling.{SpellsScriptStep};
 ghost use Rattle.refrun.specs.StepFaults.{actor_fault, step_fault};
 ghost use Rattle.refrun.specs.StepForms.{operands_in, forms_of_letter, job_forms, mutator_forms, slot_forms};
-ghost use Rattle.refrun.specs.StepForms.{reference_forms, notice_forms, worker_forms, turn_forms};
-ghost use Rattle.refrun.specs.StepForms.{Slot, QueueOrNone, Number};
+ghost use Rattle.refrun.specs.StepForms.{reference_forms, notice_forms, batch_forms, worker_forms, hands_forms};
+ghost use Rattle.refrun.specs.StepForms.{turn_forms, Slot, QueueOrNone, Number};
 
 use crate::lines::next_word;
 use crate::operands::Operands;
@@ -123,8 +123,8 @@ fn refer(by: MutNo, strength: Strength, operands: &mut Operands<'_>) -> Step
 
 /// The step of a mutator with slots and fields, or with what stands in them.
 fn slot_step(by: MutNo, name: &[u8], operands: &mut Operands<'_>) -> Option<Step>
-    ensures { IsReadAs step_words (slot_forms ++ reference_forms ++ notice_forms) (mutator by) name.now operands.old
-        operands.new result }
+    ensures { IsReadAs step_words (slot_forms ++ reference_forms ++ notice_forms ++ batch_forms) (mutator by) name.now
+        operands.old operands.new result }
 {
     if name == b"store".as_slice() {
         return Some(Step::Plain(PlainStep::Store {
@@ -160,7 +160,7 @@ fn slot_step(by: MutNo, name: &[u8], operands: &mut Operands<'_>) -> Option<Step
 
 /// The step of a mutator with a reference, or with a queue or a notice.
 fn reference_step(by: MutNo, name: &[u8], operands: &mut Operands<'_>) -> Option<Step>
-    ensures { IsReadAs step_words (reference_forms ++ notice_forms) (mutator by) name.now operands.old
+    ensures { IsReadAs step_words (reference_forms ++ notice_forms ++ batch_forms) (mutator by) name.now operands.old
         operands.new result }
 {
     if name == b"get".as_slice() {
@@ -194,7 +194,7 @@ fn reference_step(by: MutNo, name: &[u8], operands: &mut Operands<'_>) -> Option
 
 /// The step of a mutator with a queue or a notice.
 fn notice_step(by: MutNo, name: &[u8], operands: &mut Operands<'_>) -> Option<Step>
-    ensures { IsReadAs step_words notice_forms (mutator by) name.now operands.old operands.new result }
+    ensures { IsReadAs step_words (notice_forms ++ batch_forms) (mutator by) name.now operands.old operands.new result }
 {
     if name == b"put".as_slice() {
         return Some(Step::Put {
@@ -224,10 +224,29 @@ fn notice_step(by: MutNo, name: &[u8], operands: &mut Operands<'_>) -> Option<St
             queue: operands.queue(),
         });
     }
+    batch_step(by, name, operands)
+}
+
+/// The step of a mutator with several notices at once.
+fn batch_step(by: MutNo, name: &[u8], operands: &mut Operands<'_>) -> Option<Step>
+    ensures { IsReadAs step_words batch_forms (mutator by) name.now operands.old operands.new result }
+{
+    if name == b"puts".as_slice() {
+        return Some(Step::Puts {
+            actor: Actor::Mutator(by),
+        });
+    }
+    if name == b"polls".as_slice() {
+        return Some(Step::Polls {
+            mutator: by,
+            queue: operands.queue(),
+            max: operands.number(),
+        });
+    }
     None
 }
 
-/// The step of a worker, which has no operands.
+/// The step of a worker: one without operands, or one with several notices at once.
 fn worker_step(by: WorkerNo, name: &[u8], operands: &mut Operands<'_>) -> Option<Step>
     ensures { IsReadAs step_words worker_forms (worker by) name.now operands.old operands.new result }
 {
@@ -251,9 +270,27 @@ fn worker_step(by: WorkerNo, name: &[u8], operands: &mut Operands<'_>) -> Option
             actor: Actor::Worker(by),
         });
     }
+    if name == b"puts".as_slice() {
+        return Some(Step::Puts {
+            actor: Actor::Worker(by),
+        });
+    }
     if name == b"release".as_slice() {
         return Some(Step::Release {
             actor: Actor::Worker(by),
+        });
+    }
+    hands_step(by, name, operands)
+}
+
+/// The step of a worker that hands on several notices at once.
+fn hands_step(by: WorkerNo, name: &[u8], operands: &mut Operands<'_>) -> Option<Step>
+    ensures { IsReadAs step_words hands_forms (worker by) name.now operands.old operands.new result }
+{
+    if name == b"hands".as_slice() {
+        return Some(Step::Hands {
+            worker: by,
+            max: operands.number(),
         });
     }
     None

@@ -1,8 +1,8 @@
 //! The texts of numbers, faults, strengths, steps, replies and rows.
 
 use ref_base::{
-    Actor, Cause, Fault, MutNo, ObjNo, PlainStep, QueueNo, Reach, Reply, Row, SlotNo, Step,
-    Strength, Urgency, WorkerNo,
+    Actor, Cause, Done, Fault, MOST_IN_BATCH, MutNo, Nos, ObjNo, Outs, PlainStep, QueueNo, Reach,
+    Reply, Row, SlotNo, Step, Strength, Urgency, WorkerNo,
 };
 use refrun::Counts;
 use std::alloc::Global;
@@ -256,10 +256,42 @@ const STEPS_OF_QUEUES: [(Step, &str); 6] = [
     ),
 ];
 
+/// Steps of several notices at once.
+const STEPS_OF_BATCHES: [(Step, &str); 4] = [
+    (
+        Step::Puts {
+            actor: Actor::Mutator(M),
+        },
+        "m0 puts",
+    ),
+    (
+        Step::Puts {
+            actor: Actor::Worker(WorkerNo(1)),
+        },
+        "w1 puts",
+    ),
+    (
+        Step::Polls {
+            mutator: M,
+            queue: QueueNo(15),
+            max: 2,
+        },
+        "m0 polls q15 2",
+    ),
+    (
+        Step::Hands {
+            worker: WorkerNo(1),
+            max: 32,
+        },
+        "w1 hands 32",
+    ),
+];
+
 #[test]
 fn each_step_of_references_and_queues_prints_as_in_a_script(rt: HostRuntime) -> Result<(), Fail> {
     agree(&rt, rt.alloc(), &STEPS_OF_REFERENCES)?;
-    agree(&rt, rt.alloc(), &STEPS_OF_QUEUES)
+    agree(&rt, rt.alloc(), &STEPS_OF_QUEUES)?;
+    agree(&rt, rt.alloc(), &STEPS_OF_BATCHES)
 }
 
 #[test]
@@ -341,6 +373,58 @@ fn each_reply_of_the_collector_prints_as_in_a_trace(rt: HostRuntime) -> Result<(
         (Reply::Swept(64), "swept 64"),
         (Reply::Selected(3), "selected 3"),
         (Reply::Moved(ObjNo(1)), "moved 1"),
+    ];
+    agree(&rt, rt.alloc(), &table)
+}
+
+/// These numbers, 32 at most.
+fn nos(numbers: &[u32]) -> Nos {
+    let mut nos = Nos::new();
+    for number in numbers {
+        if nos.as_slice().len() < MOST_IN_BATCH {
+            nos.push(ObjNo(*number));
+        }
+    }
+    nos
+}
+
+/// What became of notices, 32 at most, where so many were put in before.
+fn outs(before: u32, done: &[Done]) -> Reply {
+    let mut outs = Outs::new(u64::from(before));
+    for one in done {
+        if outs.len() < MOST_IN_BATCH {
+            outs.push(*one);
+        }
+    }
+    Reply::Outs(outs)
+}
+
+#[test]
+fn each_reply_of_several_notices_prints_as_in_a_trace(rt: HostRuntime) -> Result<(), Fail> {
+    let all = [
+        Done::Added,
+        Done::Already,
+        Done::Added,
+        Done::Closed,
+        Done::Refused(Fault::NoMemory),
+    ];
+    let table = [
+        (
+            Reply::Notices {
+                objects: nos(&[2, 4_294_967_295, 3]),
+                queue: QueueNo(15),
+                cycle: 7,
+                worker: WorkerNo(1),
+            },
+            "notices 2 4294967295 3 q15 cycle 7 w1",
+        ),
+        (Reply::TookSome(nos(&[5])), "took 5"),
+        (Reply::TookSome(nos(&[5, 2])), "took 5 2"),
+        (outs(0, &[Done::Added]), "added 0"),
+        (
+            outs(9, &all),
+            "added 9, already, added 10, closed, refused 3 NoMemory",
+        ),
     ];
     agree(&rt, rt.alloc(), &table)
 }

@@ -8,7 +8,7 @@ use std::process::Abort;
 use std::test::Fail;
 
 /// A line of each step; actors, slots and queues may be outside the configuration.
-const READ: [&str; 44] = [
+const READ: [&str; 49] = [
     "m0 new s0 0",
     "m0 soft s1 s0 q0 0",
     "m0 weak s1 s0 - 0",
@@ -26,6 +26,9 @@ const READ: [&str; 44] = [
     "m0 adopt s1",
     "m0 release",
     "m0 close q0",
+    "m0 puts",
+    "m0 polls q0 2",
+    "m0 polls q15 4294967295",
     "m0 job s1 3",
     "m0 job s0001 4294967295",
     "m0 run s1",
@@ -36,6 +39,8 @@ const READ: [&str; 44] = [
     "w0 move",
     "w0 put",
     "w0 release",
+    "w0 puts",
+    "w0 hands 32",
     "begin 5 normal",
     "begin 5 urgent",
     "endmark",
@@ -56,7 +61,7 @@ const READ: [&str; 44] = [
 ];
 
 /// The actor's letter or the name is that of no step, or the name is missing, whatever else is wrong.
-const UNKNOWN: [&str; 38] = [
+const UNKNOWN: [&str; 40] = [
     "m0",
     "w0",
     "m",
@@ -67,7 +72,9 @@ const UNKNOWN: [&str; 38] = [
     "M0 put",
     "0 put",
     "m0 Put",
-    "m0 puts",
+    "m0 putss",
+    "m0 hands 2",
+    "w0 polls q0 2",
     "m0 fly s0",
     "m0 scan",
     "m0 begin 5 normal",
@@ -98,7 +105,7 @@ const UNKNOWN: [&str; 38] = [
 ];
 
 /// A word is missing, whatever else is wrong.
-const MISSING: [&str; 31] = [
+const MISSING: [&str; 34] = [
     "m0 new s0",
     "m0 new",
     "m0 soft s1 s0 q0",
@@ -121,6 +128,9 @@ const MISSING: [&str; 31] = [
     "m0 refers",
     "m0 unhook",
     "m0 poll",
+    "m0 polls q0",
+    "m0 polls",
+    "w0 hands",
     "m0 adopt",
     "m0 close",
     "m0 job s1",
@@ -133,7 +143,7 @@ const MISSING: [&str; 31] = [
 ];
 
 /// The actor's number or an operand isn't of its form.
-const BAD: [&str; 95] = [
+const BAD: [&str; 104] = [
     "m new s0 0",
     "m0 new 0 0",
     "m0 new s0 s0",
@@ -183,6 +193,15 @@ const BAD: [&str; 95] = [
     "m4294967296 release",
     "m0x close q0",
     "m0 close q4294967296",
+    "m puts",
+    "w0x puts",
+    "m4294967296 polls q0 2",
+    "m0 polls 0 2",
+    "m0 polls - 2",
+    "m0 polls q0 q2",
+    "w-1 hands 2",
+    "w0 hands w2",
+    "w0 hands 4294967296",
     "m0x job s1 1",
     "m0 job 1 1",
     "m0 job s1 s1",
@@ -232,7 +251,7 @@ const BAD: [&str; 95] = [
 ];
 
 /// A word stands behind the last operand.
-const EXTRA: [&str; 35] = [
+const EXTRA: [&str; 39] = [
     "m0 new s0 0 x",
     "m0 soft s1 s0 q0 0 x",
     "m0 weak s1 s0 - 0 x",
@@ -250,6 +269,8 @@ const EXTRA: [&str; 35] = [
     "m0 adopt s1 x",
     "m0 release x",
     "m0 close q0 x",
+    "m0 puts x",
+    "m0 polls q0 2 x",
     "m0 job s1 1 x",
     "m0 run s1 x",
     "w0 scan x",
@@ -259,6 +280,8 @@ const EXTRA: [&str; 35] = [
     "w0 move x",
     "w0 put x",
     "w0 release x",
+    "w0 puts x",
+    "w0 hands 32 x",
     "begin 5 normal x",
     "begin 5 urgent x",
     "endmark x",

@@ -2,7 +2,7 @@
 use Rattle.std.proofs.Common.{◌≡◌, ℕ, Bool, true, false, not, ◌||◌, List, [], ◌∷◌, ◌++◌, Result, Ok, Err, IfOk}
 use Rattle.std.proofs.Common.{refl, sym, ap, ◌∙◌, subst}
 use Rattle.ref_base.specs.QueueLists.{new_queue}
-use Rattle.ref_clear.specs.ClearHeaps.{HeldNotice}
+use Rattle.ref_base.specs.HeapSteps.{HeldNotice}
 use Rattle.ref_queue.specs.declared.queue.Put.TheVariants as puts
 use Rattle.ref_turn.proofs.Logs.{leads_cut}
 use Rattle.ref_turn.specs.Seats.{entry}
@@ -68,5 +68,6 @@ left_closed u v number was q first left =
 pub added_is_own : (v w : QueueView) (number : ℕ) (notice : HeldNotice) (position : ℕ) (last : NoticeLists)
     → PutsNotice v notice (Ok (puts.Added position)) w → IsQueueRun number w.seen last → notice.queue ≡ number
 added_is_own v w number notice position last added run =
-    (own_at_the_end number v.number (v.seen ++ added.1.0) [] notice position last
-    (subst (λ (l : List QueueEntry). IsQueueRun number l last) added.1.1 run)).0
+    (own_at_the_end number (v.seen ++ added.1.0) []
+    (entry v.number (steps.Put notice) (replies.Put (Ok (puts.Added position)))) last 0 notice position
+    (subst (λ (l : List QueueEntry). IsQueueRun number l last) added.1.1 run) refl).0

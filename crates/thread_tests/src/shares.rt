@@ -15,6 +15,7 @@ use std::process::Abort;
 use std::sync::Wait;
 use std::test::Fail;
 
+mod batches;
 pub mod calls;
 pub mod cleaners;
 mod cycles;

@@ -1,14 +1,16 @@
 //! The heap's own machine, step by step: the holds and notices that go with its replies.
 
 use super::CONFIG;
+use super::rows::{nos, of_one_cycle};
 use crate::hand::{keep, leak};
 use ref_base::Cause::{Cycle, Own};
 use ref_base::{
-    Cause, Fault, HeapStep, MutNo, ObjNo, Parcel, PlainStep, QueueNo, Reply, SlotNo, Strength,
-    Urgency, WorkerNo,
+    Batch, Cause, Fault, HeapStep, MOST_IN_BATCH, MutNo, Nos, ObjNo, Parcel, PlainStep, QueueNo,
+    Reply, SlotNo, Strength, Urgency, WorkerNo,
 };
+use ref_clear::Notice;
 use ref_objects::{Hold, Start};
-use ref_world::{HeapReply, WorldHeap, apply_heap};
+use ref_world::{HeapCall, HeapReply, WorldHeap, apply_heap};
 use std::alloc::Allocator;
 use std::mem;
 use std::process::Abort;
@@ -30,6 +32,8 @@ enum Ask {
     Release,
     Unhook(u32),
     Hand,
+    /// A hand of so many at most, in an empty batch.
+    Hands(u32),
     Begin,
     Scan,
     EndMark,
@@ -45,6 +49,8 @@ enum Told {
     Only(Reply),
     /// A notice of this reference, and why there is one. The hand has its hold.
     Notice(u32, Cause),
+    /// This reply, and the notices of these references in the batch, which are given up.
+    Batch(Reply, Nos),
     /// A hold of this object, of the heap of this number. The hand has it.
     Held(u32, u64),
     /// A fault. The hold of this object, of the heap of this number, is in the hand again.
@@ -58,10 +64,11 @@ struct Bench<A: Allocator> {
     heap: WorldHeap<A>,
     other: WorldHeap<A>,
     hand: Option<Hold>,
+    alloc: A,
 }
 
 /// What the heap answers. A hold that it gives goes into the hand.
-fn asked<A: Allocator + Copy>(bench: &mut Bench<A>, step: HeapStep<Hold>) -> Told {
+fn asked<A: Allocator + Copy>(bench: &mut Bench<A>, step: HeapCall<A>) -> Told {
     match apply_heap(&mut bench.heap, step) {
         HeapReply::Told(reply) => Told::Only(reply),
         HeapReply::Notice(notice) => {
@@ -69,6 +76,7 @@ fn asked<A: Allocator + Copy>(bench: &mut Bench<A>, step: HeapStep<Hold>) -> Tol
             keep(&mut bench.hand, notice.into_hold());
             told
         }
+        HeapReply::Handed(reply, batch) => Told::Batch(reply, emptied(batch)),
         HeapReply::Held(hold) => {
             let told = Told::Held(hold.obj().0, hold.heap_no());
             keep(&mut bench.hand, hold);
@@ -79,6 +87,29 @@ fn asked<A: Allocator + Copy>(bench: &mut Bench<A>, step: HeapStep<Hold>) -> Tol
             keep(&mut bench.hand, hold);
             told
         }
+    }
+}
+
+/// The references of the notices in a batch, which are given up with it.
+fn emptied<A: Allocator>(batch: Batch<Notice, A>) -> Nos {
+    let mut batch = batch;
+    let mut numbers = Nos::new();
+    while let Some(notice) = batch.take_first() {
+        if numbers.as_slice().len() < MOST_IN_BATCH {
+            numbers.push(notice.obj());
+        }
+        notice.into_hold().leak();
+    }
+    batch.end();
+    numbers
+}
+
+/// A hand of so many at most. `NoMemory` where there is none for the batch.
+fn handed<A: Allocator + Copy>(bench: &mut Bench<A>, max: u32) -> Told {
+    let worker = W;
+    match Batch::new(bench.alloc) {
+        Ok(batch) => asked(bench, HeapStep::Hands { worker, max, batch }),
+        Err(fault) => refused(fault),
     }
 }
 
@@ -103,7 +134,7 @@ fn released<A: Allocator + Copy>(bench: &mut Bench<A>) -> Told {
     }
 }
 
-fn new(slot: u32) -> HeapStep<Hold> {
+fn new<A: Allocator>(slot: u32) -> HeapCall<A> {
     HeapStep::Plain(PlainStep::New {
         mutator: M,
         slot: SlotNo(slot),
@@ -111,7 +142,7 @@ fn new(slot: u32) -> HeapStep<Hold> {
     })
 }
 
-fn weak(slot: u32, source: u32) -> HeapStep<Hold> {
+fn weak<A: Allocator>(slot: u32, source: u32) -> HeapCall<A> {
     HeapStep::Plain(PlainStep::Refer {
         mutator: M,
         strength: Strength::Weak,
@@ -122,7 +153,7 @@ fn weak(slot: u32, source: u32) -> HeapStep<Hold> {
     })
 }
 
-fn begin() -> HeapStep<Hold> {
+fn begin<A: Allocator>() -> HeapCall<A> {
     HeapStep::Plain(PlainStep::Begin {
         now: 5,
         urgency: Urgency::Normal,
@@ -149,6 +180,7 @@ fn answer<A: Allocator + Copy>(bench: &mut Bench<A>, ask: Ask) -> Told {
             asked(bench, HeapStep::Unhook { mutator, reference })
         }
         Ask::Hand => asked(bench, HeapStep::Hand { worker }),
+        Ask::Hands(max) => handed(bench, max),
         Ask::Begin => asked(bench, begin()),
         Ask::Scan => asked(bench, HeapStep::Plain(PlainStep::Scan { worker })),
         Ask::EndMark => asked(bench, HeapStep::Plain(PlainStep::EndMark)),
@@ -166,14 +198,25 @@ fn agree<A: Allocator + Copy>(
     rt: &impl Abort,
     heap: WorldHeap<A>,
     other: WorldHeap<A>,
+    alloc: A,
     story: &[(Ask, Told)],
 ) {
     let hand = None;
-    let mut bench = Bench { heap, other, hand };
+    let mut bench = Bench {
+        heap,
+        other,
+        hand,
+        alloc,
+    };
     for (row, &(ask, want)) in story.iter().enumerate() {
         assert_eq!(rt; answer(&mut bench, ask), want, "row {row}");
     }
-    let Bench { heap, other, hand } = bench;
+    let Bench {
+        heap,
+        other,
+        hand,
+        alloc: _alloc,
+    } = bench;
     heap.end();
     other.end();
     leak(hand);
@@ -222,7 +265,51 @@ fn holds_and_notices_are_given_and_taken_back(rt: HostRuntime) -> Result<(), Fai
     ];
     let heap = WorldHeap::new(rt.alloc(), CONFIG, 1)?;
     let other = WorldHeap::new(rt.alloc(), CONFIG, 2)?;
-    agree(&rt, heap, other, &story);
+    agree(&rt, heap, other, rt.alloc(), &story);
+    Ok(())
+}
+
+/// References 2, 3 and 4 to object 1, which the mark cleared, are handed on at once: the first two, then the last.
+#[test]
+fn notices_are_given_in_a_batch(rt: HostRuntime) -> Result<(), Fail> {
+    let none = Nos::new();
+    let story = [
+        (Ask::New(0), object(1)),
+        (Ask::Weak(1, 0), object(2)),
+        (Ask::Weak(2, 0), object(3)),
+        (Ask::Weak(3, 0), object(4)),
+        (Ask::DropSlot(0), only(Reply::Done)),
+        (Ask::Hands(32), Told::Batch(Reply::Nothing, none)),
+        (Ask::Begin, only(Reply::Cycle(1))),
+        (Ask::Scan, only(Reply::Scanned(ObjNo(2)))),
+        (Ask::Scan, only(Reply::Scanned(ObjNo(3)))),
+        (Ask::Scan, only(Reply::Scanned(ObjNo(4)))),
+        (Ask::EndMark, only(Reply::Doomed(1))),
+        (Ask::ClearNext, only(Reply::Cleared(ObjNo(2)))),
+        (Ask::ClearNext, only(Reply::Cleared(ObjNo(3)))),
+        (Ask::ClearNext, only(Reply::Cleared(ObjNo(4)))),
+        (
+            Ask::Hands(0),
+            Told::Batch(Reply::Refused(Fault::BadConfig), none),
+        ),
+        (
+            Ask::Hands(33),
+            Told::Batch(Reply::Refused(Fault::BadConfig), none),
+        ),
+        (
+            Ask::Hands(2),
+            Told::Batch(of_one_cycle(&[2, 3], 1, 0), nos(&[2, 3])),
+        ),
+        (
+            Ask::Hands(32),
+            Told::Batch(of_one_cycle(&[4], 1, 0), nos(&[4])),
+        ),
+        (Ask::Hands(32), Told::Batch(Reply::Nothing, none)),
+        (Ask::Hand, only(Reply::Nothing)),
+    ];
+    let heap = WorldHeap::new(rt.alloc(), CONFIG, 1)?;
+    let other = WorldHeap::new(rt.alloc(), CONFIG, 2)?;
+    agree(&rt, heap, other, rt.alloc(), &story);
     Ok(())
 }
 
@@ -240,7 +327,7 @@ fn a_hold_of_another_heap_comes_back(rt: HostRuntime) -> Result<(), Fail> {
     ];
     let heap = WorldHeap::new(rt.alloc(), CONFIG, 1)?;
     let other = WorldHeap::new(rt.alloc(), CONFIG, 2)?;
-    agree(&rt, heap, other, &story);
+    agree(&rt, heap, other, rt.alloc(), &story);
     Ok(())
 }
 
@@ -257,6 +344,6 @@ fn the_last_number_is_the_last_cycle(rt: HostRuntime) -> Result<(), Fail> {
     ];
     let heap = WorldHeap::starting(rt.alloc(), CONFIG, 1, start)?;
     let other = WorldHeap::new(rt.alloc(), CONFIG, 2)?;
-    agree(&rt, heap, other, &story);
+    agree(&rt, heap, other, rt.alloc(), &story);
     Ok(())
 }

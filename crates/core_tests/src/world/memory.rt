@@ -2,14 +2,15 @@
 
 use super::rows::{
     END_MOVE, PUT, RELEASE, SELECT, adopt, begin, clear, clear_next, cleared, close, copy,
-    drop_slot, get, hand, load, move_next, moved, new, object, own, poll, refers_to, refused, scan,
-    scanned, store, sweep, took, unhook, weak, worker_puts, worker_releases,
+    drop_slot, get, hands, load, move_next, moved, new, nos, object, outs, own, poll, polls,
+    refers_to, refused, scan, scanned, store, sweep, took, unhook, weak, worker_puts,
+    worker_puts_all, worker_releases,
 };
 use super::{CONFIG, are_rows, do_steps, steps_of};
 use crate::arena::{all_that_is_left, limited};
 use crate::scarce::MOST;
 use rationed::Rationed;
-use ref_base::{Cause, Config, Fault, ObjNo, PlainStep, QueueNo, Reply, Step, WorkerNo};
+use ref_base::{Config, Done, Fault, PlainStep, QueueNo, Reply, Step, WorkerNo};
 use ref_world::{Trace, World, run};
 use std::alloc::Global;
 use std::process::Abort;
@@ -152,15 +153,18 @@ fn a_refused_put_succeeds_once_there_is_memory(rt: HostRuntime) -> Result<(), Fa
     Ok(())
 }
 
-/// The notice of reference 6.
-const OF_6: Reply = Reply::Notice {
-    object: ObjNo(6),
-    queue: QueueNo(1),
-    cause: Cause::Cycle(1, WorkerNo(0)),
-};
+/// The notice of reference 6, alone.
+fn of_6() -> Reply {
+    Reply::Notices {
+        objects: nos(&[6]),
+        queue: QueueNo(1),
+        cycle: 1,
+        worker: WorkerNo(0),
+    }
+}
 
 /// Each step once, behind `in_hand` and a put of reference 2. Nothing was ever put into queue 1.
-fn each_step() -> [(Step, Reply); 32] {
+fn each_step() -> [(Step, Reply); 34] {
     [
         (new(2, 8), object(3)),
         (store(2, 7, 0), Reply::Done),
@@ -191,8 +195,13 @@ fn each_step() -> [(Step, Reply); 32] {
         (Step::Plain(PlainStep::EndClear), Reply::Done),
         (sweep(0), Reply::Swept(1)),
         (Step::Plain(PlainStep::EndSweep), Reply::Done),
-        (hand(0), OF_6),
+        (hands(0, 32), of_6()),
+        (
+            worker_puts_all(0),
+            outs(0, &[Done::Refused(Fault::NoMemory)]),
+        ),
         (worker_puts(0), NO_MEMORY),
+        (polls(1, 32), Reply::Empty),
         (worker_releases(0), Reply::Done),
     ]
 }

@@ -10,10 +10,10 @@ use ref_world::World;
 use std::alloc::Global;
 use std::process::Abort;
 use std::test::Fail;
-use ways::{ANSWERS, WAYS, Way, has_way, place_of, way_of};
+use ways::{ANSWERS, KINDS, WAYS, Way, has_way, place_of, way_of};
 
 /// How often a step of each kind was answered in each way.
-type Counts = [[u32; WAYS]; 26];
+type Counts = [[u32; WAYS]; KINDS];
 
 /// Counts one more.
 fn count(counts: &mut Counts, step: Step, way: Way) {
@@ -141,7 +141,7 @@ fn do_worlds(
         for place in 0..steps {
             let step = draws.step();
             let reply = world.step(step);
-            let way = way_of(reply);
+            let way = way_of(&reply);
             assert!(rt;
                 has_way(step, way),
                 "seed {seed}, world {nth}, {place}: {step} : {reply}"
@@ -167,7 +167,7 @@ fn are_met(rt: &impl Abort, counts: &Counts, from: usize) {
 
 #[test]
 fn each_step_is_answered_in_each_of_its_ways(rt: HostRuntime) -> Result<(), Fail> {
-    let mut counts: Counts = [[0; WAYS]; 26];
+    let mut counts: Counts = [[0; WAYS]; KINDS];
     for &(config, seed) in &LARGE_SIZES {
         let size = (config, Start::FIRST, seed);
         do_worlds(&rt, rt.alloc(), size, LARGE_STEPS, &mut counts)?;
@@ -175,7 +175,7 @@ fn each_step_is_answered_in_each_of_its_ways(rt: HostRuntime) -> Result<(), Fail
     // Addresses are spent there as soon as objects are to move.
     do_worlds(&rt, rt.alloc(), LATE_SIZE, LATE_STEPS, &mut counts)?;
     // The last three kinds are those of moves.
-    are_met(&rt, &counts, 23);
+    are_met(&rt, &counts, 26);
     for &(config, seed) in &SIZES {
         let size = (config, Start::FIRST, seed);
         do_worlds(&rt, rt.alloc(), size, STEPS, &mut counts)?;

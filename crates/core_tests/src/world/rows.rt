@@ -2,8 +2,8 @@
 //! fields, there are none.
 
 use ref_base::{
-    Actor, Cause, Fault, MutNo, ObjNo, PlainStep, QueueNo, Reply, SlotNo, Step, Strength, Urgency,
-    WorkerNo,
+    Actor, Cause, Done, Fault, MOST_IN_BATCH, MutNo, Nos, ObjNo, Outs, PlainStep, QueueNo, Reply,
+    SlotNo, Step, Strength, Urgency, WorkerNo,
 };
 
 /// The mutator of these steps.
@@ -11,6 +11,11 @@ pub const M: MutNo = MutNo(0);
 
 /// Mutator 0 puts its notice into its queue.
 pub const PUT: Step = Step::Put {
+    actor: Actor::Mutator(M),
+};
+
+/// Mutator 0 puts its notices into their queue.
+pub const PUTS: Step = Step::Puts {
     actor: Actor::Mutator(M),
 };
 
@@ -43,25 +48,36 @@ pub const fn new(slot: u32, fields: u32) -> Step {
     })
 }
 
-const fn refer(strength: Strength, slot: u32, source: u32, queue: Option<QueueNo>) -> Step {
+const fn refer(
+    strength: Strength,
+    slot: u32,
+    source: u32,
+    queue: Option<QueueNo>,
+    fields: u32,
+) -> Step {
     Step::Plain(PlainStep::Refer {
         mutator: M,
         strength,
         slot: SlotNo(slot),
         source: SlotNo(source),
         queue,
-        fields: 0,
+        fields,
     })
+}
+
+/// A weak reference with one field in this slot to what this one holds, for queue 0.
+pub const fn weak_with_field(slot: u32, source: u32) -> Step {
+    refer(Strength::Weak, slot, source, Some(QueueNo(0)), 1)
 }
 
 /// A weak reference in this slot to what this one holds, for this queue.
 pub const fn weak(slot: u32, source: u32, queue: u32) -> Step {
-    refer(Strength::Weak, slot, source, Some(QueueNo(queue)))
+    refer(Strength::Weak, slot, source, Some(QueueNo(queue)), 0)
 }
 
 /// A soft reference in this slot to what this one holds, for this queue.
 pub const fn soft(slot: u32, source: u32, queue: u32) -> Step {
-    refer(Strength::Soft, slot, source, Some(QueueNo(queue)))
+    refer(Strength::Soft, slot, source, Some(QueueNo(queue)), 0)
 }
 
 pub const fn store(object: u32, field: u32, value: u32) -> Step {
@@ -134,6 +150,14 @@ pub const fn poll(queue: u32) -> Step {
     }
 }
 
+pub const fn polls(queue: u32, max: u32) -> Step {
+    Step::Polls {
+        mutator: M,
+        queue: QueueNo(queue),
+        max,
+    }
+}
+
 pub const fn adopt(slot: u32) -> Step {
     Step::Adopt {
         mutator: M,
@@ -174,6 +198,13 @@ pub const fn hand(worker: u32) -> Step {
     }
 }
 
+pub const fn hands(worker: u32, max: u32) -> Step {
+    Step::Hands {
+        worker: WorkerNo(worker),
+        max,
+    }
+}
+
 pub const fn sweep(worker: u32) -> Step {
     Step::Plain(PlainStep::Sweep {
         worker: WorkerNo(worker),
@@ -188,6 +219,13 @@ pub const fn move_next(worker: u32) -> Step {
 
 pub const fn worker_puts(worker: u32) -> Step {
     Step::Put {
+        actor: Actor::Worker(WorkerNo(worker)),
+    }
+}
+
+/// A worker puts all its notices into their queue.
+pub const fn worker_puts_all(worker: u32) -> Step {
+    Step::Puts {
         actor: Actor::Worker(WorkerNo(worker)),
     }
 }
@@ -214,6 +252,10 @@ pub const fn cleared(no: u32) -> Reply {
     Reply::Cleared(ObjNo(no))
 }
 
+pub const fn skipped(no: u32) -> Reply {
+    Reply::Skipped(ObjNo(no))
+}
+
 pub const fn moved(no: u32) -> Reply {
     Reply::Moved(ObjNo(no))
 }
@@ -238,4 +280,40 @@ pub const fn of_cycle(reference: u32, cycle: u64, worker: u32) -> Reply {
 
 pub const fn refused(fault: Fault) -> Reply {
     Reply::Refused(fault)
+}
+
+/// These numbers, 32 at most.
+pub fn nos(numbers: &[u32]) -> Nos {
+    let mut nos = Nos::new();
+    for number in numbers {
+        if nos.as_slice().len() < MOST_IN_BATCH {
+            nos.push(ObjNo(*number));
+        }
+    }
+    nos
+}
+
+/// The notices of these references, for queue 0, that this worker cleared in this cycle.
+pub fn of_one_cycle(references: &[u32], cycle: u64, worker: u32) -> Reply {
+    Reply::Notices {
+        objects: nos(references),
+        queue: QueueNo(0),
+        cycle,
+        worker: WorkerNo(worker),
+    }
+}
+
+pub fn took_some(references: &[u32]) -> Reply {
+    Reply::TookSome(nos(references))
+}
+
+/// What became of notices, 32 at most, where so many were put in before.
+pub fn outs(before: u32, done: &[Done]) -> Reply {
+    let mut outs = Outs::new(u64::from(before));
+    for one in done {
+        if outs.len() < MOST_IN_BATCH {
+            outs.push(*one);
+        }
+    }
+    Reply::Outs(outs)
 }

@@ -6,6 +6,10 @@ ghost use Rattle.ref_base.specs.WorkerOrder.{is_registered};
 ghost use Rattle.ref_base.specs.Worlds.{Notice, hand_of};
 ghost use Rattle.ref_base.specs.Collectors.{State, first_state};
 ghost use Rattle.ref_base.specs.CountedHolds.{AreCounted};
+ghost use Rattle.std.specs.List.{AllByRecursion};
+ghost use Rattle.ref_base.specs.Outs.{Outs};
+ghost use Rattle.ref_base.specs.QueueBatches.{added_among};
+ghost use Rattle.ref_base.specs.Told.{told_notices};
 ghost use Rattle.ref_base.specs.Replay.{replayed};
 ghost use Rattle.ref_base.specs.MarkEnds.{MarkEnded, AreAfterMarks};
 ghost use Rattle.ref_base.specs.Provenance.{IsProven, AreProven, gives_notices};
@@ -27,10 +31,13 @@ pub fn a_reference_is_registered_with_one_queue()
 /// In a legal trace each notice that was put in, which is the first of the hand in the replay, comes from the rows
 /// before: one of them made its reference, registered with the notice's queue; and one is its cause.
 pub fn each_notice_that_is_put_in_has_its_own_queue_and_cause()
-    ensures { (config : Config) (front back : List Row) (who : Actor) (position : ℕ)
+    ensures one { (config : Config) (front back : List Row) (who : Actor) (position : ℕ)
         → IsLegal config (front ++ record { step = Step.Put who; reply = Reply.Added position } ∷ back)
         → (notice : Notice) × (rest : List Notice) × (hand_of (replayed config front) who ≡ notice ∷ rest)
         × IsProven front notice }
+    ensures all { (config : Config) (front back : List Row) (who : Actor) (outs : Outs)
+        → IsLegal config (front ++ record { step = Step.Puts who; reply = Reply.Outs outs } ∷ back)
+        → AllByRecursion (IsProven front) (added_among (hand_of (replayed config front) who) outs.done) }
 {}
 
 /// After every legal trace each notice that is out, in a hand or in a queue, comes from the rows: one of them made its
@@ -44,11 +51,10 @@ pub fn each_notice_has_its_own_queue_and_cause()
 /// And so does each notice that a row of a legal trace gives, an unhook's or one that a worker hands on: from the rows
 /// up to that one.
 pub fn each_notice_that_is_given_has_its_own_queue_and_cause()
-    ensures { (config : Config) (front back : List Row) (step : Step) (n q : ℕ) (cause : Cause) (b : State)
+    ensures { (config : Config) (front back : List Row) (step : Step) (reply : Reply) (b : State)
         → gives_notices step ≡ true
-        → IsRun (first_state config) (front ++ record { step = step; reply = Reply.Notice n q cause } ∷ back) b
-        → IsProven (front ++ record { step = step; reply = Reply.Notice n q cause } ∷ [])
-        (record { object = n; queue = q; cause = cause }) }
+        → IsRun (first_state config) (front ++ record { step = step; reply = reply } ∷ back) b
+        → AllByRecursion (IsProven (front ++ record { step = step; reply = reply } ∷ [])) (told_notices reply) }
 {}
 
 /// After every legal trace each notice that is out, in a hand or in a queue, and whose cause is a cycle, comes after

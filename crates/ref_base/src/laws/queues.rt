@@ -6,6 +6,7 @@ ghost use Rattle.ref_base.specs.QueueRows.{KeepsQueue, put_into, taken_from, was
 ghost use Rattle.ref_base.specs.WorkerOrder.{clearing_order};
 ghost use Rattle.ref_base.specs.Worlds.{Notice, object_of, hand_of, queue_at};
 ghost use Rattle.ref_base.specs.Collectors.{State, first_state};
+ghost use Rattle.ref_base.specs.Outs.{Outs};
 ghost use Rattle.ref_base.specs.Replay.{replayed};
 ghost use Rattle.ref_base.specs.CollectorRows.{IsRun, is_subsequence};
 ghost use Rattle.ref_base.specs.ClearingOrder.{added_of};
@@ -34,10 +35,14 @@ pub fn the_lists_of_a_queue_are_those_of_the_rows()
 /// In a legal trace a put that was added answers how many references its queue got before, where the queue is that of
 /// the notice which is the first of the hand in the replay.
 pub fn added_answers_the_position()
-    ensures { (config : Config) (front back : List Row) (who : Actor) (position : ℕ)
+    ensures one { (config : Config) (front back : List Row) (who : Actor) (position : ℕ)
         → IsLegal config (front ++ record { step = Step.Put who; reply = Reply.Added position } ∷ back)
         → (notice : Notice) × (rest : List Notice) × (hand_of (replayed config front) who ≡ notice ∷ rest)
         × (position ≡ length (put_into notice.queue front)) }
+    ensures all { (config : Config) (front back : List Row) (who : Actor) (outs : Outs)
+        → IsLegal config (front ++ record { step = Step.Puts who; reply = Reply.Outs outs } ∷ back)
+        → (notice : Notice) × (rest : List Notice) × (hand_of (replayed config front) who ≡ notice ∷ rest)
+        × (outs.before ≡ length (put_into notice.queue front)) }
 {}
 
 /// In a legal trace, of what a worker cleared, a queue gets the references in the order in which the worker cleared

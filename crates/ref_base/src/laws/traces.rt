@@ -6,6 +6,7 @@ ghost use Rattle.ref_base.specs.LegalTraces.{IsLegal};
 ghost use Rattle.ref_base.specs.Worlds.{SameOthers, graph_of};
 ghost use Rattle.ref_base.specs.HeapSteps.{NamedStep, heap_step};
 ghost use Rattle.ref_base.specs.Collectors.{State, first_state};
+ghost use Rattle.ref_base.specs.Outs.{Outs, IsWantedLast};
 ghost use Rattle.ref_base.specs.Replay.{replayed};
 ghost use Rattle.ref_base.specs.AgreeingWorlds.{Agrees};
 ghost use Rattle.ref_base.specs.OldNumbers.{HasOldNumbers};
@@ -24,11 +25,13 @@ pub fn the_front_of_a_legal_trace_is_legal()
     ensures { (config : Config) (front back : List Row) → IsLegal config (front ++ back) → IsLegal config front }
 {}
 
-/// Want of memory is answered by puts alone.
+/// Want of memory is answered by puts alone: by a put of one, or as the last that a put of several tells.
 pub fn memory_is_wanting_at_puts_alone()
-    ensures { (a : State) (step : Step) (b : State)
+    ensures one { (a : State) (step : Step) (b : State)
         → IsRow a (record { step = step; reply = Reply.Refused Fault.NoMemory }) b
         → (who : Actor) × (step ≡ Step.Put who) }
+    ensures all { (a : State) (who : Actor) (outs : Outs) (b : State)
+        → IsRow a (record { step = Step.Puts who; reply = Reply.Outs outs }) b → IsWantedLast outs.done }
 {}
 
 /// A row of a heap is a row of the world in which a step asks for it, with what that step leaves in the hands, where

@@ -1,13 +1,21 @@
 //! Notices: of what a worker cleared, and of what the program unhooks.
 
-ghost use Rattle.std.specs.Prelude.{IfOk};
-ghost use Rattle.ref_base.specs.declared.heap_step.HeapStep.TheVariants.{Hand, Unhook};
+ghost use Rattle.std.specs.Prelude.{◌≡◌, ◌+◌, ◌≤◌, ◌<◌, ◌++◌, true, IfOk, length, map, take};
+ghost use Rattle.ref_base.specs.Refusals.{fits, front_with};
+ghost use Rattle.ref_base.specs.Told.{told_notices};
+ghost use Rattle.ref_base.specs.Worlds.{notice_from};
+ghost use Rattle.ref_base.specs.declared.heap_step.HeapStep.TheVariants.{Hand, Hands, Unhook};
+ghost use Rattle.ref_mark.specs.Chains.{listed};
 ghost use Rattle.ref_mark.specs.MarkCalls.{reply_of};
-ghost use Rattle.ref_clear.specs.ClearCalls.{HeapDoes, notice_reply, IsOfHeap};
+ghost use Rattle.ref_clear.specs.ClearCalls.{HeapDoes, notice_reply, handed_reply, held_notices, IsOfHeap};
+ghost use Rattle.ref_clear.specs.ClearHeaps.{pending_at, handed_some};
+ghost use Rattle.ref_clear.specs.ClearViews.{pendings_in, IsPendingChain, MayHandOn};
 
 use super::Heap;
-use crate::{Notice, Pending};
-use ref_base::{Cause, Fault, MutNo, SlotNo, WorkerNo};
+use crate::{Handed, Notice, Pending};
+use ref_base::{Batch, Cause, Fault, MutNo, Nos, Parcel, SlotNo, WorkerNo};
+use ref_mark::Chain;
+use ref_objects::Objects;
 use std::alloc::Allocator;
 
 impl<A: Allocator + Copy> Heap<A> {
@@ -32,6 +40,88 @@ impl<A: Allocator + Copy> Heap<A> {
         Ok(Some(Notice::new(hold, first.queue, cause)))
     }
 
+    /// Hands on the first of this worker's pending references at once, `max` at most, and as far as they have the queue
+    /// of the first, and were cleared in its cycle. Their notices go behind what is in the batch. None where nothing is
+    /// pending. Tried in this order: `NoSuchActor`; where something is pending, `NumbersSpent` where the holds that are
+    /// out and one for each of these would be more than 2^64 - 1: then nothing is handed on. Takes no memory. In
+    /// logarithmic time for each notice.
+    ///
+    /// That a collector hands its queues many references at once is as in ZGC; that `max` is 1 to the room that is left
+    /// in the batch, and that all are of one queue and one cycle, is this project's profile.
+    pub fn hand_batch<B: Allocator>(
+        &mut self,
+        worker: WorkerNo,
+        max: u32,
+        batch: &mut Batch<Notice, B>,
+    ) -> Result<Option<Handed>, Fault>
+        requires { fits max (length batch.old) ≡ true }
+        ensures does { HeapDoes self.old (Hands worker max batch.old) (reply_of (handed_reply worker) result) self.new }
+        ensures given { batch.new ≡ batch.old ++ held_notices self.old.mark.heap.no
+            (told_notices (reply_of (handed_reply worker) result)) }
+    {
+        if worker.0 >= self.config().workers {
+            return Err(Fault::NoSuchActor);
+        }
+        let Some(first) = self.pending_of(worker, 0) else {
+            return Ok(None);
+        };
+        let count = self.count_with(worker, first, max);
+        // That so many holds can be counted is seen before the first is, so that a refusal changes nothing.
+        if self.hold_count() > u64::MAX - u64::from(count) {
+            return Err(Fault::NumbersSpent);
+        }
+        let mut numbers = Nos::new();
+        self.hand_each(worker, count, batch, &mut numbers);
+        Ok(Some(Handed {
+            numbers,
+            queue: first.queue,
+            cycle: first.cycle,
+        }))
+    }
+
+    // How many of this worker's pending references, from the first on and at most so many, go with this one.
+    fn count_with(&self, worker: WorkerNo, first: Pending, max: u32) -> u32
+        requires { worker < self.now.mark.heap.config.workers }
+        ensures { result ≡ length (take max (front_with first (pending_at self.now worker))) }
+    {
+        count_listed(
+            self.marker.objects(),
+            self.pending[worker.0 as usize],
+            first,
+            max,
+        )
+    }
+
+    // Hands on the first so many, one after the other.
+    fn hand_each<B: Allocator>(
+        &mut self,
+        worker: WorkerNo,
+        count: u32,
+        batch: &mut Batch<Notice, B>,
+        numbers: &mut Nos,
+    )
+        requires may { MayHandOn self.old worker count }
+        requires room { length batch.old + count ≤ 32 }
+        requires told { length numbers.old + count ≤ 32 }
+        ensures after { self.new ≡ handed_some self.old worker count }
+        ensures given { batch.new ≡ batch.old ++ held_notices self.old.mark.heap.no
+            (map (notice_from worker) (take count (pending_at self.old worker))) }
+        ensures numbers { numbers.new ≡ numbers.old ++ map (λ p. p.object) (take count (pending_at self.old worker)) }
+    {
+        if count == 0 {
+            return;
+        }
+        match self.hand(worker) {
+            Ok(Some(notice)) => {
+                numbers.push(notice.obj());
+                batch.push(notice);
+                self.hand_each(worker, count - 1, batch, numbers);
+            }
+            // So many are pending, and so many holds can be counted.
+            Ok(None) | Err(_) => unreachable!(),
+        }
+    }
+
     /// Clears the reference in a slot, as `clear` does, and gives its notice if it is registered with a queue, each
     /// time that it is called (as `Reference.enqueue` of Java SE 17 begins; the rest of it is the queue's). Tried in
     /// this order: `NoSuchActor`, `EmptySlot`, `NotAReference`; where it is registered, `NumbersSpent` where 2^64 - 1
@@ -50,4 +140,29 @@ impl<A: Allocator + Copy> Heap<A> {
         let _cleared = self.marker.clear(mutator, reference);
         Ok(Some(Notice::new(hold, queue, Cause::Own)))
     }
+}
+
+// How many of the references in this list, from the first on and at most so many, go with this one: they have its
+// queue, and were cleared in its cycle.
+fn count_listed<A: Allocator + Copy>(
+    objects: &Objects<A>,
+    mut list: Chain,
+    first: Pending,
+    max: u32,
+) -> u32
+    requires { IsPendingChain objects.now list }
+    ensures { result ≡ length (take max (front_with first (pendings_in objects.now.heap.objects objects.now.tags
+        (listed objects.now.tags objects.now.heap.config.cells list)))) }
+{
+    if max == 0 {
+        return 0;
+    }
+    let Some(linked) = list.take_first(objects) else {
+        return 0;
+    };
+    let next = Pending::of(linked);
+    if next.queue != first.queue || next.cycle != first.cycle {
+        return 0;
+    }
+    1 + count_listed(objects, list, first, max - 1)
 }

@@ -1,13 +1,15 @@
 //! Holds and notices, as below.
 
-ghost use Rattle.std.specs.Prelude.{◌≡◌, IfOk, IfErr};
-ghost use Rattle.ref_base.specs.declared.heap_step.HeapStep.TheVariants.{Adopt, Hand, Release, Unhook};
+ghost use Rattle.std.specs.Prelude.{◌≡◌, ◌++◌, true, IfOk, IfErr, length};
+ghost use Rattle.ref_base.specs.Refusals.{fits};
+ghost use Rattle.ref_base.specs.Told.{told_notices};
+ghost use Rattle.ref_base.specs.declared.heap_step.HeapStep.TheVariants.{Adopt, Hand, Hands, Release, Unhook};
 ghost use Rattle.ref_mark.specs.MarkCalls.{reply_of, reply_or_back, hold_reply, done_reply};
-ghost use Rattle.ref_clear.specs.ClearCalls.{HeapDoes, notice_reply, IsOfHeap};
+ghost use Rattle.ref_clear.specs.ClearCalls.{HeapDoes, notice_reply, handed_reply, held_notices, IsOfHeap};
 
 use super::MovingHeap;
-use ref_base::{Fault, HeapStep, MutNo, ObjNo, Reply, SlotNo, WorkerNo};
-use ref_clear::Notice;
+use ref_base::{Batch, Fault, HeapStep, MutNo, ObjNo, Reply, SlotNo, WorkerNo};
+use ref_clear::{Handed, Notice};
 use ref_objects::Hold;
 use std::alloc::Allocator;
 
@@ -52,6 +54,25 @@ impl<A: Allocator + Copy> MovingHeap<A> {
         ensures own { IfOk result (λ notice. IsOfHeap self.old.mark.heap.no notice) }
     {
         self.heap.hand(worker)
+    }
+
+    /// Hands on the first of this worker's pending references at once, `max` at most, and as far as they have the queue
+    /// of the first, and were cleared in its cycle. Their notices go behind what is in the batch. None where nothing is
+    /// pending. Tried in this order: `NoSuchActor`; where something is pending, `NumbersSpent` where the holds that are
+    /// out and one for each of these would be more than 2^64 - 1: then nothing is handed on. `max` is 1 to the room
+    /// that is left in the batch. Takes no memory. In logarithmic time for each notice.
+    pub fn hand_batch<B: Allocator>(
+        &mut self,
+        worker: WorkerNo,
+        max: u32,
+        batch: &mut Batch<Notice, B>,
+    ) -> Result<Option<Handed>, Fault>
+        requires { fits max (length batch.old) ≡ true }
+        ensures does { HeapDoes self.old (Hands worker max batch.old) (reply_of (handed_reply worker) result) self.new }
+        ensures given { batch.new ≡ batch.old ++ held_notices self.old.mark.heap.no
+            (told_notices (reply_of (handed_reply worker) result)) }
+    {
+        self.heap.hand_batch(worker, max, batch)
     }
 
     /// Clears the reference in a slot, as `clear` does, and gives its notice if it is registered with a queue, each

@@ -7,6 +7,7 @@ ghost use Rattle.ref_world.specs.Standing.{Does};
 
 use super::World;
 use crate::WorldNotice;
+use crate::replies::polled;
 use ref_base::{Actor, Fault, MutNo, Parcel, QueueNo, Reply, Step};
 use ref_queue::{Polled, Put, Queue};
 use std::alloc::Allocator;
@@ -25,6 +26,18 @@ impl<A: Allocator + Copy> World<A> {
         reply
     }
 
+    // Puts all notices of the hand into their queue, one after the other. The hand then holds what wasn't added.
+    #[inline(never)]
+    pub(crate) fn puts(&mut self, actor: Actor) -> Result<Reply, Fault>
+        ensures { Does self.old (Step.Puts actor) result self.new }
+    {
+        let (first, all) = (actor, actor);
+        let queue = self.hands.first_queue(first)?;
+        let queue = &mut self.queues[queue.0 as usize];
+        let outs = self.hands.put_all(all, queue);
+        Ok(Reply::Outs(outs))
+    }
+
     // Takes the first notice that stands in a queue into the hand.
     pub(crate) fn poll(&mut self, mutator: MutNo, queue: QueueNo) -> Result<Reply, Fault>
         ensures { Does self.old (Step.Poll mutator queue) result self.new }
@@ -34,6 +47,17 @@ impl<A: Allocator + Copy> World<A> {
         let (reply, taken) = poll_one(&mut self.queues[queue.0 as usize]);
         self.hands.fill_if_any(Actor::Mutator(mutator), taken);
         Ok(reply)
+    }
+
+    // Takes the first notices that stand in a queue into the hand, so many at most.
+    #[inline(never)]
+    pub(crate) fn polls(&mut self, mutator: MutNo, queue: QueueNo, max: u32) -> Result<Reply, Fault>
+        ensures { Does self.old (Step.Polls mutator queue max) result self.new }
+    {
+        self.check_queue(mutator, queue)?;
+        self.hands.check_fits(Actor::Mutator(mutator), max)?;
+        let queue = &mut self.queues[queue.0 as usize];
+        Ok(polled(self.hands.poll_some(mutator, max, queue)))
     }
 
     // Closes a queue.

@@ -1,7 +1,7 @@
 //! One step of a world.
 
 ghost use Rattle.std.specs.Prelude.{◌≡◌, true, None};
-ghost use Rattle.ref_base.specs.Told.{told_notice};
+ghost use Rattle.ref_base.specs.Told.{told_notices};
 ghost use Rattle.ref_base.specs.Refusals.{drop_refusal};
 ghost use Rattle.ref_objects.specs.Grounds.{IsRefused};
 ghost use Rattle.ref_clear.specs.ClearCalls.{HeapDoes};
@@ -13,9 +13,8 @@ ghost use Rattle.ref_world.specs.WorldHeaps.{heap_no_of, model_heap};
 use super::World;
 use crate::hands::Hands;
 use crate::heap_machine::told;
-use crate::{HeapReply, WorldHeap, WorldNotice, apply_heap};
+use crate::{HeapCall, HeapReply, WorldHeap, WorldNotice, apply_heap};
 use ref_base::{Actor, Fault, HeapStep, MutNo, PlainStep, Reply, SlotNo, Step, WorkerNo};
-use ref_objects::Hold;
 use std::alloc::Allocator;
 
 /// How many slots a mutator has.
@@ -23,9 +22,11 @@ const SLOTS: u32 = 16;
 
 impl<A: Allocator + Copy> World<A> {
     /// Does one step, and answers it. Refused, with the first fault that applies, it has changed nothing. A put is in
-    /// expected constant time, amortized, and takes memory where its notice is added; where that is refused, the notice
-    /// is in the hand again. A poll and a close are in constant time. Any other step costs what the heap's call costs,
-    /// and takes no memory.
+    /// expected constant time, amortized; a puts in expected time of its notices, amortized. Both take memory where
+    /// they add a notice. Where that is refused, a put answers so, and its notice is in the hand again; a puts tells it
+    /// as the last of what became of its notices, and that notice and those behind it are in the hand, in order. A poll
+    /// and a close are in constant time, and a polls in time of what it takes. Any other step costs what the heap's
+    /// call costs. But for put and puts no step takes memory.
     pub fn step(&mut self, step: Step) -> Reply
         ensures row { IsRowOf self.old step result self.new }
     {
@@ -36,6 +37,7 @@ impl<A: Allocator + Copy> World<A> {
     }
 
     // The reply to a step, or why it is refused.
+    #[inline(always)]
     fn perform(&mut self, step: Step) -> Result<Reply, Fault>
         ensures { Does self.old step result self.new }
     {
@@ -43,8 +45,15 @@ impl<A: Allocator + Copy> World<A> {
             Step::Plain(step) => self.ask(step),
             Step::Unhook { mutator, reference } => self.unhook(mutator, reference),
             Step::Hand { worker } => self.hand(worker),
+            Step::Hands { worker, max } => self.hand_some(worker, max),
             Step::Put { actor } => self.put(actor),
+            Step::Puts { actor } => self.puts(actor),
             Step::Poll { mutator, queue } => self.poll(mutator, queue),
+            Step::Polls {
+                mutator,
+                queue,
+                max,
+            } => self.polls(mutator, queue, max),
             Step::Adopt { mutator, slot } => self.adopt(mutator, slot),
             Step::Release { actor } => self.release(actor),
             Step::Close { mutator, queue } => self.close(mutator, queue),
@@ -52,6 +61,7 @@ impl<A: Allocator + Copy> World<A> {
     }
 
     // A step that is the heap's alone.
+    #[inline(always)]
     fn ask(&mut self, step: PlainStep) -> Result<Reply, Fault>
         ensures { Does self.old (Step.Plain step) result self.new }
     {
@@ -77,6 +87,15 @@ impl<A: Allocator + Copy> World<A> {
         let asked = HeapStep::Hand { worker };
         let actor = Actor::Worker(worker);
         receive(&mut self.heap, &mut self.hands, actor, asked)
+    }
+
+    // Takes the notices of the next references that the worker cleared into its hand, so many at most.
+    #[inline(never)]
+    fn hand_some(&mut self, worker: WorkerNo, max: u32) -> Result<Reply, Fault>
+        ensures { Does self.old (Step.Hands worker max) result self.new }
+    {
+        self.hands.check_fits(Actor::Worker(worker), max)?;
+        self.hands.hand_on(&mut self.heap, worker, max)
     }
 
     // The slot then holds what the hand's first notice reports.
@@ -115,17 +134,18 @@ impl<A: Allocator + Copy> World<A> {
 }
 
 // Asks a step of the heap that may give a notice. The hand, which is empty, then holds it.
+#[inline(always)]
 fn receive<A: Allocator + Copy>(
     heap: &mut WorldHeap<A>,
     hands: &mut Hands<A>,
     actor: Actor,
-    asked: HeapStep<Hold>,
+    asked: HeapCall<A>,
 ) -> Result<Reply, Fault>
     requires own { heap_no_of heap.old ≡ 0 }
     requires gives { may_give_notice asked ≡ true }
     requires empty { filling_refusal hands.old actor ≡ None }
     ensures does { HeapDoes heap.old asked (answered result) heap.new }
-    ensures hands { hands.new ≡ received hands.old actor (told_notice (answered result)) }
+    ensures hands { hands.new ≡ received hands.old actor (told_notices (answered result)) }
 {
     match apply_heap(heap, asked) {
         HeapReply::Notice(notice) => {

@@ -7,7 +7,7 @@ ghost use Rattle.thread_tests.specs.QueueRows.{queue_row};
 
 use super::{M, Q, W};
 use ref_base::{
-    Fault, HeapStep, Parcel, PlainStep, QueueNo, Reply, SlotNo, Strength, Urgency, WorkerNo,
+    Batch, Fault, HeapStep, Parcel, PlainStep, QueueNo, Reply, SlotNo, Strength, Urgency, WorkerNo,
 };
 use ref_clear::Notice;
 use ref_objects::Hold;
@@ -17,7 +17,7 @@ use ref_share::{
     enqueue,
 };
 use ref_turn::TurnFault;
-use ref_world::HeapReply;
+use ref_world::{HeapAnswer, HeapCall, HeapReply};
 use std::alloc::{Allocator, Global};
 use std::sync::Wait;
 use std::{fmt, mem, slice};
@@ -198,7 +198,7 @@ pub fn weak(slot: u32, source: u32, queue: Option<QueueNo>) -> PlainStep {
 }
 
 /// What the heap answered. What it gives out with that is given up.
-pub fn replied(answer: Result<HeapReply, TurnFault<HeapStep<Hold>>>) -> Told {
+pub fn replied<A: Allocator>(answer: Result<HeapAnswer<A>, TurnFault<HeapCall<A>>>) -> Told {
     match answer {
         Ok(HeapReply::Told(reply)) => Told::Reply(reply),
         Ok(HeapReply::Notice(notice)) => {
@@ -210,6 +210,10 @@ pub fn replied(answer: Result<HeapReply, TurnFault<HeapStep<Hold>>>) -> Told {
             Told::Else
         }
         Ok(HeapReply::Back(fault, hold)) => held(hold, fault),
+        Ok(HeapReply::Handed(_, batch)) => {
+            given_up(batch);
+            Told::Else
+        }
         Err(TurnFault::Busy(step)) => {
             spend(step);
             Told::Busy
@@ -221,10 +225,19 @@ pub fn replied(answer: Result<HeapReply, TurnFault<HeapStep<Hold>>>) -> Told {
     }
 }
 
+/// Gives up a batch and its notices.
+fn given_up<A: Allocator>(mut batch: Batch<Notice, A>) {
+    while let Some(notice) = batch.take_first() {
+        notice.into_hold().leak();
+    }
+    batch.end();
+}
+
 /// Gives up a step that was not made.
-fn spend(step: HeapStep<Hold>) {
+fn spend<A: Allocator>(step: HeapCall<A>) {
     match step {
         HeapStep::Adopt { hold, .. } | HeapStep::Release { hold } => hold.leak(),
+        HeapStep::Hands { batch, .. } => given_up(batch),
         _ => {}
     }
 }

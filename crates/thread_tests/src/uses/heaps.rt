@@ -2,7 +2,7 @@
 
 ghost use Rattle.std.specs.Prelude.{◌≡◌, ◌-◌, ◌^◌, ◌++◌, [], ◌∷◌, true, false, IfSome, IsTrue};
 ghost use Rattle.ref_base.specs.declared.heap_step.HeapStep.TheVariants as steps;
-ghost use Rattle.ref_clear.specs.ClearHeaps.{HeldNotice};
+ghost use Rattle.ref_base.specs.HeapSteps.{HeldNotice};
 ghost use Rattle.ref_share.specs.HeapSeats.{heap_view, IsHeapSeat};
 ghost use Rattle.ref_share.specs.QueueSeats.{IsQueueSeat};
 ghost use Rattle.ref_turn.specs.Seats.{entry};

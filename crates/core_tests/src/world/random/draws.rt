@@ -99,6 +99,16 @@ impl Draws {
         }
     }
 
+    /// How many notices are asked for: now and then too many, or none.
+    fn most(&mut self) -> u32 {
+        match self.below(16) {
+            0 => 33,
+            1 => 0,
+            2 => 32,
+            _ => self.below(4).saturating_add(1),
+        }
+    }
+
     fn actor(&mut self) -> Actor {
         if self.below(2) == 0 {
             Actor::Mutator(self.mutator())
@@ -177,14 +187,22 @@ impl Draws {
                 mutator,
                 queue: self.queue(),
             },
-            5..=200 => Step::Put {
+            5..=120 => Step::Put {
                 actor: self.actor(),
             },
-            201..=320 => Step::Poll {
+            121..=210 => Step::Puts {
+                actor: self.actor(),
+            },
+            211..=270 => Step::Poll {
                 mutator,
                 queue: self.queue(),
             },
-            321..=400 => Step::Adopt {
+            271..=330 => Step::Polls {
+                mutator,
+                queue: self.queue(),
+                max: self.most(),
+            },
+            331..=400 => Step::Adopt {
                 mutator,
                 slot: self.slot(),
             },
@@ -224,7 +242,11 @@ impl Draws {
         match self.below(16) {
             0..=5 => Step::Plain(PlainStep::Scan { worker }),
             6..=8 => Step::Plain(PlainStep::ClearNext { worker }),
-            9..=10 => Step::Hand { worker },
+            9 => Step::Hand { worker },
+            10 => Step::Hands {
+                worker,
+                max: self.most(),
+            },
             11..=13 => Step::Plain(PlainStep::MoveNext { worker }),
             _ => Step::Plain(PlainStep::Sweep { worker }),
         }

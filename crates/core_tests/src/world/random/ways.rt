@@ -1,13 +1,14 @@
 //! The ways in which each kind of step is answered.
 
 use Way::{
-    Added, AddressesSpent, Already, BadField, BadQueue, Cleared, ClearingLeft, ClockBack, Closed,
-    Cycle, Done, Empty, EmptySlot, GreyLeft, HandEmpty, HandFull, Kept, Moved, MovesLeft, NoCell,
-    NoRoom, NoSuchActor, NoneDoomed, NotAReference, Nothing, NoticeOfCycle, Null, Object,
-    Otherwise, OwnNotice, RefersElsewhere, RefersToIt, Scanned, Selected, Skipped, SomeDoomed,
-    SweepLeft, Swept, Took, WrongPhase,
+    Added, AddressesSpent, Already, BadConfig, BadField, BadQueue, Cleared, ClearingLeft,
+    ClockBack, Closed, Cycle, Done, Empty, EmptySlot, GreyLeft, HandEmpty, HandFull, Kept, Moved,
+    MovesLeft, NoCell, NoRoom, NoSuchActor, NoneDoomed, NotAReference, Nothing, NoticeOfCycle,
+    Null, Object, OneNotice, OneTaken, Otherwise, OwnNotice, RefersElsewhere, RefersToIt, Scanned,
+    Selected, SeveralNotices, SeveralTaken, SeveralTried, Skipped, SomeDoomed, SweepLeft, Swept,
+    Took, WrongPhase,
 };
-use ref_base::{Cause, Fault, PlainStep, Reply, Step};
+use ref_base::{Cause, Done as Became, Fault, Nos, Outs, PlainStep, Reply, Step};
 
 /// The ways in which steps are answered: each reply, and each refusal that these worlds can meet.
 ///
@@ -54,15 +55,24 @@ pub enum Way {
     AddressesSpent,
     HandFull,
     HandEmpty,
+    BadConfig,
+    OneNotice,
+    SeveralNotices,
+    SeveralTried,
+    OneTaken,
+    SeveralTaken,
     /// By none of these.
     Otherwise,
 }
 
 /// How many ways there are.
-pub const WAYS: usize = 40;
+pub const WAYS: usize = 46;
+
+/// How many kinds of steps there are.
+pub const KINDS: usize = 29;
 
 /// Each kind of step, by name, and the ways in which it is answered.
-pub static ANSWERS: [(&'static str, &'static [Way]); 26] = [
+pub static ANSWERS: [(&'static str, &'static [Way]); KINDS] = [
     ("new", &[Object, NoSuchActor, BadField, NoCell]),
     (
         "refer",
@@ -117,6 +127,34 @@ pub static ANSWERS: [(&'static str, &'static [Way]); 26] = [
     ("hand", &[NoticeOfCycle, Nothing, NoSuchActor, HandFull]),
     ("sweep", &[Swept, Nothing, NoSuchActor, WrongPhase]),
     ("endsweep", &[Done, WrongPhase, SweepLeft]),
+    (
+        "puts",
+        &[Added, Already, Closed, SeveralTried, NoSuchActor, HandEmpty],
+    ),
+    (
+        "polls",
+        &[
+            OneTaken,
+            SeveralTaken,
+            Empty,
+            Closed,
+            NoSuchActor,
+            BadQueue,
+            BadConfig,
+            HandFull,
+        ],
+    ),
+    (
+        "hands",
+        &[
+            OneNotice,
+            SeveralNotices,
+            Nothing,
+            NoSuchActor,
+            BadConfig,
+            HandFull,
+        ],
+    ),
     ("select", &[Selected, WrongPhase, NoRoom, AddressesSpent]),
     ("move", &[Moved, Nothing, NoSuchActor, WrongPhase]),
     ("endmove", &[Done, WrongPhase, MovesLeft]),
@@ -148,9 +186,12 @@ pub fn place_of(step: Step) -> usize {
         Step::Hand { .. } => 20,
         Step::Plain(PlainStep::Sweep { .. }) => 21,
         Step::Plain(PlainStep::EndSweep) => 22,
-        Step::Plain(PlainStep::Select) => 23,
-        Step::Plain(PlainStep::MoveNext { .. }) => 24,
-        Step::Plain(PlainStep::EndMove) => 25,
+        Step::Puts { .. } => 23,
+        Step::Polls { .. } => 24,
+        Step::Hands { .. } => 25,
+        Step::Plain(PlainStep::Select) => 26,
+        Step::Plain(PlainStep::MoveNext { .. }) => 27,
+        Step::Plain(PlainStep::EndMove) => 28,
     }
 }
 
@@ -162,6 +203,7 @@ fn way_refused(fault: Fault) -> Way {
         Fault::NotAReference => NotAReference,
         Fault::NoSuchActor => NoSuchActor,
         Fault::BadQueue => BadQueue,
+        Fault::BadConfig => BadConfig,
         Fault::WrongPhase => WrongPhase,
         Fault::ClockBack => ClockBack,
         Fault::GreyLeft => GreyLeft,
@@ -176,7 +218,27 @@ fn way_refused(fault: Fault) -> Way {
     }
 }
 
-pub fn way_of(reply: Reply) -> Way {
+/// The way of one, or that of several.
+fn one_or(objects: &Nos, one: Way, several: Way) -> Way {
+    if objects.as_slice().len() == 1 {
+        one
+    } else {
+        several
+    }
+}
+
+/// What became of the one notice, or that there were several.
+fn way_of_outs(outs: &Outs) -> Way {
+    match outs.as_slice() {
+        [Became::Added] => Added,
+        [Became::Already] => Already,
+        [Became::Closed] => Closed,
+        [_, _, ..] => SeveralTried,
+        _ => Otherwise,
+    }
+}
+
+pub fn way_of(reply: &Reply) -> Way {
     match reply {
         Reply::Object(_) => Object,
         Reply::Null => Null,
@@ -188,6 +250,9 @@ pub fn way_of(reply: Reply) -> Way {
             ..
         } => OwnNotice,
         Reply::Notice { .. } => NoticeOfCycle,
+        Reply::Notices { objects, .. } => one_or(objects, OneNotice, SeveralNotices),
+        Reply::Outs(outs) => way_of_outs(outs),
+        Reply::TookSome(objects) => one_or(objects, OneTaken, SeveralTaken),
         Reply::Nothing => Nothing,
         Reply::Added(_) => Added,
         Reply::Already => Already,
@@ -204,7 +269,7 @@ pub fn way_of(reply: Reply) -> Way {
         Reply::Swept(_) => Swept,
         Reply::Selected(_) => Selected,
         Reply::Moved(_) => Moved,
-        Reply::Refused(fault) => way_refused(fault),
+        Reply::Refused(fault) => way_refused(*fault),
     }
 }
 

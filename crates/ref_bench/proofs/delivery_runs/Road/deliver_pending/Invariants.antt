@@ -1,0 +1,8 @@
+use Rattle.ref_share.specs.HeapSeats.{IsHeapSeat}
+use Rattle.ref_share.specs.QueueSeats.{IsQueueSeat}
+use Rattle.std.specs.Prelude.{◌≡◌, []}
+use Rattle.ref_bench.proofs.delivery_runs.Road.deliver_pending.Given as goal
+
+abbrev pub invariant-loop : goal.invariant-loop
+invariant-loop g l =
+    IsHeapSeat l.self.heap.now l.self.heap_seat × IsQueueSeat l.self.queue.now l.self.queue_seat × (l.batch ≡ [])

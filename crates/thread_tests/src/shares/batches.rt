@@ -1,0 +1,510 @@
+//! Batches between a shared heap and its queue, by one thread: what is handed on, put in and taken at once, and what
+//! comes back in the batch where turns or memory run out.
+
+ghost use Rattle.ref_share.specs.HeapSeats.{IsHeapSeat};
+ghost use Rattle.ref_share.specs.QueueSeats.{IsQueueSeat};
+ghost use Rattle.std.specs.Mem.{FitsInMemory};
+ghost use Rattle.std.specs.Prelude.{◌≡◌, []};
+ghost use Rattle.thread_tests.specs.QueueRows.{queue_row};
+
+use super::calls::{Ask, Call, Seats, Told, answer};
+use super::{CONFIG, Q, W, death, make_calls};
+use rationed::Rationed;
+use ref_base::{Batch, Done, Fault, MOST_IN_BATCH, Nos, ObjNo, Outs, Parcel, QueueNo, WorkerNo};
+use ref_clear::Notice;
+use ref_queue::PolledBatch;
+use ref_share::{QueueSeat, ShareFault, SharedHeap, SharedQueue, deliver_batch, end_queue};
+use std::alloc::{Allocator, Global};
+use std::process::Abort;
+use std::slice;
+use std::sync::Wait;
+use std::test::Fail;
+
+/// More requests than any call makes.
+const MOST: u64 = 1_000;
+
+/// What came of a delivery, and the references whose notices came back in the batch.
+#[derive(Clone, Copy, Debug, PartialEq, Eq)]
+enum Sent {
+    Nothing,
+    /// What became of each.
+    Told(Outs, Nos),
+    Refused(Fault, Nos),
+    /// The hold of this object came back.
+    Held(u32, Fault, Nos),
+    Else,
+}
+
+/// What came of a poll.
+#[derive(Clone, Copy, Debug, PartialEq, Eq)]
+enum Taken {
+    Took(Nos),
+    Empty,
+    Closed,
+    Refused(Fault),
+    /// The answer and the batch don't agree, or nobody expects it.
+    Else,
+}
+
+/// A call, with what it is told.
+#[derive(Clone, Copy)]
+enum Act {
+    Call(Call, Told),
+    /// A delivery of so many at most by the worker of this number.
+    Deliver(u32, u32, Sent),
+    /// The same by the worker of number 0, with no queue in the lists.
+    DeliverNowhere(u32, Sent),
+    /// A hand of so many at most, and a put of what it gives.
+    HandAndPut(u32, Sent),
+    /// A poll of so many at most.
+    Poll(u32, Taken),
+}
+
+/// These numbers, 32 at most.
+fn nos(numbers: &[u32]) -> Nos {
+    let mut nos = Nos::new();
+    for number in numbers {
+        if nos.as_slice().len() < MOST_IN_BATCH {
+            nos.push(ObjNo(*number));
+        }
+    }
+    nos
+}
+
+/// What became of notices, 32 at most, where so many were put in before, and what is in the batch then.
+fn told(before: u32, done: &[Done], left: &[u32]) -> Sent {
+    let mut outs = Outs::new(u64::from(before));
+    for one in done {
+        if outs.len() < MOST_IN_BATCH {
+            outs.push(*one);
+        }
+    }
+    Sent::Told(outs, nos(left))
+}
+
+fn took(numbers: &[u32]) -> Taken {
+    Taken::Took(nos(numbers))
+}
+
+/// A batch of nothing. There is memory for it.
+fn empty_batch<R: Abort, A: Allocator>(rt: &R, alloc: A) -> Batch<Notice, A>
+    ensures { result ≡ [] }
+{
+    match Batch::new(alloc) {
+        Ok(batch) => batch,
+        Err(fault) => panic!(rt; "{fault}"),
+    }
+}
+
+/// The references of the notices in a batch, which are given up with it.
+fn emptied<A: Allocator>(batch: Batch<Notice, A>) -> Nos {
+    let mut batch = batch;
+    let mut numbers = Nos::new();
+    while let Some(notice) = batch.take_first() {
+        if numbers.as_slice().len() < MOST_IN_BATCH {
+            numbers.push(notice.obj());
+        }
+        notice.into_hold().leak();
+    }
+    batch.end();
+    numbers
+}
+
+/// What a delivery was told, as plain data. What it gives back is given up.
+fn told_of<A: Allocator>(
+    answer: Result<Option<Outs>, ShareFault>,
+    batch: Batch<Notice, A>,
+) -> Sent {
+    let left = emptied(batch);
+    match answer {
+        Ok(None) => Sent::Nothing,
+        Ok(Some(outs)) => Sent::Told(outs, left),
+        Err(ShareFault::Refused(fault)) => Sent::Refused(fault, left),
+        Err(ShareFault::Held(hold, fault)) => {
+            let object = hold.obj().0;
+            hold.leak();
+            Sent::Held(object, fault, left)
+        }
+        Err(fault) => {
+            let _ = fault.give_up();
+            Sent::Else
+        }
+    }
+}
+
+/// A delivery of so many at most.
+fn delivered<R: Wait, A: Allocator + Copy>(
+    rt: &R,
+    heap: &SharedHeap<A>,
+    queue: &SharedQueue<A>,
+    seats: &mut Seats<A>,
+    worker: WorkerNo,
+    max: u32,
+    batch: Batch<Notice, A>,
+) -> Sent
+    requires seats { IsHeapSeat heap.now seats.old.heap × IsQueueSeat queue.now seats.old.queue }
+    requires empty { batch ≡ [] }
+    requires fits { FitsInMemory (queue_row A.row A.Allocator A.Clone) }
+    ensures { IsHeapSeat heap.now seats.new.heap × IsQueueSeat queue.now seats.new.queue }
+{
+    let queues = slice::from_ref(queue);
+    let own = slice::from_mut(&mut seats.queue);
+    let (answer, batch) = deliver_batch(rt, heap, &mut seats.heap, queues, own, worker, max, batch);
+    told_of(answer, batch)
+}
+
+/// The same with no queue in the lists.
+fn delivered_nowhere<R: Wait, A: Allocator + Copy>(
+    rt: &R,
+    heap: &SharedHeap<A>,
+    seats: &mut Seats<A>,
+    max: u32,
+    batch: Batch<Notice, A>,
+) -> Sent
+    requires seat { IsHeapSeat heap.now seats.old.heap }
+    requires empty { batch ≡ [] }
+    ensures seat { IsHeapSeat heap.now seats.new.heap }
+    ensures queue { seats.new.queue ≡ seats.old.queue }
+{
+    let queues: [SharedQueue<A>; 0] = [];
+    let mut own: [QueueSeat<A>; 0] = [];
+    let (answer, batch) = deliver_batch(
+        rt,
+        heap,
+        &mut seats.heap,
+        &queues,
+        &mut own,
+        W,
+        max,
+        batch,
+    );
+    told_of(answer, batch)
+}
+
+/// A hand of so many at most, and a put of what it gives.
+fn handed_and_put<R: Wait, A: Allocator + Copy>(
+    rt: &R,
+    heap: &SharedHeap<A>,
+    queue: &SharedQueue<A>,
+    seats: &mut Seats<A>,
+    max: u32,
+    batch: Batch<Notice, A>,
+) -> Sent
+    requires { IsHeapSeat heap.now seats.old.heap × IsQueueSeat queue.now seats.old.queue }
+    ensures { IsHeapSeat heap.now seats.new.heap × IsQueueSeat queue.now seats.new.queue }
+{
+    let (given, batch) = heap.hand_batch(rt, &mut seats.heap, W, max, batch);
+    match given {
+        Ok(Some(handed)) => {
+            let (answer, batch) = queue.put_batch(rt, &mut seats.queue, batch);
+            let told = match answer {
+                Ok(outs) => told_of(Ok(Some(outs)), batch),
+                Err(fault) => told_of(Err(ShareFault::Refused(fault)), batch),
+            };
+            if handed.queue == Q { told } else { Sent::Else }
+        }
+        Ok(None) => told_of(Ok(None), batch),
+        Err(fault) => told_of(Err(ShareFault::Refused(fault)), batch),
+    }
+}
+
+/// What a poll was told, where these came in the batch.
+fn told_of_poll(polled: &PolledBatch, taken: &Nos) -> Taken {
+    match polled {
+        PolledBatch::Took(numbers) if numbers == taken => Taken::Took(*numbers),
+        PolledBatch::Took(_) => Taken::Else,
+        PolledBatch::Empty => Taken::Empty,
+        PolledBatch::Closed => Taken::Closed,
+    }
+}
+
+/// A poll of so many at most.
+fn polled<A: Allocator + Copy>(
+    queue: &SharedQueue<A>,
+    seat: &mut QueueSeat<A>,
+    max: u32,
+    batch: Batch<Notice, A>,
+) -> Taken
+    requires { IsQueueSeat queue.now seat.old }
+    ensures { IsQueueSeat queue.now seat.new }
+{
+    let (answer, batch) = queue.poll_batch_now(seat, max, batch);
+    let taken = emptied(batch);
+    match answer {
+        Ok(polled) => told_of_poll(&polled, &taken),
+        Err(ShareFault::Refused(fault)) => Taken::Refused(fault),
+        Err(fault) => {
+            let _ = fault.give_up();
+            Taken::Else
+        }
+    }
+}
+
+/// Makes a call, which has its answer.
+fn make<R: Wait + Abort>(
+    rt: &R,
+    heap: &SharedHeap,
+    queue: &SharedQueue,
+    seats: &mut Seats,
+    alloc: Global,
+    act: Act,
+    row: usize,
+)
+    requires { IsHeapSeat heap.now seats.old.heap × IsQueueSeat queue.now seats.old.queue }
+    ensures { IsHeapSeat heap.now seats.new.heap × IsQueueSeat queue.now seats.new.queue }
+{
+    let batch = empty_batch(rt, alloc);
+    match act {
+        Act::Call(call, want) => {
+            batch.end();
+            assert_eq!(rt; answer(rt, heap, queue, seats, call), want, "row {row}");
+        }
+        Act::Deliver(worker, max, want) => {
+            let told = delivered(rt, heap, queue, seats, WorkerNo(worker), max, batch);
+            assert_eq!(rt; told, want, "row {row}");
+        }
+        Act::DeliverNowhere(max, want) => {
+            let told = delivered_nowhere(rt, heap, seats, max, batch);
+            assert_eq!(rt; told, want, "row {row}");
+        }
+        Act::HandAndPut(max, want) => {
+            let told = handed_and_put(rt, heap, queue, seats, max, batch);
+            assert_eq!(rt; told, want, "row {row}");
+        }
+        Act::Poll(max, want) => {
+            let told = polled(queue, &mut seats.queue, max, batch);
+            assert_eq!(rt; told, want, "row {row}");
+        }
+    }
+}
+
+/// The first tickets of heap and queue, and the queue's number.
+#[derive(Clone, Copy)]
+struct Starts {
+    heap: u64,
+    queue: u64,
+    number: QueueNo,
+}
+
+const STARTS: Starts = Starts {
+    heap: 0,
+    queue: 0,
+    number: Q,
+};
+
+/// The calls that a heap and a queue are told behind a death, each of which has its answer.
+fn agree<R: Wait + Abort>(rt: &R, alloc: Global, starts: Starts, acts: &[Act]) -> Result<(), Fail> {
+    let (heap, heap_seat) = SharedHeap::starting(alloc, CONFIG, 0, starts.heap)?;
+    let (queue, queue_seat) = SharedQueue::starting(alloc, starts.number, starts.queue)?;
+    let mut seats = Seats {
+        heap: heap_seat,
+        queue: queue_seat,
+    };
+    make_calls(rt, &heap, &queue, &mut seats, &death());
+    for (row, &one) in acts.iter().enumerate() {
+        make(rt, &heap, &queue, &mut seats, alloc, one, row);
+    }
+    end_queue(queue.finish(seats.queue));
+    Ok(())
+}
+
+/// So many turns of the queue were made.
+const fn queue_served(count: u64) -> Act {
+    Act::Call(Call::Queue(Ask::Served), Told::Served(count))
+}
+
+/// The queue closes, which was open.
+const fn queue_closes() -> Act {
+    Act::Call(Call::Queue(Ask::Close), Told::WasOpen(true))
+}
+
+const fn heap_served(count: u64) -> Act {
+    Act::Call(Call::HeapServed, Told::Served(count))
+}
+
+#[test]
+fn what_is_pending_is_delivered_and_taken_at_once(rt: HostRuntime) -> Result<(), Fail> {
+    let acts = [
+        Act::Deliver(0, 32, told(0, &[Done::Added, Done::Added], &[])),
+        heap_served(13),
+        queue_served(1),
+        Act::Poll(32, took(&[2, 3])),
+        queue_served(2),
+        Act::Poll(32, Taken::Empty),
+        Act::Deliver(0, 32, Sent::Nothing),
+        heap_served(14),
+        queue_served(3),
+    ];
+    agree(&rt, rt.alloc(), STARTS, &acts)
+}
+
+#[test]
+fn a_batch_is_of_so_many_at_most(rt: HostRuntime) -> Result<(), Fail> {
+    let acts = [
+        Act::HandAndPut(1, told(0, &[Done::Added], &[])),
+        Act::HandAndPut(32, told(1, &[Done::Added], &[])),
+        Act::HandAndPut(32, Sent::Nothing),
+        Act::Poll(1, took(&[2])),
+        Act::Poll(2, took(&[3])),
+        Act::Poll(2, Taken::Empty),
+    ];
+    agree(&rt, rt.alloc(), STARTS, &acts)
+}
+
+/// Reference 2 was put in by its own call, and 3 finds the queue closed.
+#[test]
+fn what_is_not_added_goes_back_to_the_heap(rt: HostRuntime) -> Result<(), Fail> {
+    let acts = [
+        Act::Call(Call::Enqueue(1), Told::Enqueued(true)),
+        Act::Deliver(0, 1, told(1, &[Done::Already], &[])),
+        queue_closes(),
+        Act::Deliver(0, 32, told(1, &[Done::Closed], &[])),
+        // An unhook, two hands and two releases.
+        heap_served(17),
+        Act::Poll(32, took(&[2])),
+        Act::Poll(32, Taken::Closed),
+    ];
+    agree(&rt, rt.alloc(), STARTS, &acts)
+}
+
+/// A put alone leaves in the batch what is not added.
+#[test]
+fn what_a_put_does_not_add_stays_in_the_batch(rt: HostRuntime) -> Result<(), Fail> {
+    let acts = [
+        Act::Call(Call::Enqueue(1), Told::Enqueued(true)),
+        Act::HandAndPut(32, told(1, &[Done::Already, Done::Added], &[2])),
+        Act::Poll(32, took(&[2, 3])),
+    ];
+    agree(&rt, rt.alloc(), STARTS, &acts)
+}
+
+#[test]
+fn a_batch_is_of_1_to_32(rt: HostRuntime) -> Result<(), Fail> {
+    let acts = [
+        Act::Deliver(0, 0, Sent::Refused(Fault::BadConfig, nos(&[]))),
+        Act::Deliver(0, 33, Sent::Refused(Fault::BadConfig, nos(&[]))),
+        Act::Deliver(1, 0, Sent::Refused(Fault::NoSuchActor, nos(&[]))),
+        queue_served(0),
+        Act::Poll(0, Taken::Refused(Fault::BadConfig)),
+        Act::Poll(33, Taken::Refused(Fault::BadConfig)),
+        queue_served(2),
+        Act::Deliver(0, 2, told(0, &[Done::Added, Done::Added], &[])),
+    ];
+    agree(&rt, rt.alloc(), STARTS, &acts)
+}
+
+#[test]
+fn without_their_queue_all_notices_come_back(rt: HostRuntime) -> Result<(), Fail> {
+    let acts = [Act::DeliverNowhere(32, Sent::Refused(Fault::BadQueue, nos(&[2, 3])))];
+    agree(&rt, rt.alloc(), STARTS, &acts)?;
+    let acts = [
+        Act::Deliver(0, 32, Sent::Refused(Fault::WrongQueue, nos(&[2, 3]))),
+        Act::Poll(32, Taken::Empty),
+    ];
+    let starts = Starts {
+        number: QueueNo(1),
+        ..STARTS
+    };
+    agree(&rt, rt.alloc(), starts, &acts)
+}
+
+#[test]
+fn without_a_turn_of_the_queue_all_notices_come_back(rt: HostRuntime) -> Result<(), Fail> {
+    let acts = [
+        Act::Deliver(0, 32, Sent::Refused(Fault::TurnsSpent, nos(&[2, 3]))),
+        Act::Poll(32, Taken::Refused(Fault::TurnsSpent)),
+    ];
+    let starts = Starts {
+        queue: u64::MAX,
+        ..STARTS
+    };
+    agree(&rt, rt.alloc(), starts, &acts)
+}
+
+/// A death is 12 turns. Then there are so many more.
+const fn more_turns(count: u32) -> Starts {
+    Starts {
+        heap: u64::MAX - 12 - count as u64,
+        ..STARTS
+    }
+}
+
+#[test]
+fn a_heap_at_its_last_turns_releases_no_more(rt: HostRuntime) -> Result<(), Fail> {
+    let acts = [
+        Act::Deliver(0, 32, Sent::Refused(Fault::TurnsSpent, nos(&[]))),
+        queue_served(0),
+    ];
+    agree(&rt, rt.alloc(), more_turns(0), &acts)?;
+    let acts = [
+        queue_closes(),
+        Act::Deliver(0, 32, Sent::Held(2, Fault::TurnsSpent, nos(&[3]))),
+    ];
+    agree(&rt, rt.alloc(), more_turns(1), &acts)?;
+    let acts = [
+        queue_closes(),
+        Act::Deliver(0, 32, Sent::Held(3, Fault::TurnsSpent, nos(&[]))),
+    ];
+    agree(&rt, rt.alloc(), more_turns(2), &acts)?;
+    let acts = [
+        queue_closes(),
+        Act::Deliver(0, 32, told(0, &[Done::Closed, Done::Closed], &[])),
+    ];
+    agree(&rt, rt.alloc(), more_turns(3), &acts)
+}
+
+/// What a delivery is told with so many requests for memory met, on a new heap and queue, what is taken then, and
+/// whether a request was refused.
+fn told_with<R: Wait + Abort>(
+    rt: &R,
+    memory: &Rationed<Global>,
+    met: u64,
+) -> Result<(Sent, Taken, bool), Fail> {
+    let (heap, heap_seat) = SharedHeap::new(memory, CONFIG, 0)?;
+    let (queue, queue_seat) = SharedQueue::new(memory, Q)?;
+    let mut seats = Seats {
+        heap: heap_seat,
+        queue: queue_seat,
+    };
+    make_calls(rt, &heap, &queue, &mut seats, &death());
+    let first = empty_batch(rt, memory);
+    let second = empty_batch(rt, memory);
+    memory.ration(met);
+    let told = delivered(rt, &heap, &queue, &mut seats, W, 32, first);
+    let was_refused = memory.lift();
+    let taken = polled(&queue, &mut seats.queue, 32, second);
+    end_queue(queue.finish(seats.queue));
+    Ok((told, taken, was_refused))
+}
+
+/// With each request refused in turn: what is not added comes back, and nothing is released. Answers how many requests
+/// a delivery makes.
+fn refuse_each<R: Wait + Abort>(rt: &R, memory: &Rationed<Global>) -> Result<u64, Fail> {
+    let none = (Sent::Refused(Fault::NoMemory, nos(&[2, 3])), Taken::Empty);
+    let first = (Sent::Refused(Fault::NoMemory, nos(&[3])), took(&[2]));
+    let both = (told(0, &[Done::Added, Done::Added], &[]), took(&[2, 3]));
+    for met in 0..MOST {
+        let (told, taken, was_refused) = told_with(rt, memory, met)?;
+        let answer = (told, taken);
+        if !was_refused {
+            assert!(rt; answer == both, "{answer:?} with {met} requests met");
+            return Ok(met);
+        }
+        assert!(rt;
+            answer == none || answer == first,
+            "{answer:?} with {met} requests met"
+        );
+    }
+    Ok(MOST)
+}
+
+#[test]
+fn notices_that_find_no_memory_come_back(rt: HostRuntime) -> Result<(), Fail> {
+    let memory = Rationed::new(rt.alloc());
+    let requests = refuse_each(&rt, &memory)?;
+    assert!(rt;
+        0 < requests && requests < MOST,
+        "a delivery makes {requests} requests"
+    );
+    Ok(())
+}
