@@ -1,15 +1,17 @@
 //! What a step is answered.
 
-ghost use Rattle.std.specs.Prelude.{◌≡◌, ◌+◌, ◌<◌, ◌^◌, [], ◌∷◌, Some, false, length};
-ghost use Rattle.ref_base.specs.Texts.{Letters, Long, number};
+ghost use Rattle.std.specs.Prelude.{◌≡◌, ◌+◌, ◌<◌, ◌^◌, [], ◌∷◌, ◌++◌, Some, false, length, OnOk, string_bytes};
+ghost use Rattle.ref_base.specs.Texts.{Letters, Long, number, queue as queue_word};
 ghost use Rattle.std.specs.Fmt.{DisplaysOnOk};
 ghost use Rattle.ref_base.specs.Outs.{out_of, outs_of};
 ghost use Rattle.ref_base.specs.Replies.{reply_words, out_words, is_of_batch, spaced, outs_text, reply_text};
+ghost use Rattle.ref_base.specs.Replies.{cause_words};
 ghost use Rattle.ref_base.specs.Words.{spelt};
 
 use crate::words::Word::{End, Long, Name, Number, Queue, Worker};
-use crate::words::{Word, alone, say};
+use crate::words::{Word, alone, push_number, push_words, say};
 use crate::{Cause, Done, Fault, Nos, ObjNo, Outs, QueueNo, WorkerNo};
+use std::alloc::{AllocError, Allocator};
 use std::fmt;
 
 /// The answer to one step. It prints as it stands in a trace.
@@ -81,6 +83,31 @@ pub enum Reply {
 }
 
 impl Reply {
+    /// Pushes it as it prints. The one error is that memory is refused: then a part of it may have been pushed.
+    pub fn push_to<A: Allocator>(&self, text: &mut String<A>) -> Result<(), AllocError>
+        ensures { OnOk result (string_bytes text.new ≡ string_bytes text.old ++ reply_text self.now) }
+    {
+        match self {
+            Reply::Notices {
+                objects,
+                queue,
+                cycle,
+                worker,
+            } => {
+                text.push_str("notices")?;
+                push_numbers(text, objects.as_slice())?;
+                text.push_str(" ")?;
+                push_words(text, &origin_words(*queue, *cycle, *worker))
+            }
+            Reply::Outs(outs) => push_outs(text, outs.before(), outs.as_slice()),
+            Reply::TookSome(objects) => {
+                text.push_str("took")?;
+                push_numbers(text, objects.as_slice())
+            }
+            reply => push_words(text, &reply.words()),
+        }
+    }
+
     // The words that it is spelled with, where it is of no batch.
     fn words(&self) -> [Word; 6]
         requires { is_of_batch self.now ≡ false }
@@ -217,6 +244,56 @@ fn out_words(before: u64, done: Done) -> [Word; 6]
         Done::Already => alone("already"),
         Done::Closed => alone("closed"),
         Done::Refused(fault) => refusal_words(fault),
+    }
+}
+
+// As `q0 cycle 1 w0`.
+fn origin_words(queue: QueueNo, cycle: u64, worker: WorkerNo) -> [Word; 6]
+    ensures { spelt result ≡ queue_word queue ∷ cause_words (Cause.Cycle cycle worker) }
+{
+    [
+        Queue(queue),
+        Name("cycle"),
+        Long(cycle),
+        Worker(worker),
+        End,
+        End,
+    ]
+}
+
+// Pushes the numbers, with a space before each.
+fn push_numbers<A: Allocator>(text: &mut String<A>, numbers: &[ObjNo]) -> Result<(), AllocError>
+    ensures { OnOk result (string_bytes text.new ≡ string_bytes text.old ++ spaced numbers.now) }
+{
+    match numbers {
+        [first, rest @ ..] => {
+            text.push_str(" ")?;
+            push_number(text, u64::from(first.0))?;
+            push_numbers(text, rest)
+        }
+        [] => Ok(()),
+    }
+}
+
+// Pushes what became of each, with a comma between each two, where so many were put in before.
+fn push_outs<A: Allocator>(
+    text: &mut String<A>,
+    before: u64,
+    done: &[Done],
+) -> Result<(), AllocError>
+    requires { before + length done.now < 2 ^ 64 }
+    ensures { OnOk result (string_bytes text.new ≡ string_bytes text.old ++ outs_text (outs_of before done.now)) }
+{
+    match done {
+        [first, rest @ ..] => {
+            push_words(text, &out_words(before, *first))?;
+            if rest.is_empty() {
+                return Ok(());
+            }
+            text.push_str(", ")?;
+            push_outs(text, before + u64::from(first.is_added()), rest)
+        }
+        [] => Ok(()),
     }
 }
 

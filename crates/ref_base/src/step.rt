@@ -1,13 +1,14 @@
 //! The steps of a script: what mutators and workers ask of the heap and its queues, and the turns of the collector.
 
-ghost use Rattle.std.specs.Prelude.{◌≡◌, [], ◌∷◌, Some};
+ghost use Rattle.std.specs.Prelude.{◌≡◌, [], ◌∷◌, ◌++◌, Some, OnOk, string_bytes};
 ghost use Rattle.ref_base.specs.Texts.{Letters, text_of, mutator, worker, queue, number};
 ghost use Rattle.ref_base.specs.Steps.{actor, step_words};
 ghost use Rattle.ref_base.specs.Words.{spelt};
 
 use crate::words::Word::{End, Mutator, Name, Number, Queue, Who, Worker};
-use crate::words::{Word, at_slot, by_worker, say};
+use crate::words::{Word, at_slot, by_worker, push_words, say};
 use crate::{Actor, MutNo, PlainStep, QueueNo, SlotNo, WorkerNo};
+use std::alloc::{AllocError, Allocator};
 use std::fmt;
 
 /// One step. It prints as it is spelled in a script, with single spaces and no leading zeros. Any number can be named:
@@ -67,6 +68,13 @@ pub enum Step {
 }
 
 impl Step {
+    /// Pushes it as it prints. The one error is that memory is refused: then a part of it may have been pushed.
+    pub fn push_to<A: Allocator>(&self, text: &mut String<A>) -> Result<(), AllocError>
+        ensures { OnOk result (string_bytes text.new ≡ string_bytes text.old ++ text_of (step_words self.now)) }
+    {
+        push_words(text, &self.words())
+    }
+
     // The words that it is spelled with.
     fn words(&self) -> [Word; 6]
         ensures { spelt result ≡ step_words self.now }

@@ -1,12 +1,14 @@
-//! The words that steps and replies print as.
+//! The words that steps and replies print as, and are pushed as.
 
-ghost use Rattle.std.specs.Prelude.{◌≡◌, ◌==◌, [], ◌∷◌, Some, length};
+ghost use Rattle.std.specs.Prelude.{◌≡◌, ◌==◌, [], ◌∷◌, ◌++◌, Some, length, OnOk, decimal, string_bytes};
 ghost use Rattle.std.specs.Fmt.{DisplaysOnOk};
 ghost use Rattle.ref_base.specs.Texts.{Letters, word_text, text_of, mutator, worker, slot};
 ghost use Rattle.ref_base.specs.Words.{word_of, spelt};
 
 use self::Word::{End, Mutator, Name, Slot, Worker};
 use crate::{Actor, MutNo, QueueNo, SlotNo, WorkerNo};
+use itoa::Buffer;
+use std::alloc::{AllocError, Allocator};
 use std::fmt;
 
 /// A word of a step or a reply, or that there are no more.
@@ -80,6 +82,66 @@ pub(crate) fn say<W: fmt::Write>(f: &mut fmt::Formatter<W>, words: &[Word]) -> f
             }
             write!(f, "{first} ")?;
             say(f, rest)
+        }
+        _ => Ok(()),
+    }
+}
+
+/// Pushes a number as it prints: its decimal digits, without leading zeros. The one error is that memory is refused.
+#[inline(always)]
+pub fn push_number<A: Allocator>(text: &mut String<A>, number: u64) -> Result<(), AllocError>
+    ensures { OnOk result (string_bytes text.new ≡ string_bytes text.old ++ decimal number) }
+{
+    text.push_str(Buffer::new().format(number))
+}
+
+// Pushes a letter, and the number behind it.
+#[inline(always)]
+fn push_behind<A: Allocator>(
+    text: &mut String<A>,
+    letter: &'static str,
+    number: u32,
+) -> Result<(), AllocError>
+    ensures { OnOk result (string_bytes text.new ≡ string_bytes text.old ++ letter.now ++ decimal number) }
+{
+    text.push_str(letter)?;
+    push_number(text, u64::from(number))
+}
+
+// Pushes one word.
+#[inline(always)]
+fn push_word<A: Allocator>(text: &mut String<A>, word: &Word) -> Result<(), AllocError>
+    ensures { OnOk result (string_bytes text.new ≡ string_bytes text.old ++ word_text (word_of word.now)) }
+{
+    match *word {
+        Word::Name(name) => text.push_str(name),
+        Word::Mutator(mutator) | Word::Who(Actor::Mutator(mutator)) => {
+            push_behind(text, "m", mutator.0)
+        }
+        Word::Worker(worker) | Word::Who(Actor::Worker(worker)) => push_behind(text, "w", worker.0),
+        Word::Slot(slot) => push_behind(text, "s", slot.0),
+        Word::Queue(queue) => push_behind(text, "q", queue.0),
+        Word::Number(number) => push_number(text, u64::from(number)),
+        Word::Long(number) => push_number(text, number),
+        Word::End => Ok(()),
+    }
+}
+
+/// Pushes the words up to the first `End`, with one space between each two.
+pub(crate) fn push_words<A: Allocator>(
+    text: &mut String<A>,
+    words: &[Word],
+) -> Result<(), AllocError>
+    ensures { OnOk result (string_bytes text.new ≡ string_bytes text.old ++ text_of (spelt words.now)) }
+{
+    match words {
+        [first, rest @ ..] if !is_over(words) => {
+            push_word(text, first)?;
+            if is_over(rest) {
+                return Ok(());
+            }
+            text.push_str(" ")?;
+            push_words(text, rest)
         }
         _ => Ok(()),
     }

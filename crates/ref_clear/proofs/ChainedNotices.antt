@@ -6,11 +6,11 @@ use Rattle.ref_clear.proofs.Common.{rest_of, Pending, pending_at, pending_from, 
 use Rattle.ref_clear.proofs.Common.{Reference, reference_at, registered_in, slot_at, has_slot, CycleHeap, with_cleared}
 use Rattle.ref_clear.proofs.Common.{holding, mint_answer_in, after_mint_in, Chain, listed, lists_in, seen_heap}
 use Rattle.ref_clear.proofs.Common.{seen_lists, IsSoundHeap, AreSoundLists, ClearHeap, AreRegistered, MarkerDoes}
-use Rattle.ref_clear.proofs.Common.{listed_at, HeapDoes, Ground, ground_of, Config, pending_by}
-use Rattle.std.proofs.Common.{nat_lt}
+use Rattle.ref_clear.proofs.Common.{listed_at, HeapDoes, Ground, ground_of, pending_by}
+use Rattle.std.proofs.Common.{nat_lt, Bool, false, not}
 use Rattle.std.proofs.lemmas.List.{append-nil}
 use Rattle.ref_clear.proofs.Common.{pendings_in}
-use Rattle.ref_clear.specs.ClearViews.{IsPendingChain}
+use Rattle.ref_clear.specs.ClearViews.{IsPendingChain, HandsNext, may_go, stays_behind}
 use Rattle.ref_mark.specs.Chains.{chain_first, chain_without_first}
 use Rattle.ref_space.specs.declared.linked.Linked.{Linked}
 use Rattle.ref_objects.specs.Grounds.{is_spared, linked_in}
@@ -22,6 +22,7 @@ use Rattle.ref_clear.proofs.NoticeAnswers.{minted, mint_refused}
 use Rattle.ref_clear.proofs.PendingLists.{worker_within, worker_has_list, first_as_seen, listed_registered}
 use Rattle.ref_clear.proofs.PendingLists.{told_as_seen, none_past, has-list, pending_at-seen}
 use Rattle.ref_clear.proofs.HandAnswers.{none_to_hand, handed as handed_lists, hand_refused as hand_refused_lists}
+use Rattle.ref_clear.proofs.HandAnswers.{some_first}
 use Rattle.ref_clear.proofs.UnhookAnswers.{unhook_cut as cut_lists, unhook_refused as refused_lists}
 use Rattle.ref_clear.proofs.UnhookAnswers.{unhook_done as done_lists}
 use Rattle.ref_clear.proofs.SoundHeaps.{sound_after}
@@ -82,10 +83,9 @@ none_behind k chains w place past = grind (arith, none_past, length-lists_of)
 -- ---- a worker's chain
 
 module _ {k : CycleHeap} {chains : List Chain} {condemned : Worklist} (w : ℕ) (sound : IsSoundHeap k chains condemned)
-    {now : ClearHeap} {config : Config} (seen : seen_heap k chains ≡ now) (fixed : config ≡ now.mark.heap.config)
-    (named : w < config.workers) where
+    {now : ClearHeap} (seen : seen_heap k chains ≡ now) (named : w < now.mark.heap.config.workers) where
   within : w < k.heap.config.workers
-  within = worker_within w sound.lists seen fixed named
+  within = worker_within w sound.lists seen refl named
 
   pub worker_has_chain : w < length chains
   worker_has_chain =
@@ -109,12 +109,15 @@ module _ {k : CycleHeap} {chains : List Chain} {condemned : Worklist} (w : ℕ) 
     first_at = search (chain-first, chain_at, worker_has_chain)
 
     -- where nothing is told, nothing is pending
-    pub none_first : answer ≡ None
-        → HeapDoes (seen_heap k chains) (heap.Hand w) replies.Nothing (seen_heap k chains)
-    none_first none =
-        none_to_hand w sound.lists within
-        (first_as_seen w sound.lists within own_read first_at
-        (none_told (linked_in (ground_of k)) (chain_first c) (sym none ∙ rw lent at told)))
+    pub none_first : {with : Option Pending} → answer ≡ None
+        → HandsNext (seen_heap k chains) w with replies.Nothing (seen_heap k chains)
+    none_first none = record {
+      hands = λ _.
+          none_to_hand w sound.lists within
+          (first_as_seen w sound.lists within own_read first_at
+          (none_told (linked_in (ground_of k)) (chain_first c) (sym none ∙ rw lent at told)));
+      stays = λ _. (refl, refl);
+    }
 
     -- the first of it is told
     module _ {l : Linked} (some : answer ≡ Some l) where
@@ -173,6 +176,26 @@ module _ {k : CycleHeap} {chains : List Chain} {condemned : Worklist} (w : ℕ) 
             fits = rw minted_now sound.fits;
           }
 
+        -- and so it is where it goes with the one told, if one is; else nothing is done
+        module _ (with : Option Pending) {goes : Bool} (answered : goes ≡ may_go with p) where
+          stays_by : stays_behind with (pending_at (seen_heap k chains) w) ≡ not goes
+          stays_by =
+              ap (stays_behind with) (some_first (pending_at (seen_heap k chains) w) p first) ∙ ap not (sym answered)
+
+          pub hands_next : {reply : Reply} {d : ClearHeap} → goes ≡ true
+              → HeapDoes (seen_heap k chains) (heap.Hand w) reply d → HandsNext (seen_heap k chains) w with reply d
+          hands_next may does = record {
+            hands = λ _. does;
+            stays = λ is. absurd (true≢false (sym is ∙ stays_by ∙ ap not may));
+          }
+
+          pub stays_next : goes ≡ false
+              → HandsNext (seen_heap k chains) w with replies.Nothing (seen_heap k chains)
+          stays_next not_so = record {
+            hands = λ isn't. absurd (true≢false (sym (stays_by ∙ ap not not_so) ∙ isn't));
+            stays = λ _. (refl, refl);
+          }
+
         -- where the mint of its hold is refused nothing changes
         pub hand_refused : {j : CycleHeap} {fault : Fault} → replies.Refused fault ≡ mint_answer_in k p.object
             → j ≡ after_mint_in k p.object
@@ -185,28 +208,28 @@ module _ {k : CycleHeap} {chains : List Chain} {condemned : Worklist} (w : ℕ) 
 -- ---- a worker's chain by itself
 
 module _ {k : CycleHeap} {chains : List Chain} {condemned : Worklist} (w : ℕ) (sound : IsSoundHeap k chains condemned)
-    {now : ClearHeap} (seen : seen_heap k chains ≡ now) (named : w < now.mark.heap.config.workers) where
-  pub has_chain_of : w < length chains
-  has_chain_of = worker_has_chain w sound seen refl named
+    {now : ClearHeap} (seen : seen_heap k chains ≡ now) (named : w < now.mark.heap.config.workers) {c : Chain}
+    (read : c ≡ get_or chains w c) where
+  abbrev within_chains : w < length chains
+  within_chains = worker_has_chain w sound seen named
 
-  module _ {c : Chain} (read : c ≡ get_or chains w c) where
-    -- it is one of registered references
-    pub pending_chain : IsPendingChain (ground_of k) c
-    pending_chain = record {
-      linked = chain_at k.tags k.heap.config.cells chains w c has_chain_of read sound.linked;
-      registered = λ n within.
-          sound.lists.registered n
-          (has-list (lists_in k chains) w (listed k.tags k.heap.config.cells c) n
-          (inside k chains w 0 has_chain_of read) (listed_read k chains w 0 has_chain_of read)
-          (subst (λ (ns : List ℕ). has ns n ≡ true) (append-nil (listed k.tags k.heap.config.cells c)) within));
-    }
+  -- it is one of registered references
+  pub pending_chain : IsPendingChain (ground_of k) c
+  pending_chain = record {
+    linked = chain_at k.tags k.heap.config.cells chains w c within_chains read sound.linked;
+    registered = λ n within.
+        sound.lists.registered n
+        (has-list (lists_in k chains) w (listed k.tags k.heap.config.cells c) n
+        (inside k chains w 0 within_chains read) (listed_read k chains w 0 within_chains read)
+        (subst (λ (ns : List ℕ). has ns n ≡ true) (append-nil (listed k.tags k.heap.config.cells c)) within));
+  }
 
-    -- and what it lists is pending
-    pub pending_read : pendings_in k.heap.objects k.tags (listed k.tags k.heap.config.cells c)
-        ≡ pending_at (seen_heap k chains) w
-    pending_read =
-        pending_at-seen k (lists_in k chains) w (listed k.tags k.heap.config.cells c)
-        (inside k chains w 0 has_chain_of read) (listed_read k chains w 0 has_chain_of read)
+  -- and what it lists is pending
+  pub pending_read : pendings_in k.heap.objects k.tags (listed k.tags k.heap.config.cells c)
+      ≡ pending_at (seen_heap k chains) w
+  pending_read =
+      pending_at-seen k (lists_in k chains) w (listed k.tags k.heap.config.cells c)
+      (inside k chains w 0 within_chains read) (listed_read k chains w 0 within_chains read)
 
 -- ---- an unhook
 

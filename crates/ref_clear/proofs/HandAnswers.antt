@@ -4,11 +4,11 @@ use Rattle.ref_clear.proofs.Common.{get_or, Some, None, inl, inr, or_right, has,
 use Rattle.ref_clear.proofs.Common.{mint_refusal, CycleHeap, mint_answer_in, after_mint_in, ground_of, pending_at}
 use Rattle.ref_clear.proofs.Common.{holding, handed_from, refusal_in, pending_lists_of, pendings_in}
 use Rattle.ref_clear.proofs.Common.{seen_lists, AreRegistered, AreSoundLists, pending_from, Object, rest_of, HeapDoes}
-use Rattle.ref_clear.proofs.Common.{Tag}
+use Rattle.ref_clear.proofs.Common.{Tag, false}
 use Rattle.std.proofs.lemmas.Bool.{lt-ltb}
 use Rattle.ref_base.specs.Refusals.{is_worker, hand_refusal}
 use Rattle.ref_base.specs.CollectorRows.{one_handed}
-use Rattle.ref_clear.specs.ClearViews.{first_pending}
+use Rattle.ref_clear.specs.ClearViews.{first_pending, stays_behind}
 use Rattle.ref_base.proofs.HasLaws.{has-first, has-right}
 use Rattle.ref_clear.proofs.HandRows.{pending_numbers-rest}
 use Rattle.ref_clear.proofs.NoticeAnswers.{mint_of_pending, minted}
@@ -34,6 +34,11 @@ pub some_first : (ps : List Pending) (p : Pending) → first_pending ps ≡ Some
 some_first [] p some = absurd (let wrong : None ≡ Some p = some in cc)
 some_first (q ∷ qs) p some =
     let same : q ≡ p = let e : Some q ≡ Some p = some in cc in ap (λ (r : Pending). r ∷ qs) same
+
+-- where none is told, no first stays behind
+pub none_stays : (ps : List Pending) → stays_behind None ps ≡ false
+none_stays [] = refl
+none_stays (p ∷ ps) = refl
 
 module _ {k : CycleHeap} {lists : List (List ℕ)} {condemned : List ℕ} (w : ℕ) (sound : AreSoundLists k lists condemned)
     (within : w < k.heap.config.workers) where

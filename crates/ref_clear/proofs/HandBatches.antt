@@ -5,19 +5,19 @@ use Rattle.ref_clear.proofs.Common.{slice_set, and_parts, one_more, Pending, Rep
 use Rattle.ref_base.specs.declared.cause.Cause.{Cause}
 use Rattle.ref_base.specs.declared.fault.Fault.TheVariants.{NumbersSpent}
 use Rattle.ref_clear.proofs.Common.{Heap, zero, ClearHeap, pending_at, pending_from, handed_from, holding, refusal_in}
-use Rattle.ref_clear.proofs.Common.{HeapDoes, CycleHeap}
+use Rattle.ref_clear.proofs.Common.{HeapDoes, CycleHeap, Fault, cases_Bool, inl, inr, false, not, subst}
 use Rattle.std.proofs.Common.{◌^◌, nat_lt, nat_le}
 use Rattle.std.proofs.lemmas.Bool.{lt-ltb, leb-true, le-leb}
-use Rattle.std.proofs.lemmas.List.{set-set, length-take}
+use Rattle.std.proofs.lemmas.List.{set-set, set-get_or, length-take}
 use Rattle.ref_base.specs.HeapSteps.{HeldNotice}
 use Rattle.ref_base.specs.Worlds.{notice_from}
-use Rattle.ref_base.specs.Refusals.{is_worker, fits, front_with, batch_of, hand_refusal, hands_refusal}
+use Rattle.ref_base.specs.Refusals.{is_worker, fits, goes_with, front_with, batch_of, hand_refusal, hands_refusal}
 use Rattle.ref_base.specs.CollectorRows.{one_handed, all_handed}
 use Rattle.ref_base.specs.Told.{told_notices}
 use Rattle.ref_base.proofs.BatchParts.{tells_all}
 use Rattle.ref_clear.specs.ClearCalls.{held_notice, held_notices, notice_reply}
 use Rattle.ref_clear.specs.ClearHeaps.{holding_each, handed_some}
-use Rattle.ref_clear.specs.ClearViews.{MayHandOn}
+use Rattle.ref_clear.specs.ClearViews.{MayHandOn, HandsNext, front_count, stays_behind}
 use Rattle.ref_clear.proofs.BatchFronts.{batch_of-front, batch_of-first}
 use Rattle.ref_clear.proofs.HandAnswers.{rest_pending, some_first}
 use Rattle.ref_clear.proofs.HandRows.{rest_read}
@@ -134,6 +134,107 @@ module _ {c d : ClearHeap} {w count : ℕ} {reply : Reply} (may : MayHandOn c w 
       ∙ ap (λ n. numbers ++ n ∷ map (λ (p : Pending). p.object) (take count rest)) one
       ∙ ap (λ (ps : List Pending). numbers ++ map (λ (p : Pending). p.object) (take (suc count) ps)) (sym first.1)
 
+-- ---- one, if it goes with the one told
+
+-- what no first, or one that stays behind, is answered with
+module _ {c d : ClearHeap} {w : ℕ} {p : Pending} {reply : Reply} (there : is_worker c.mark.heap w ≡ true)
+    (next : HandsNext c w (Some p) reply d) where
+  none_there : pending_at c w ≡ [] → (reply ≡ replies.Nothing) × (d ≡ c)
+  none_there none =
+      let does = next.hands (ap (stays_behind (Some p)) none) in
+      let own : refusal_in c (heap.Hand w) ≡ hand_refusal (pending_at c w) c.mark.heap = simp there refl in
+      let passed : refusal_in c (heap.Hand w) ≡ None =
+      own ∙ ap (λ (ps : List Pending). hand_refusal ps c.mark.heap) none in (
+        does.answer ∙ simp passed (ap (one_handed w) none),
+        does.after ∙ simp passed (ap (handed_from c w) none),
+      )
+
+  one_stays : {r : Pending} {rs : List Pending} → pending_at c w ≡ r ∷ rs → goes_with p r ≡ false
+      → (reply ≡ replies.Nothing) × (d ≡ c)
+  one_stays are stays = next.stays (ap (stays_behind (Some p)) are ∙ ap not stays)
+
+  one_goes : {r : Pending} {rs : List Pending} → pending_at c w ≡ r ∷ rs → goes_with p r ≡ true
+      → HeapDoes c (heap.Hand w) reply d
+  one_goes are goes = next.hands (ap (stays_behind (Some p)) are ∙ ap not goes)
+
+  -- how many go as the first does, and as it doesn't
+  more_go : (max : ℕ) {r : Pending} {rs : List Pending} → pending_at c w ≡ r ∷ rs → goes_with p r ≡ true
+      → front_count p (suc max) (pending_at c w) ≡ suc (front_count p max rs)
+  more_go max {r} {rs} are goes = ap (front_count p (suc max)) are ∙ simp goes refl
+
+  none_go : (max : ℕ) {r : Pending} {rs : List Pending} → pending_at c w ≡ r ∷ rs → goes_with p r ≡ false
+      → front_count p max (pending_at c w) ≡ 0
+  none_go max {r} {rs} are stays =
+      let none : front_with p (pending_at c w) ≡ [] = ap (front_with p) are ∙ simp stays refl in
+      omega (arith, length-take max (front_with p (pending_at c w)), ap length none)
+
+  -- a notice was of one that goes: one fewer of the others do
+  pub given_goes : (max : ℕ) → (max ≡ 0 → ⊥) → MayHandOn c w (front_count p max (pending_at c w))
+      → (notice : HeldNotice) → reply ≡ notice_reply (Some notice)
+      → (front_count p max (pending_at c w) ≡ suc (front_count p (max - 1) (pending_at d w)))
+      × MayHandOn c w (suc (front_count p (max - 1) (pending_at d w))) × HeapDoes c (heap.Hand w) reply d
+  given_goes zero some may notice is = absurd (some refl)
+  given_goes (suc max) some may notice is =
+      let less : suc max - 1 ≡ max = omega arith in rw less (by_first (pending_at c w) refl)
+    where
+      by_first : (ps : List Pending) → pending_at c w ≡ ps
+          → (front_count p (suc max) (pending_at c w) ≡ suc (front_count p max (pending_at d w)))
+          × MayHandOn c w (suc (front_count p max (pending_at d w))) × HeapDoes c (heap.Hand w) reply d
+      by_first [] none = let wrong = sym is ∙ (none_there none).0 in absurd cc
+      by_first (r ∷ rs) are =
+          elim (cases_Bool (goes_with p r)) [
+            | inl goes ↦
+                let does = one_goes are goes in
+                let more = more_go max are goes in
+                let left = pending_left (subst (MayHandOn c w) more may) does in
+                let fewer = more ∙ ap (λ qs. suc (front_count p max qs)) (sym (left ∙ ap rest_pending are)) in
+                (fewer, subst (MayHandOn c w) fewer may, does)
+            | inr stays ↦ let wrong = sym is ∙ (one_stays are stays).0 in absurd cc
+          ]
+
+  -- where the first goes, it is given
+  one_given : (max : ℕ) {r : Pending} {rs : List Pending} → (max ≡ 0 → ⊥)
+      → MayHandOn c w (front_count p max (pending_at c w)) → pending_at c w ≡ r ∷ rs → goes_with p r ≡ true
+      → (q : Pending) × (reply ≡ replies.Notice q.object q.queue (Cycle q.cycle w))
+  one_given zero some may are goes = absurd (some refl)
+  one_given (suc max) some may are goes =
+      let may_one = subst (MayHandOn c w) (more_go max are goes) may in
+      ((first may_one (one_goes are goes)).0, tells may_one (one_goes are goes))
+
+  module _ {max : ℕ} (some : max ≡ 0 → ⊥) (may : MayHandOn c w (front_count p max (pending_at c w))) where
+    -- none, that none goes, and that nothing is done
+    pub none_goes : reply ≡ replies.Nothing → (front_count p max (pending_at c w) ≡ 0) × (d ≡ c)
+    none_goes is = by_first (pending_at c w) refl
+      where
+        by_first : (ps : List Pending) → pending_at c w ≡ ps
+            → (front_count p max (pending_at c w) ≡ 0) × (d ≡ c)
+        by_first [] none =
+            let few = length-take max (front_with p (pending_at c w)) in
+            (omega (arith, few, ap (λ (qs : List Pending). length (front_with p qs)) none), (none_there none).1)
+        by_first (r ∷ rs) are =
+            elim (cases_Bool (goes_with p r)) [
+              | inl goes ↦ let wrong = sym is ∙ (one_given max some may are goes).1 in absurd cc
+              | inr stays ↦ (none_go max are stays, (one_stays are stays).1)
+            ]
+
+    -- and none is refused
+    pub none_refused : (fault : Fault) → reply ≡ replies.Refused fault → ⊥
+    none_refused fault is = by_first (pending_at c w) refl
+      where
+        by_first : (ps : List Pending) → pending_at c w ≡ ps → ⊥
+        by_first [] none = let wrong = sym is ∙ (none_there none).0 in cc
+        by_first (r ∷ rs) are =
+            elim (cases_Bool (goes_with p r)) [
+              | inl goes ↦ let wrong = sym is ∙ (one_given max some may are goes).1 in cc
+              | inr stays ↦ let wrong = sym is ∙ (one_stays are stays).0 in cc
+            ]
+
+-- where none goes, all stays as it is
+pub none_handed : (c : ClearHeap) (w count : ℕ) → count ≡ 0 → handed_some c w count ≡ c
+none_handed c w count none =
+    ap (handed_some c w) none
+    ∙ ap (λ (pss : List (List Pending)). record c { pending = pss }) (set-get_or c.pending w [])
+
 -- ---- all of them
 
 one_taken : (n : ℕ) (p : Pending) (ps : List Pending) → 1 ≤ n → 1 ≤ length (take n (p ∷ ps))
@@ -158,7 +259,7 @@ module _ (c : ClearHeap) (w max : ℕ) (batch : List HeldNotice) (there : is_wor
 
   -- with a first that is pending
   module _ {p : Pending} (first : pending_from (pending_at c w) 0 ≡ Some p) {count : ℕ}
-      (counted : count ≡ length (take max (front_with p (pending_at c w)))) where
+      (counted : count ≡ front_count p max (pending_at c w)) where
     are : pending_at c w ≡ p ∷ rest_pending (pending_at c w)
     are = some_first (pending_at c w) p first
 

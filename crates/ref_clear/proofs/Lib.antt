@@ -33,3 +33,4 @@ pub mod HandBatches
 pub mod CountedFronts
 pub mod UnhookAnswers
 pub mod SweepLoops
+mod HandExamples

@@ -1,13 +1,16 @@
 -- What a contract sees of a heap's fields, and what holds of them.
-use Rattle.std.specs.Prelude.{◌≡◌, ℕ, ◌+◌, ◌-◌, ◌^◌, ◌≤◌, true, false, List, [], ◌∷◌, length, map, drop}
-use Rattle.std.specs.Prelude.{Option, Some, None, IsSome}
+use Rattle.std.specs.Prelude.{◌≡◌, ℕ, ◌+◌, ◌-◌, ◌^◌, ◌≤◌, Bool, true, false, not, List, [], ◌∷◌, length, map}
+use Rattle.std.specs.Prelude.{take, drop, Option, Some, None, IsSome}
 use Rattle.std.specs.Option.{unwrap_or}
 use Rattle.ref_base.specs.Members.{has}
 use Rattle.ref_base.specs.Graphs.{Object, numbers, object_at}
 use Rattle.ref_base.specs.Strengths.{IsRising}
 use Rattle.ref_base.specs.Heaps.{reference_in, registered_in}
 use Rattle.ref_base.specs.Worlds.{Pending}
-use Rattle.ref_base.specs.Refusals.{is_in, is_worker}
+use Rattle.ref_base.specs.Refusals.{is_in, is_worker, goes_with, front_with}
+use Rattle.ref_base.specs.declared.heap_step.HeapStep.TheVariants.{Hand}
+use Rattle.ref_base.specs.declared.reply.Reply.{Reply}
+use Rattle.ref_base.specs.declared.reply.Reply.TheVariants.{Nothing}
 use Rattle.ref_base.specs.Collectors.{State, joined}
 use Rattle.ref_base.specs.declared.phase.Phase.TheVariants.{Sweeping}
 use Rattle.ref_space.specs.Worklists.{Worklist}
@@ -17,6 +20,7 @@ use Rattle.ref_space.specs.declared.linked.Linked.{Linked}
 use Rattle.ref_mark.specs.CycleHeaps.{CycleHeap, is_white}
 use Rattle.ref_mark.specs.declared.chain.Chain.{Chain}
 use Rattle.ref_mark.specs.Chains.{AreChains, IsChain, listed, lists_of}
+use Rattle.ref_clear.specs.ClearCalls.{HeapDoes}
 use Rattle.ref_clear.specs.ClearHeaps.{ClearHeap, pending_at}
 use Rattle.ref_clear.specs.Standing.{HeapStands}
 
@@ -82,6 +86,25 @@ pub record AreSoundLists (k : CycleHeap) (lists : List (List ℕ)) (condemned : 
 pub record IsPendingChain (g : Ground) (c : Chain) : Type 0 where
   pub linked : IsChain g.tags g.heap.config.cells c
   pub registered : AreRegistered g.heap.objects (listed g.tags g.heap.config.cells c ∷ [])
+
+-- how many of these, from the first on and at most so many, go with one
+abbrev pub front_count : Pending → ℕ → List Pending → ℕ
+front_count p max ps = length (take max (front_with p ps))
+
+-- whether r goes with the one told, if one is
+abbrev pub may_go : Option Pending → Pending → Bool
+may_go None r = true
+may_go (Some p) r = goes_with p r
+
+-- whether there is a first of these, and it doesn't
+abbrev pub stays_behind : Option Pending → List Pending → Bool
+stays_behind with [] = false
+stays_behind with (r ∷ rs) = not (may_go with r)
+
+-- a hand of the first that is pending, if it goes with the one told: else nothing is done
+pub record HandsNext (c : ClearHeap) (w : ℕ) (with : Option Pending) (reply : Reply) (d : ClearHeap) : Type 0 where
+  pub hands : stays_behind with (pending_at c w) ≡ false → HeapDoes c (Hand w) reply d
+  pub stays : stays_behind with (pending_at c w) ≡ true → (reply ≡ Nothing) × (d ≡ c)
 
 -- so many of the worker's pending references may be handed on
 pub record MayHandOn (c : ClearHeap) (w count : ℕ) : Type 0 where

@@ -2,7 +2,8 @@
 
 ghost use Rattle.std.specs.Prelude.{◌≡◌, IsSome};
 ghost use Rattle.ref_base.specs.Heaps.{registered_in};
-ghost use Rattle.ref_clear.specs.ClearViews.{pending_by};
+ghost use Rattle.ref_base.specs.Refusals.{goes_with};
+ghost use Rattle.ref_clear.specs.ClearViews.{pending_by, may_go};
 
 use ref_base::{ObjNo, QueueNo};
 use ref_objects::Linked;
@@ -39,6 +40,25 @@ impl Pending {
             object: linked.no,
             queue: linked.reference.unwrap().queue.unwrap(),
             cycle: linked.cleared_in,
+        }
+    }
+
+    /// Whether it may be handed on at once with this one: both have one queue, and were cleared in one cycle.
+    #[inline(always)]
+    pub(crate) fn goes_with(self, first: Pending) -> bool
+        ensures { result ≡ goes_with first self }
+    {
+        self.queue == first.queue && self.cycle == first.cycle
+    }
+
+    /// The same of the one that is told, if one is.
+    #[inline(always)]
+    pub(crate) fn may_go(self, with: Option<Pending>) -> bool
+        ensures { result ≡ may_go with self }
+    {
+        match with {
+            Some(first) => self.goes_with(first),
+            None => true,
         }
     }
 }

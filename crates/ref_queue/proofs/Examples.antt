@@ -5,11 +5,33 @@ use Rattle.std.proofs.lemmas.Option.{same_Some}
 use Rattle.std.proofs.lemmas.Bool.{true≢false}
 use Rattle.ref_base.specs.QueueLists.{Lists}
 use Rattle.ref_base.specs.declared.fault.Fault.TheVariants.{WrongQueue, NoMemory, TableClosed, RegisteredTwice}
+use Rattle.ref_queue.specs.NumberBlocks.{is_told, TellsNumbers}
 use Rattle.ref_queue.specs.CleanTables.{Registry, Registers, Takes, TakesAny, FindsFirst}
 use Rattle.ref_queue.specs.QueueAnswers.{AnswersPut, AnswersPoll}
 use Rattle.ref_queue.proofs.TableLemmas.{either_first, first_out}
 use Rattle.ref_queue.specs.declared.queue.Put.TheVariants.{Added, Already, Closed}
 use Rattle.ref_queue.specs.declared.queue.Polled.TheVariants.{Took, Empty, Closed as Ended}
+
+-- ---- numbers that came
+
+-- of block 1, which has the numbers from 64 to 127, the second came
+abbrev one_word : List (ℕ × ℕ)
+one_word = (1, 2) ∷ []
+
+the_second_of_its_block_came : is_told one_word 65 ≡ true
+the_second_of_its_block_came = refl
+
+the_first_did_not : is_told one_word 64 ≡ false
+the_first_did_not = refl
+
+nor_did_the_second_of_another : is_told one_word 1 ≡ false
+nor_did_the_second_of_another = refl
+
+what_no_word_tells_is_not_listed : ¬ (TellsNumbers one_word (65 ∷ 66 ∷ []))
+what_no_word_tells_is_not_listed tells = true≢false (sym (tells.told 66))
+
+what_a_word_tells_is_listed : ¬ (TellsNumbers one_word [])
+what_a_word_tells_is_listed tells = true≢false (tells.told 65)
 
 -- ---- queues
 

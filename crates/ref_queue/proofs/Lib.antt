@@ -1,3 +1,4 @@
+pub mod NumberLemmas
 pub mod QueueLemmas
 pub mod BatchLemmas
 pub mod TableLemmas

@@ -1,7 +1,7 @@
 -- What a contract sees of a queue's fields, and what holds of them.
-use Rattle.std.specs.Prelude.{◌≡◌, ℕ, ◌-◌, Bool, nat_eq, refl, List, ◌++◌, length, map, take}
+use Rattle.std.specs.Prelude.{◌≡◌, ℕ, ◌-◌, Bool, refl, List, ◌++◌, length, map, take}
 use Rattle.std.specs.Coded.{Coded, code_by, coded×, coded_ℕ, coded_bool, coded_list}
-use Rattle.std.specs.List.{AllByRecursion, IsDistinct}
+use Rattle.std.specs.List.{AllByRecursion}
 use Rattle.ref_base.specs.QueueLists.{Lists}
 
 -- the lists are stored as the tuple of their fields
@@ -27,5 +27,4 @@ module _ {T : Type 0} where
     -- what holds of a queue's fields: its number, the numbers of everything that was put in, and what stands
     pub record IsSoundQueue (queue : ℕ) (ns : List ℕ) (xs : List T) : Type 0 where
       pub order : front ns xs ++ map object_of xs ≡ ns
-      pub distinct : IsDistinct nat_eq ns
       pub own : AllByRecursion (λ x. queue_of x ≡ queue) xs

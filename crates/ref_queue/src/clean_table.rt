@@ -1,6 +1,7 @@
 //! The table of a cleaner: which job is to run once which object is gone.
 
-ghost use Rattle.std.specs.Prelude.{◌≡◌, ◌≢◌, [], true, OnOk, IfErr};
+ghost use Rattle.indexmap.specs.IndexMap.{insert_entry};
+ghost use Rattle.std.specs.Prelude.{◌≡◌, ◌≢◌, [], true, is_some, nat_eq, OnOk, IfErr, Some};
 
 use crate::Job;
 use indexmap::IndexMap;
@@ -30,7 +31,7 @@ impl<K, J, A: Allocator> Model for CleanTable<K, J, A> {
 }
 
 impl<K, J, A: Allocator + Copy> CleanTable<K, J, A> {
-    ghost use Rattle.ref_queue.specs.CleanTables.{new_registry, Registers, Takes, TakesAny, FindsFirst};
+    ghost use Rattle.ref_queue.specs.CleanTables.{new_registry, job_of, Registers, Takes, TakesAny, FindsFirst};
 
     /// An open table where nothing is registered. Takes no memory.
     pub fn new(alloc: A) -> Self
@@ -54,16 +55,31 @@ impl<K, J, A: Allocator + Copy> CleanTable<K, J, A> {
         if self.is_closed {
             return Err((Fault::TableClosed, kept, job));
         }
-        if self.jobs.contains_key(&object) {
-            return Err((Fault::RegisteredTwice, kept, job));
-        }
         match self.jobs.insert(object, (kept, job)) {
             Ok(None) => Ok(()),
-            Ok(Some(_before)) => unreachable!(),
+            Ok(Some(before)) => {
+                // It has a job: that one stays, and this one comes back.
+                let (kept, job) = self.put_back(object, before);
+                Err((Fault::RegisteredTwice, kept, job))
+            }
             Err(refused) => {
                 let (_, (kept, job)) = refused.value;
                 Err((Fault::NoMemory, kept, job))
             }
+        }
+    }
+
+    // Puts the object's job back in the place of the one that stands there, which comes out.
+    #[inline(never)]
+    fn put_back(&mut self, object: ObjNo, before: (K, J)) -> (K, J)
+        requires { is_some (job_of self.old object) ≡ true }
+        ensures out { job_of self.old object ≡ Some result }
+        ensures after { self.new ≡ record self.old { jobs = insert_entry nat_eq self.old.jobs object before } }
+    {
+        match self.jobs.insert(object, before) {
+            Ok(Some(out)) => out,
+            Ok(None) => unreachable!(),
+            Err(_) => unreachable!(),
         }
     }
 

@@ -8,6 +8,7 @@
 #![tactic(auto)]
 
 mod clean_table;
+mod enqueued;
 mod job;
 mod queue;
 

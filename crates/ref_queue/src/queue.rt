@@ -2,11 +2,10 @@
 
 ghost use Rattle.std.specs.Prelude.{◌≡◌, ◌+◌, ◌≤◌, ◌<◌, ◌++◌, [], length, map, not, nat_eq, true, false, IfOk, OnErr};
 
-use indexmap::IndexSet;
+use crate::enqueued::Enqueued;
 use ref_base::{Batch, Done, Fault, Nos, ObjNo, Outs, Parcel, QueueNo};
 use std::alloc::{Allocator, Global};
 use std::collections::VecDeque;
-use std::hash::{BuildHasherDefault, FoldHasher};
 use std::marker::Model;
 
 /// What a put answers where it is not refused.
@@ -48,7 +47,7 @@ pub enum PolledBatch {
 pub struct Queue<T: Parcel, A: Allocator = Global> {
     queue: QueueNo,
     // The number of everything that was ever put in, in order. The last ones are of what stands.
-    enqueued: IndexSet<ObjNo, BuildHasherDefault<FoldHasher>, A>,
+    enqueued: Enqueued<A>,
     standing: VecDeque<T, A>,
     is_closed: bool,
 }
@@ -61,9 +60,9 @@ impl<T: Parcel, A: Allocator> Model for Queue<T, A> {
 
     ghost coded = { lists_code T.code };
 
-    ghost view = { λ s. seen_queue s.queue s.enqueued.keys s.standing.items s.is_closed };
+    ghost view = { λ s. seen_queue s.queue s.enqueued s.standing.items s.is_closed };
 
-    ghost invariant = { λ s. IsSoundQueue T.object_of T.queue_of s.queue s.enqueued.keys s.standing.items };
+    ghost invariant = { λ s. IsSoundQueue T.object_of T.queue_of s.queue s.enqueued s.standing.items };
 }
 
 impl<T: Parcel, A: Allocator + Copy> Queue<T, A> {
@@ -80,7 +79,7 @@ impl<T: Parcel, A: Allocator + Copy> Queue<T, A> {
     {
         Queue {
             queue,
-            enqueued: IndexSet::new(alloc),
+            enqueued: Enqueued::new(alloc),
             standing: VecDeque::new(alloc),
             is_closed: false,
         }
@@ -103,23 +102,47 @@ impl<T: Parcel, A: Allocator + Copy> Queue<T, A> {
         if parcel.queue() != self.queue {
             return Err((Fault::WrongQueue, parcel));
         }
-        let object = parcel.obj();
-        if self.enqueued.contains(&object) {
-            return Ok(Put::Already(parcel));
+        if self.is_closed || self.standing.len() == self.standing.capacity() {
+            return self.put_without_room(parcel);
+        }
+        // There is room for the parcel, so its number is looked for once.
+        let position = self.enqueued.len() as u64;
+        match self.enqueued.insert(parcel.obj()) {
+            Ok(true) => {
+                self.standing.push_back_reserved(parcel);
+                Ok(Put::Added(position))
+            }
+            Ok(false) => Ok(Put::Already(parcel)),
+            Err(_) => Err((Fault::NoMemory, parcel)),
+        }
+    }
+
+    // The same of an item for this queue, where it is closed, or there is no room for the item yet.
+    #[inline(never)]
+    fn put_without_room(&mut self, item: T) -> Result<Put<T>, (Fault, T)>
+        requires { T.queue_of item ≡ self.old.queue }
+        ensures answer { AnswersPut T.object_of T.queue_of self.old item result }
+        ensures after { self.new ≡ after_put T.object_of T.queue_of self.old item result }
+    {
+        let object = item.obj();
+        if self.enqueued.contains(object) {
+            return Ok(Put::Already(item));
         }
         if self.is_closed {
-            return Ok(Put::Closed(parcel));
+            return Ok(Put::Closed(item));
         }
         // The room comes first, so that what follows the insert can't fail.
         if self.standing.reserve(1).is_err() {
-            return Err((Fault::NoMemory, parcel));
+            return Err((Fault::NoMemory, item));
         }
         let position = self.enqueued.len() as u64;
-        if self.enqueued.insert(object).is_err() {
-            return Err((Fault::NoMemory, parcel));
+        match self.enqueued.insert(object) {
+            Ok(_new) => {
+                self.standing.push_back_reserved(item);
+                Ok(Put::Added(position))
+            }
+            Err(_) => Err((Fault::NoMemory, item)),
         }
-        self.standing.push_back_reserved(parcel);
-        Ok(Put::Added(position))
     }
 
     /// Takes the first that stands. In constant time. Takes no memory.
@@ -166,7 +189,7 @@ impl<T: Parcel, A: Allocator + Copy> Queue<T, A> {
         ensures after { self.new ≡ after_each self.old batch.old result.done }
         ensures left { batch.new ≡ not_added batch.old result.done }
     {
-        let mut outs = Outs::new(self.enqueued.as_slice().len() as u64);
+        let mut outs = Outs::new(self.enqueued.len() as u64);
         let count = batch.len();
         let mut is_refused = false;
         for _item in 0..count {

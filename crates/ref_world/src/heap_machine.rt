@@ -85,7 +85,7 @@ fn called<A: Allocator + Copy>(heap: &mut WorldHeap<A>, step: HeapCall<A>) -> He
 
 // The call of the heap that does a step which hands nothing over.
 #[inline(always)]
-fn plain_call<A: Allocator + Copy>(heap: &mut WorldHeap<A>, step: PlainStep) -> Reply
+pub(crate) fn plain_call<A: Allocator + Copy>(heap: &mut WorldHeap<A>, step: PlainStep) -> Reply
     ensures { HeapDoes heap.old (HeapStep.Plain step) result heap.new }
 {
     match step {

@@ -2,6 +2,7 @@ pub mod Common
 mod Examples
 mod IllegalTexts
 pub mod Cuts
+pub mod FirstBytes
 pub mod Digits
 pub mod Fields
 pub mod StepForms

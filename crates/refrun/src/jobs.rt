@@ -23,6 +23,7 @@ pub struct Stage<A: Allocator> {
 
 impl<A: Allocator + Copy> Stage<A> {
     /// Does one step, and answers it.
+    #[inline(always)]
     pub fn step(&mut self, step: ScriptStep) -> ScriptReply
         ensures { IsScriptRowOf job_number note_of self.old.world (jobs self.old.table self.old.left.items) step
             result self.new.world (jobs self.new.table self.new.left.items) }

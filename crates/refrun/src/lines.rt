@@ -5,6 +5,8 @@ ghost use Rattle.std.specs.List.{prefix_len};
 ghost use Rattle.refrun.specs.LineViews.{line_of};
 ghost use Rattle.refrun.specs.Lines.{lines_of, content_of, words_of};
 
+use memchr::memchr;
+
 /// A line of a text.
 #[derive(Clone, Copy)]
 pub struct Line<'a> {
@@ -45,6 +47,17 @@ fn length_before(bytes: &[u8], byte: u8) -> usize
     count
 }
 
+/// The same of an LF, for which many bytes are looked at at once.
+fn length_of_line(text: &[u8]) -> usize
+    ensures length { result ≡ prefix_len (λ b. not (b == 10)) text.now }
+    ensures within { result ≤ length text.now }
+{
+    match memchr(b'\n', text) {
+        Some(length) => length,
+        None => text.len(),
+    }
+}
+
 /// How many bytes from the front on are `byte`.
 fn length_of_run(bytes: &[u8], byte: u8) -> usize
     ensures length { result ≡ prefix_len (λ b. b == byte) bytes.now }
@@ -69,7 +82,7 @@ pub fn next_line(text: &[u8]) -> Option<(Line<'_>, &[u8])>
     if text.is_empty() {
         return None;
     }
-    let length = length_before(text, b'\n');
+    let length = length_of_line(text);
     let (bytes, rest) = text.split_at(length);
     match rest.split_first() {
         Some((_, behind)) => Some((

@@ -1,11 +1,12 @@
 //! The steps of a script, its replies and its rows: those of the world, and those of jobs.
 
-ghost use Rattle.std.specs.Prelude.{Some};
+ghost use Rattle.std.specs.Prelude.{◌≡◌, ◌++◌, Some, OnOk, string_bytes};
 ghost use Rattle.ref_base.specs.Texts.{text_of};
 ghost use Rattle.refrun.specs.ScriptSteps.{script_step_words, script_reply_text, script_row_text};
 
 use ref_base::{MutNo, Reply, SlotNo, Step};
 use ref_queue::Ran;
+use std::alloc::{AllocError, Allocator};
 use std::fmt;
 
 /// One step of a script. It prints as it is spelled there, with single spaces and no leading zeros.
@@ -88,4 +89,43 @@ impl fmt::Display for ScriptRow {
         let reply = &self.reply;
         write!(f, "{step} : {reply}")
     }
+}
+
+impl ScriptStep {
+    /// Pushes it as it prints. The one error is that memory is refused: then a part of it may have been pushed.
+    pub fn push_to<A: Allocator>(&self, text: &mut String<A>) -> Result<(), AllocError>
+        ensures { OnOk result (string_bytes text.new ≡ string_bytes text.old ++ text_of (script_step_words self.now)) }
+    {
+        match self {
+            ScriptStep::World(step) => step.push_to(text),
+            // A job costs more than its row.
+            step => write!(text, "{step}"),
+        }
+    }
+}
+
+impl ScriptReply {
+    /// The same of a reply.
+    pub fn push_to<A: Allocator>(&self, text: &mut String<A>) -> Result<(), AllocError>
+        ensures { OnOk result (string_bytes text.new ≡ string_bytes text.old ++ script_reply_text self.now) }
+    {
+        match self {
+            ScriptReply::World(reply) => reply.push_to(text),
+            reply => write!(text, "{reply}"),
+        }
+    }
+}
+
+/// Pushes the row of this step and reply as it prints, as they do. A reply is wide, so that it isn't copied into a row.
+pub(crate) fn push_row<A: Allocator>(
+    text: &mut String<A>,
+    step: &ScriptStep,
+    reply: &ScriptReply,
+) -> Result<(), AllocError>
+    ensures { OnOk result (string_bytes text.new
+        ≡ string_bytes text.old ++ script_row_text (record { step = step.now; reply = reply.now })) }
+{
+    step.push_to(text)?;
+    text.push_str(" : ")?;
+    reply.push_to(text)
 }

@@ -1,11 +1,12 @@
 //! Running a script, and the text of its trace.
 
-ghost use Rattle.std.specs.Prelude.{◌≡◌, ◌≤◌, ◌||◌, true, string_bytes, length, None};
-ghost use Rattle.std.specs.Prelude.{IfOk, IfErr, OnErr, IfSome};
+ghost use Rattle.std.specs.Prelude.{◌≡◌, ◌≤◌, ◌||◌, ◌++◌, ◌∷◌, [], true, string_bytes, length, None, decimal};
+ghost use Rattle.std.specs.Prelude.{IfOk, IfErr, OnOk, OnErr, IfSome};
 ghost use Rattle.refrun.specs.JobViews.{job_number, note_of};
 ghost use Rattle.refrun.specs.LineReading.{FailsFor};
 ghost use Rattle.refrun.specs.Lines.{lines_of, most_bytes};
 ghost use Rattle.refrun.specs.ScriptStanding.{jobs};
+ghost use Rattle.refrun.specs.ScriptSteps.{script_row_text};
 ghost use Rattle.refrun.specs.TextFaults.{ScriptHeader, first_fault, script_fault};
 ghost use Rattle.refrun.specs.Traces.{AnswersRun, PrintsTrace, TellsRun, TellsTrace};
 ghost use Rattle.refrun.specs.Answers.{KeepsUnlessDone, TellsFault, is_cannot_read, is_cannot_write};
@@ -13,9 +14,9 @@ ghost use Rattle.refrun.specs.Answers.{KeepsUnlessDone, TellsFault, is_cannot_re
 use crate::jobs::Stage;
 use crate::reading::text_of;
 use crate::script::{Script, script_of};
-use crate::script_step::{ScriptRow, ScriptStep};
+use crate::script_step::{ScriptReply, ScriptStep, push_row};
 use crate::version::trace_title;
-use ref_base::SpanRule;
+use ref_base::{SpanRule, push_number};
 use ref_queue::{CleanTable, Job};
 use ref_text::{TextFault, TextSink, TextSource, WriteFailed};
 use ref_world::World;
@@ -35,7 +36,7 @@ const ROW_TEXT: usize = 40;
 /// A `job` names a job by its number, so no two should have the same. The jobs are spent: one that no `run` took is
 /// dropped without being run.
 ///
-/// Beside the text and its trace, the run takes what the world takes, and 32 bytes a step, or at most 96 while the
+/// Beside the text and its trace, the run takes what the world takes, and 48 bytes a step, or at most 144 while the
 /// steps are read. All its memory is of this allocator.
 pub fn run_script<R: TextSource, W: TextSink, A: Allocator + Copy>(
     alloc: A,
@@ -119,9 +120,25 @@ fn told_run<A: Allocator + Copy>(
     let mut number = 0u64;
     for step in steps {
         let reply = stage.step(*step);
-        let row = ScriptRow { step: *step, reply };
         number += 1;
-        writeln!(text, "{number} {row}")?;
+        push_line(&mut text, number, step, &reply)?;
     }
     Ok(text)
+}
+
+/// Adds the line of the row of this number.
+#[inline(always)]
+fn push_line<A: Allocator>(
+    text: &mut String<A>,
+    number: u64,
+    step: &ScriptStep,
+    reply: &ScriptReply,
+) -> Result<(), AllocError>
+    ensures { OnOk result (string_bytes text.new ≡ string_bytes text.old
+        ++ (decimal number ++ 32 ∷ (script_row_text (record { step = step.now; reply = reply.now }) ++ 10 ∷ []))) }
+{
+    push_number(text, number)?;
+    text.push_str(" ")?;
+    push_row(text, step, reply)?;
+    text.push_str("\n")
 }

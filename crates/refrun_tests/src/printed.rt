@@ -18,6 +18,28 @@ fn agree<T: fmt::Display>(rt: &impl Abort, alloc: Global, table: &[(T, &str)]) -
     Ok(())
 }
 
+/// Each step prints so, and is pushed so.
+fn steps_agree(rt: &impl Abort, alloc: Global, table: &[(Step, &str)]) -> Result<(), Fail> {
+    agree(rt, alloc, table)?;
+    for (row, (step, want)) in table.iter().enumerate() {
+        let mut text = String::new(alloc);
+        step.push_to(&mut text)?;
+        assert_eq!(rt; text.as_str(), *want, "row {row}, pushed");
+    }
+    Ok(())
+}
+
+/// Each reply prints so, and is pushed so.
+fn replies_agree(rt: &impl Abort, alloc: Global, table: &[(Reply, &str)]) -> Result<(), Fail> {
+    agree(rt, alloc, table)?;
+    for (row, (reply, want)) in table.iter().enumerate() {
+        let mut text = String::new(alloc);
+        reply.push_to(&mut text)?;
+        assert_eq!(rt; text.as_str(), *want, "row {row}, pushed");
+    }
+    Ok(())
+}
+
 #[test]
 fn each_number_prints_behind_its_letter(rt: HostRuntime) -> Result<(), Fail> {
     let alloc = rt.alloc();
@@ -169,8 +191,8 @@ fn each_step_of_objects_prints_as_in_a_script(rt: HostRuntime) -> Result<(), Fai
         ),
         (refer(Strength::Phantom, None), "m7 phantom s1 s0 - 2"),
     ];
-    agree(&rt, rt.alloc(), &STEPS_OF_OBJECTS)?;
-    agree(&rt, rt.alloc(), &references)
+    steps_agree(&rt, rt.alloc(), &STEPS_OF_OBJECTS)?;
+    steps_agree(&rt, rt.alloc(), &references)
 }
 
 /// Steps of references.
@@ -289,9 +311,9 @@ const STEPS_OF_BATCHES: [(Step, &str); 4] = [
 
 #[test]
 fn each_step_of_references_and_queues_prints_as_in_a_script(rt: HostRuntime) -> Result<(), Fail> {
-    agree(&rt, rt.alloc(), &STEPS_OF_REFERENCES)?;
-    agree(&rt, rt.alloc(), &STEPS_OF_QUEUES)?;
-    agree(&rt, rt.alloc(), &STEPS_OF_BATCHES)
+    steps_agree(&rt, rt.alloc(), &STEPS_OF_REFERENCES)?;
+    steps_agree(&rt, rt.alloc(), &STEPS_OF_QUEUES)?;
+    steps_agree(&rt, rt.alloc(), &STEPS_OF_BATCHES)
 }
 
 #[test]
@@ -323,7 +345,7 @@ fn each_step_of_the_collector_prints_as_in_a_script(rt: HostRuntime) -> Result<(
         (Step::Plain(PlainStep::MoveNext { worker }), "w0 move"),
         (Step::Plain(PlainStep::EndMove), "endmove"),
     ];
-    agree(&rt, rt.alloc(), &table)
+    steps_agree(&rt, rt.alloc(), &table)
 }
 
 #[test]
@@ -350,7 +372,7 @@ fn each_reply_to_a_mutator_prints_as_in_a_trace(rt: HostRuntime) -> Result<(), F
         (Reply::Empty, "empty"),
         (Reply::Refused(Fault::NoSuchActor), "refused 9 NoSuchActor"),
     ];
-    agree(&rt, rt.alloc(), &table)
+    replies_agree(&rt, rt.alloc(), &table)
 }
 
 #[test]
@@ -374,7 +396,7 @@ fn each_reply_of_the_collector_prints_as_in_a_trace(rt: HostRuntime) -> Result<(
         (Reply::Selected(3), "selected 3"),
         (Reply::Moved(ObjNo(1)), "moved 1"),
     ];
-    agree(&rt, rt.alloc(), &table)
+    replies_agree(&rt, rt.alloc(), &table)
 }
 
 /// These numbers, 32 at most.
@@ -426,7 +448,7 @@ fn each_reply_of_several_notices_prints_as_in_a_trace(rt: HostRuntime) -> Result
             "added 9, already, added 10, closed, refused 3 NoMemory",
         ),
     ];
-    agree(&rt, rt.alloc(), &table)
+    replies_agree(&rt, rt.alloc(), &table)
 }
 
 #[test]

@@ -1,7 +1,7 @@
 //! Notices: of what a worker cleared, and of what the program unhooks.
 
-ghost use Rattle.std.specs.Prelude.{◌≡◌, ◌+◌, ◌≤◌, ◌<◌, ◌++◌, true, IfOk, length, map, take};
-ghost use Rattle.ref_base.specs.Refusals.{fits, front_with};
+ghost use Rattle.std.specs.Prelude.{◌≡◌, ◌+◌, ◌-◌, ◌^◌, ◌≤◌, ◌<◌, ◌++◌, true, IfOk, length, map, nat_le, take};
+ghost use Rattle.ref_base.specs.Refusals.{fits};
 ghost use Rattle.ref_base.specs.Told.{told_notices};
 ghost use Rattle.ref_base.specs.Worlds.{notice_from};
 ghost use Rattle.ref_base.specs.declared.heap_step.HeapStep.TheVariants.{Hand, Hands, Unhook};
@@ -9,7 +9,7 @@ ghost use Rattle.ref_mark.specs.Chains.{listed};
 ghost use Rattle.ref_mark.specs.MarkCalls.{reply_of};
 ghost use Rattle.ref_clear.specs.ClearCalls.{HeapDoes, notice_reply, handed_reply, held_notices, IsOfHeap};
 ghost use Rattle.ref_clear.specs.ClearHeaps.{pending_at, handed_some};
-ghost use Rattle.ref_clear.specs.ClearViews.{pendings_in, IsPendingChain, MayHandOn};
+ghost use Rattle.ref_clear.specs.ClearViews.{pendings_in, front_count, HandsNext, IsPendingChain, MayHandOn};
 
 use super::Heap;
 use crate::{Handed, Notice, Pending};
@@ -29,11 +29,28 @@ impl<A: Allocator + Copy> Heap<A> {
         if worker.0 >= self.config().workers {
             return Err(Fault::NoSuchActor);
         }
+        self.hand_next(worker, None)
+    }
+
+    // Hands on the first of this worker's pending references, where it goes with this one, if one is told.
+    #[inline(always)]
+    fn hand_next(
+        &mut self,
+        worker: WorkerNo,
+        with: Option<Pending>,
+    ) -> Result<Option<Notice>, Fault>
+        requires { worker < self.old.mark.heap.config.workers }
+        ensures does { HandsNext self.old worker with (reply_of notice_reply result) self.new }
+        ensures own { IfOk result (λ notice. IsOfHeap self.old.mark.heap.no notice) }
+    {
         let mut list = self.pending[worker.0 as usize];
         let Some(linked) = list.take_first(self.marker.objects()) else {
             return Ok(None);
         };
         let first = Pending::of(linked);
+        if !first.may_go(with) {
+            return Ok(None);
+        }
         let hold = self.marker.mint(first.object)?;
         self.pending[worker.0 as usize] = list;
         let cause = Cause::Cycle(first.cycle, worker);
@@ -65,13 +82,12 @@ impl<A: Allocator + Copy> Heap<A> {
         let Some(first) = self.pending_of(worker, 0) else {
             return Ok(None);
         };
-        let count = self.count_with(worker, first, max);
-        // That so many holds can be counted is seen before the first is, so that a refusal changes nothing.
-        if self.hold_count() > u64::MAX - u64::from(count) {
+        // It is seen before the first hold is counted, so that a refusal changes nothing.
+        if !self.can_hold(worker, first, max) {
             return Err(Fault::NumbersSpent);
         }
         let mut numbers = Nos::new();
-        self.hand_each(worker, count, batch, &mut numbers);
+        self.hand_each(worker, first, max, batch, &mut numbers);
         Ok(Some(Handed {
             numbers,
             queue: first.queue,
@@ -79,10 +95,22 @@ impl<A: Allocator + Copy> Heap<A> {
         }))
     }
 
+    // Whether a hold can be counted for each of this worker's pending references, from the first on and at most so
+    // many, that go with this one. They are counted only where there may be too many of them.
+    #[inline(always)]
+    fn can_hold(&self, worker: WorkerNo, first: Pending, max: u32) -> bool
+        requires { worker < self.now.mark.heap.config.workers }
+        ensures { result ≡ nat_le
+            (length self.now.mark.heap.holds + front_count first max (pending_at self.now worker)) (2 ^ 64 - 1) }
+    {
+        let left = u64::MAX - self.hold_count();
+        u64::from(max) <= left || u64::from(self.count_with(worker, first, max)) <= left
+    }
+
     // How many of this worker's pending references, from the first on and at most so many, go with this one.
     fn count_with(&self, worker: WorkerNo, first: Pending, max: u32) -> u32
         requires { worker < self.now.mark.heap.config.workers }
-        ensures { result ≡ length (take max (front_with first (pending_at self.now worker))) }
+        ensures { result ≡ front_count first max (pending_at self.now worker) }
     {
         count_listed(
             self.marker.objects(),
@@ -92,33 +120,37 @@ impl<A: Allocator + Copy> Heap<A> {
         )
     }
 
-    // Hands on the first so many, one after the other.
+    // Hands on those of the first so many that go with this one, one after the other.
     fn hand_each<B: Allocator>(
         &mut self,
         worker: WorkerNo,
-        count: u32,
+        with: Pending,
+        max: u32,
         batch: &mut Batch<Notice, B>,
         numbers: &mut Nos,
     )
-        requires may { MayHandOn self.old worker count }
-        requires room { length batch.old + count ≤ 32 }
-        requires told { length numbers.old + count ≤ 32 }
-        ensures after { self.new ≡ handed_some self.old worker count }
+        requires may { MayHandOn self.old worker (front_count with max (pending_at self.old worker)) }
+        requires room { length batch.old + max ≤ 32 }
+        requires told { length numbers.old + max ≤ 32 }
+        ensures after { self.new ≡ handed_some self.old worker (front_count with max (pending_at self.old worker)) }
         ensures given { batch.new ≡ batch.old ++ held_notices self.old.mark.heap.no
-            (map (notice_from worker) (take count (pending_at self.old worker))) }
-        ensures numbers { numbers.new ≡ numbers.old ++ map (λ p. p.object) (take count (pending_at self.old worker)) }
+            (map (notice_from worker) (take (front_count with max (pending_at self.old worker))
+            (pending_at self.old worker))) }
+        ensures numbers { numbers.new ≡ numbers.old ++ map (λ p. p.object)
+            (take (front_count with max (pending_at self.old worker)) (pending_at self.old worker)) }
     {
-        if count == 0 {
+        if max == 0 {
             return;
         }
-        match self.hand(worker) {
+        match self.hand_next(worker, Some(with)) {
             Ok(Some(notice)) => {
                 numbers.push(notice.obj());
                 batch.push(notice);
-                self.hand_each(worker, count - 1, batch, numbers);
+                self.hand_each(worker, with, max - 1, batch, numbers);
             }
-            // So many are pending, and so many holds can be counted.
-            Ok(None) | Err(_) => unreachable!(),
+            Ok(None) => {}
+            // So many holds can be counted.
+            Err(_) => unreachable!(),
         }
     }
 
@@ -151,8 +183,8 @@ fn count_listed<A: Allocator + Copy>(
     max: u32,
 ) -> u32
     requires { IsPendingChain objects.now list }
-    ensures { result ≡ length (take max (front_with first (pendings_in objects.now.heap.objects objects.now.tags
-        (listed objects.now.tags objects.now.heap.config.cells list)))) }
+    ensures { result ≡ front_count first max (pendings_in objects.now.heap.objects objects.now.tags
+        (listed objects.now.tags objects.now.heap.config.cells list)) }
 {
     if max == 0 {
         return 0;
@@ -160,8 +192,7 @@ fn count_listed<A: Allocator + Copy>(
     let Some(linked) = list.take_first(objects) else {
         return 0;
     };
-    let next = Pending::of(linked);
-    if next.queue != first.queue || next.cycle != first.cycle {
+    if !Pending::of(linked).goes_with(first) {
         return 0;
     }
     1 + count_listed(objects, list, first, max - 1)

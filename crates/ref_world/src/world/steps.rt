@@ -12,7 +12,7 @@ ghost use Rattle.ref_world.specs.WorldHeaps.{heap_no_of, model_heap};
 
 use super::World;
 use crate::hands::Hands;
-use crate::heap_machine::told;
+use crate::heap_machine::{plain_call, told};
 use crate::{HeapCall, HeapReply, WorldHeap, WorldNotice, apply_heap};
 use ref_base::{Actor, Fault, HeapStep, MutNo, PlainStep, Reply, SlotNo, Step, WorkerNo};
 use std::alloc::Allocator;
@@ -30,9 +30,13 @@ impl<A: Allocator + Copy> World<A> {
     pub fn step(&mut self, step: Step) -> Reply
         ensures row { IsRowOf self.old step result self.new }
     {
-        match self.perform(step) {
-            Ok(reply) => reply,
-            Err(fault) => Reply::Refused(fault),
+        match step {
+            // A reply is wide, so that of most steps isn't copied on its way.
+            Step::Plain(step) => self.ask(step),
+            step => match self.perform(step) {
+                Ok(reply) => reply,
+                Err(fault) => Reply::Refused(fault),
+            },
         }
     }
 
@@ -42,7 +46,7 @@ impl<A: Allocator + Copy> World<A> {
         ensures { Does self.old step result self.new }
     {
         match step {
-            Step::Plain(step) => self.ask(step),
+            Step::Plain(step) => Ok(self.ask(step)),
             Step::Unhook { mutator, reference } => self.unhook(mutator, reference),
             Step::Hand { worker } => self.hand(worker),
             Step::Hands { worker, max } => self.hand_some(worker, max),
@@ -62,10 +66,10 @@ impl<A: Allocator + Copy> World<A> {
 
     // A step that is the heap's alone.
     #[inline(always)]
-    fn ask(&mut self, step: PlainStep) -> Result<Reply, Fault>
-        ensures { Does self.old (Step.Plain step) result self.new }
+    fn ask(&mut self, step: PlainStep) -> Reply
+        ensures { IsRowOf self.old (Step.Plain step) result self.new }
     {
-        told(apply_heap(&mut self.heap, HeapStep::Plain(step)))
+        plain_call(&mut self.heap, step)
     }
 
     // Clears the reference in a slot, and takes its notice into the hand if it has a queue.

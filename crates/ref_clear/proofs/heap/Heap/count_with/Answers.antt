@@ -1,10 +1,11 @@
 use Rattle.ref_clear.proofs.Common.{arith}
-use Rattle.ref_clear.proofs.ChainedNotices.{has_chain_of, pending_chain, pending_read}
+use Rattle.ref_clear.proofs.ChainedNotices.{worker_has_chain, pending_chain, pending_read}
 use Rattle.ref_clear.proofs.heap.Heap.count_with.Goals as goal
 
 pub index-requires : goal.index-requires
 index-requires g c =
-    let has_chain = has_chain_of c.worker.inside.0 c.self.invariant c.self.view_is (rw c.worker.view_is c.requires) in
+    let has_chain =
+    worker_has_chain c.worker.inside.0 c.self.invariant c.self.view_is (rw c.worker.view_is c.requires) in
     omega (arith, has_chain, c.self.inside.pending.ok.0)
 
 pub count_listed-requires : goal.count_listed-requires

@@ -12,8 +12,8 @@ count_listed-requires g t c κs within = (
 pub returns : goal.returns
 returns g t c =
     let max_is : c.args.max ≡ suc (c.args.max - 1) = omega (arith, c.if-max-eq0.false) in
-    let goes : goes_with c.args.first c.of-next.result ≡ true = grind arith in
+    let goes : goes_with c.args.first c.of.result ≡ true = grind arith in
     rw max_is
-    (counted_more c.args.first (c.args.max - 1) _ _ c.of-next.result c.count_listed.result
-    (first_stands c.requires c.take_first.ensures.answer c.in-Some.is c.take_first.ensures.after c.of-next.ensures) goes
+    (counted_more c.args.first (c.args.max - 1) _ _ c.of.result c.count_listed.result
+    (first_stands c.requires c.take_first.ensures.answer c.in-Some.is c.take_first.ensures.after c.of.ensures) goes
     c.count_listed.ensures)

@@ -10,7 +10,7 @@ pub loop-item-init : goal.loop-item-init
 loop-item-init g c = rw c.new-outs.ensures (record {
   so_far = at_first g.T.Parcel.object_of g.T.Parcel.queue_of c.args.self.now c.args.batch.now;
   before =
-      ap length c.as_slice.ensures.keys ∙ ap length (sym c.self.invariant.order)
+      c.len.ensures.count ∙ ap length (sym c.self.invariant.order)
       ∙ ap (λ (l : Lists _). length (enqueued g.T.Parcel.object_of l)) c.self.view_is;
 })
 
@@ -81,6 +81,6 @@ pub returns-clause-left : goal.returns-clause-left
 returns-clause-left g c =
     let all : c.loop-item._item ≡ length c.args.batch.now =
     omega (arith, c.len-count.ensures, c.loop-item-test.false, c.loop-item.auto) in
-    rw (c.turn.ensures, c.len.ensures.count, c.len-count.ensures.count)
+    rw (c.turn.ensures, c.len-2.ensures.count, c.len-count.ensures.count)
     (left_at g.T.Parcel.object_of g.T.Parcel.queue_of c.args.self.now c.args.batch.now
     (rw all at c.loop-item.invariant.so_far))
