@@ -1,5 +1,5 @@
 //! The shapes of `ref_bench` in plain Rust, to compare the compilers' code: nanoseconds, the least of nine runs. With
-//! the word `script` it runs a script of cycles and moves instead, and with `long` it prints a long one, or with
+//! the word `script` it runs a script instead, as `refrun run` does, and with `long` it prints a long one, or with
 //! `long 65536` one of a larger heap.
 
 mod long_script;
@@ -138,7 +138,12 @@ fn main() {
     let words: Vec<String> = std::env::args().skip(1).collect();
     match words.iter().map(String::as_str).collect::<Vec<&str>>()[..] {
         [] => measure(),
-        ["script"] if script::run().is_some() => {}
+        ["script"] => {
+            if let Err(fault) = script::run() {
+                eprintln!("refrun: {fault}");
+                std::process::exit(3);
+            }
+        }
         ["long"] => long_script::print(1, 4_096),
         ["long", "65536"] => long_script::print(2, 65_536),
         _ => std::process::exit(3),

@@ -32,28 +32,6 @@ pub enum Fault {
     MovesLeft,
 }
 
-impl Fault {
-    /// The number that a trace has of it.
-    pub fn number(self) -> u32 {
-        match self {
-            Fault::NoCell => 4,
-            Fault::EmptySlot => 6,
-            Fault::BadField => 7,
-            Fault::NotAReference => 8,
-            Fault::NoSuchActor => 9,
-            Fault::ForeignHold => 11,
-            Fault::WrongPhase => 12,
-            Fault::ClockBack => 13,
-            Fault::GreyLeft => 14,
-            Fault::ClearingLeft => 15,
-            Fault::SweepLeft => 16,
-            Fault::MovesLeft => 17,
-            Fault::NoRoom => 18,
-            Fault::AddressesSpent => 19,
-        }
-    }
-}
-
 #[derive(Clone, Copy, PartialEq, Eq)]
 enum Phase {
     Idle,
@@ -67,6 +45,8 @@ enum Phase {
 #[derive(Clone, Copy)]
 pub enum Span {
     Fixed(u64),
+    /// No run has such a span.
+    #[allow(dead_code)]
     Scaled(u64),
 }
 
@@ -74,12 +54,14 @@ pub enum Span {
 pub enum Strength {
     Soft,
     Weak,
-    /// No run and no script makes such a reference.
+    /// No run makes such a reference.
     #[allow(dead_code)]
     Phantom,
 }
 
-/// What a look at a reference told of it: that of this number is cleared, or has another referent, or had none.
+/// What a look at a reference told of it: that of this number is cleared, or has another referent, or had none. The runs
+/// read none of the numbers.
+#[allow(dead_code)]
 #[derive(Clone, Copy)]
 pub enum Look {
     Cleared(u32),
