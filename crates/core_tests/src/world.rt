@@ -40,6 +40,14 @@ fn do_steps<A: Allocator + Copy>(rt: &impl Abort, world: &mut World<A>, story: &
     }
 }
 
+/// The reply to a step, which is asked in fewer bytes where it is of the heap alone.
+fn asked<A: Allocator + Copy>(world: &mut World<A>, step: Step) -> Reply {
+    match step {
+        Step::Plain(step) => world.ask(step).reply(),
+        step => world.step(step),
+    }
+}
+
 /// The steps of a story.
 fn steps_of<A: Allocator>(alloc: A, story: &[(Step, Reply)]) -> Result<Vec<Step, A>, AllocError> {
     let mut steps = Vec::with_capacity(alloc, story.len())?;
@@ -57,7 +65,8 @@ fn are_rows(rt: &impl Abort, rows: &[Row], story: &[(Step, Reply)]) {
     }
 }
 
-/// Has a new world of this size run a story's steps as one list: the trace is the story.
+/// Has a new world of this size run a story's steps as one list: the trace is the story. So are the replies that
+/// another gives, asked step by step.
 fn runs_as(
     rt: &impl Abort,
     alloc: Global,
@@ -70,11 +79,16 @@ fn runs_as(
         Ok(Trace { rows, world }) => {
             world.end();
             are_rows(rt, &rows, story);
-            Ok(())
         }
         Err((fault, world, _steps)) => {
             world.end();
-            Err(fault)?
+            return Err(Fail::from(fault));
         }
     }
+    let mut world = World::new(alloc, config)?;
+    for (row, &(step, want)) in story.iter().enumerate() {
+        assert_eq!(rt; asked(&mut world, step), want, "row {row}: {step}");
+    }
+    world.end();
+    Ok(())
 }

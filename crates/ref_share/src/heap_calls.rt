@@ -37,7 +37,10 @@ impl<A: Allocator + Copy> SharedHeap<A> {
     {
         match self.without_hold(rt, seat, HeapStep::Hold { mutator, slot }) {
             Ok(HeapReply::Held(hold)) => Ok(hold),
-            Ok(HeapReply::Told(Reply::Refused(fault))) => Err(fault),
+            Ok(HeapReply::Told(reply)) => match reply.reply() {
+                Reply::Refused(fault) => Err(fault),
+                _ => unreachable!(),
+            },
             Err(fault) => Err(fault),
             _answer => unreachable!(),
         }
@@ -119,7 +122,7 @@ impl<A: Allocator + Copy> SharedHeap<A> {
     {
         match self.without_hold(rt, seat, step) {
             Ok(HeapReply::Notice(notice)) => Ok(Some(notice)),
-            Ok(HeapReply::Told(reply)) => none_given(reply),
+            Ok(HeapReply::Told(reply)) => none_given(reply.reply()),
             Err(fault) => Err(fault),
             _answer => unreachable!(),
         }
@@ -226,7 +229,7 @@ impl<A: Allocator + Copy> SharedHeap<A> {
         ensures asks { AsksHeap (heap_view seat.old) step result (heap_view seat.new) }
     {
         match self.without_hold(rt, seat, HeapStep::Plain(step)) {
-            Ok(HeapReply::Told(reply)) => Ok(reply),
+            Ok(HeapReply::Told(reply)) => Ok(reply.reply()),
             Err(fault) => Err(fault),
             _answer => unreachable!(),
         }

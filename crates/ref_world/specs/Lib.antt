@@ -1,6 +1,7 @@
 pub mod AskedSteps
 pub mod WorldHeaps
 pub mod Cores
+pub mod PlainReplies
 pub mod HeapReplies
 pub mod QueueReplies
 pub mod Headline

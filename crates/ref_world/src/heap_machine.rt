@@ -12,6 +12,7 @@ ghost use Rattle.ref_world.specs.Standing.{answered};
 ghost use Rattle.ref_world.specs.WorldHeaps.{heap_no_of};
 
 use crate::hand::is_within;
+use crate::plain_reply::{PlainAnswer, PlainReply};
 use crate::replies::{
     began, done, doomed, handed_on, looked, made, moved, refers, scanned, selected, swept, value,
 };
@@ -31,7 +32,7 @@ pub type HeapCall<A = Global> = HeapStep<Hold, Batch<Notice, A>>;
 #[derive(Debug)]
 pub enum HeapReply<B> {
     /// The reply, and nothing is given out.
-    Told(Reply),
+    Told(PlainReply),
     /// The notice that an unhook or a hand gives.
     Notice(Notice),
     /// The hold that a hold gives.
@@ -85,7 +86,10 @@ fn called<A: Allocator + Copy>(heap: &mut WorldHeap<A>, step: HeapCall<A>) -> He
 
 // The call of the heap that does a step which hands nothing over.
 #[inline(always)]
-pub(crate) fn plain_call<A: Allocator + Copy>(heap: &mut WorldHeap<A>, step: PlainStep) -> Reply
+pub(crate) fn plain_call<A: Allocator + Copy>(
+    heap: &mut WorldHeap<A>,
+    step: PlainStep,
+) -> PlainReply
     ensures { HeapDoes heap.old (HeapStep.Plain step) result heap.new }
 {
     match step {
@@ -189,7 +193,7 @@ fn held<A: Allocator>(answer: Result<Hold, Fault>) -> HeapAnswer<A>
 {
     match answer {
         Ok(hold) => HeapReply::Held(hold),
-        Err(fault) => HeapReply::Told(Reply::Refused(fault)),
+        Err(fault) => HeapReply::Told(PlainReply(PlainAnswer::Refused(fault))),
     }
 }
 
@@ -200,8 +204,8 @@ fn given<A: Allocator>(answer: Result<Option<Notice>, Fault>) -> HeapAnswer<A>
 {
     match answer {
         Ok(Some(notice)) => HeapReply::Notice(notice),
-        Ok(None) => HeapReply::Told(Reply::Nothing),
-        Err(fault) => HeapReply::Told(Reply::Refused(fault)),
+        Ok(None) => HeapReply::Told(PlainReply(PlainAnswer::Nothing)),
+        Err(fault) => HeapReply::Told(PlainReply(PlainAnswer::Refused(fault))),
     }
 }
 
@@ -211,7 +215,7 @@ fn adopted<A: Allocator>(answer: Result<ObjNo, (Fault, Hold)>) -> HeapAnswer<A>
     ensures back { IsBack answer result }
 {
     match answer {
-        Ok(object) => HeapReply::Told(Reply::Object(object)),
+        Ok(object) => HeapReply::Told(PlainReply(PlainAnswer::Object(object))),
         Err((fault, hold)) => HeapReply::Back(fault, hold),
     }
 }
@@ -222,7 +226,7 @@ fn released<A: Allocator>(answer: Result<(), (Fault, Hold)>) -> HeapAnswer<A>
     ensures back { IsBack answer result }
 {
     match answer {
-        Ok(()) => HeapReply::Told(Reply::Done),
+        Ok(()) => HeapReply::Told(PlainReply(PlainAnswer::Done)),
         Err((fault, hold)) => HeapReply::Back(fault, hold),
     }
 }
@@ -234,8 +238,10 @@ pub(crate) fn told<A: Allocator>(reply: HeapAnswer<A>) -> Result<Reply, Fault>
     ensures { answered result ≡ told_reply reply }
 {
     match reply {
-        HeapReply::Told(Reply::Refused(fault)) => Err(fault),
-        HeapReply::Told(reply) => Ok(reply),
+        HeapReply::Told(reply) => match reply.reply() {
+            Reply::Refused(fault) => Err(fault),
+            reply => Ok(reply),
+        },
         _ => unreachable!(),
     }
 }

@@ -7,12 +7,14 @@ mod hands;
 mod heap_machine;
 mod notice;
 mod passage;
+mod plain_reply;
 mod replies;
 mod trace;
 mod world;
 
 pub use heap_machine::{HeapAnswer, HeapCall, HeapReply, WorldHeap, apply_heap};
 pub use notice::WorldNotice;
+pub use plain_reply::PlainReply;
 pub use ref_base::{HeapStep, PlainStep, Reply, Row, Step};
 pub use trace::{Trace, run};
 pub use world::World;

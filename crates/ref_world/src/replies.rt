@@ -6,123 +6,124 @@ ghost use Rattle.ref_mark.specs.MarkCalls.{reply_of, done_reply, scan_reply, mov
 ghost use Rattle.ref_clear.specs.ClearCalls.{looked_reply, swept_reply, handed_reply};
 ghost use Rattle.ref_world.specs.QueueReplies.{polls_reply};
 
+use crate::plain_reply::{PlainAnswer, PlainReply};
 use ref_base::{Fault, ObjNo, Reply, WorkerNo};
 use ref_clear::{Handed, Looked};
 use ref_queue::PolledBatch;
 
 // The object that was made.
-pub(crate) fn made(answer: Result<ObjNo, Fault>) -> Reply
+pub(crate) fn made(answer: Result<ObjNo, Fault>) -> PlainReply
     ensures { result ≡ reply_of Reply.Object answer }
 {
     match answer {
-        Ok(object) => Reply::Object(object),
-        Err(fault) => Reply::Refused(fault),
+        Ok(object) => PlainReply(PlainAnswer::Object(object)),
+        Err(fault) => PlainReply(PlainAnswer::Refused(fault)),
     }
 }
 
-pub(crate) fn done(answer: Result<(), Fault>) -> Reply
+pub(crate) fn done(answer: Result<(), Fault>) -> PlainReply
     ensures { result ≡ reply_of done_reply answer }
 {
     match answer {
-        Ok(()) => Reply::Done,
-        Err(fault) => Reply::Refused(fault),
+        Ok(()) => PlainReply(PlainAnswer::Done),
+        Err(fault) => PlainReply(PlainAnswer::Refused(fault)),
     }
 }
 
 // What a slot holds now.
-pub(crate) fn value(answer: Result<Option<ObjNo>, Fault>) -> Reply
+pub(crate) fn value(answer: Result<Option<ObjNo>, Fault>) -> PlainReply
     ensures { result ≡ reply_of value_reply answer }
 {
     match answer {
-        Ok(Some(object)) => Reply::Object(object),
-        Ok(None) => Reply::Null,
-        Err(fault) => Reply::Refused(fault),
+        Ok(Some(object)) => PlainReply(PlainAnswer::Object(object)),
+        Ok(None) => PlainReply(PlainAnswer::Null),
+        Err(fault) => PlainReply(PlainAnswer::Refused(fault)),
     }
 }
 
-pub(crate) fn refers(answer: Result<bool, Fault>) -> Reply
+pub(crate) fn refers(answer: Result<bool, Fault>) -> PlainReply
     ensures { result ≡ reply_of Reply.Refers answer }
 {
     match answer {
-        Ok(refers) => Reply::Refers(refers),
-        Err(fault) => Reply::Refused(fault),
+        Ok(refers) => PlainReply(PlainAnswer::Refers(refers)),
+        Err(fault) => PlainReply(PlainAnswer::Refused(fault)),
     }
 }
 
-pub(crate) fn began(answer: Result<u64, Fault>) -> Reply
+pub(crate) fn began(answer: Result<u64, Fault>) -> PlainReply
     ensures { result ≡ reply_of Reply.Cycle answer }
 {
     match answer {
-        Ok(cycle) => Reply::Cycle(cycle),
-        Err(fault) => Reply::Refused(fault),
+        Ok(cycle) => PlainReply(PlainAnswer::Cycle(cycle)),
+        Err(fault) => PlainReply(PlainAnswer::Refused(fault)),
     }
 }
 
-pub(crate) fn scanned(answer: Result<Option<ObjNo>, Fault>) -> Reply
+pub(crate) fn scanned(answer: Result<Option<ObjNo>, Fault>) -> PlainReply
     ensures { result ≡ reply_of scan_reply answer }
 {
     match answer {
-        Ok(Some(object)) => Reply::Scanned(object),
-        Ok(None) => Reply::Nothing,
-        Err(fault) => Reply::Refused(fault),
+        Ok(Some(object)) => PlainReply(PlainAnswer::Scanned(object)),
+        Ok(None) => PlainReply(PlainAnswer::Nothing),
+        Err(fault) => PlainReply(PlainAnswer::Refused(fault)),
     }
 }
 
-pub(crate) fn doomed(answer: Result<u32, Fault>) -> Reply
+pub(crate) fn doomed(answer: Result<u32, Fault>) -> PlainReply
     ensures { result ≡ reply_of Reply.Doomed answer }
 {
     match answer {
-        Ok(count) => Reply::Doomed(count),
-        Err(fault) => Reply::Refused(fault),
+        Ok(count) => PlainReply(PlainAnswer::Doomed(count)),
+        Err(fault) => PlainReply(PlainAnswer::Refused(fault)),
     }
 }
 
-pub(crate) fn looked(answer: Result<Option<Looked>, Fault>) -> Reply
+pub(crate) fn looked(answer: Result<Option<Looked>, Fault>) -> PlainReply
     ensures { result ≡ reply_of looked_reply answer }
 {
     match answer {
         Ok(Some(looked)) => looked_at(looked),
-        Ok(None) => Reply::Nothing,
-        Err(fault) => Reply::Refused(fault),
+        Ok(None) => PlainReply(PlainAnswer::Nothing),
+        Err(fault) => PlainReply(PlainAnswer::Refused(fault)),
     }
 }
 
-fn looked_at(looked: Looked) -> Reply
+fn looked_at(looked: Looked) -> PlainReply
     ensures { result ≡ looked_reply (Some looked) }
 {
     match looked {
-        Looked::Cleared(reference) => Reply::Cleared(reference),
-        Looked::Kept(reference) => Reply::Kept(reference),
-        Looked::Skipped(reference) => Reply::Skipped(reference),
+        Looked::Cleared(reference) => PlainReply(PlainAnswer::Cleared(reference)),
+        Looked::Kept(reference) => PlainReply(PlainAnswer::Kept(reference)),
+        Looked::Skipped(reference) => PlainReply(PlainAnswer::Skipped(reference)),
     }
 }
 
-pub(crate) fn swept(answer: Result<Option<u32>, Fault>) -> Reply
+pub(crate) fn swept(answer: Result<Option<u32>, Fault>) -> PlainReply
     ensures { result ≡ reply_of swept_reply answer }
 {
     match answer {
-        Ok(Some(count)) => Reply::Swept(count),
-        Ok(None) => Reply::Nothing,
-        Err(fault) => Reply::Refused(fault),
+        Ok(Some(count)) => PlainReply(PlainAnswer::Swept(count)),
+        Ok(None) => PlainReply(PlainAnswer::Nothing),
+        Err(fault) => PlainReply(PlainAnswer::Refused(fault)),
     }
 }
 
-pub(crate) fn selected(answer: Result<u32, Fault>) -> Reply
+pub(crate) fn selected(answer: Result<u32, Fault>) -> PlainReply
     ensures { result ≡ reply_of Reply.Selected answer }
 {
     match answer {
-        Ok(count) => Reply::Selected(count),
-        Err(fault) => Reply::Refused(fault),
+        Ok(count) => PlainReply(PlainAnswer::Selected(count)),
+        Err(fault) => PlainReply(PlainAnswer::Refused(fault)),
     }
 }
 
-pub(crate) fn moved(answer: Result<Option<ObjNo>, Fault>) -> Reply
+pub(crate) fn moved(answer: Result<Option<ObjNo>, Fault>) -> PlainReply
     ensures { result ≡ reply_of moved_reply answer }
 {
     match answer {
-        Ok(Some(object)) => Reply::Moved(object),
-        Ok(None) => Reply::Nothing,
-        Err(fault) => Reply::Refused(fault),
+        Ok(Some(object)) => PlainReply(PlainAnswer::Moved(object)),
+        Ok(None) => PlainReply(PlainAnswer::Nothing),
+        Err(fault) => PlainReply(PlainAnswer::Refused(fault)),
     }
 }
 

@@ -2,7 +2,7 @@
 use Rattle.refrun.proofs.Common.{◌≡◌, ℕ, ◌+◌, ◌<◌, ◌≤◌, List, [], ◌∷◌, ◌++◌, length, take, get_or, Option, Some, None}
 use Rattle.refrun.proofs.Common.{refl, sym, ap, subst, ◌∙◌, append_assoc, arith, length-map, take_more, le-leb}
 use Rattle.refrun.proofs.Common.{State, first_state, Config, Fault, Core, Stands, StageJobs, first_jobs, IsScriptRun}
-use Rattle.refrun.proofs.Common.{IsScriptRowOf, IsScript, lines_of, most_bytes, trace_text, TellsRun, ScriptReply}
+use Rattle.refrun.proofs.Common.{IsScript, lines_of, most_bytes, trace_text, TellsRun, ScriptReply}
 use Rattle.refrun.proofs.Common.{ScriptRow, ScriptStep}
 use Rattle.std.proofs.Common.{decimal}
 use Rattle.std.proofs.lemmas.List.{length-take-le, map-append}
@@ -15,8 +15,11 @@ use Rattle.ref_text.specs.declared.fault.TextFault.{TextFault}
 use Rattle.ref_text.specs.declared.fault.TextFault.TheVariants.{CannotWrite}
 use Rattle.refrun.specs.Scripts.{AreScript}
 use Rattle.refrun.specs.Versions.{trace_title}
-use Rattle.refrun.specs.Traces.{PrintsTrace, numbered, script_steps_of, TellsTrace}
-use Rattle.ref_base.specs.CollectorRows.{IsRun}
+use Rattle.refrun.specs.Traces.{PrintsTrace, numbered, script_steps_of, TellsRow, TellsTrace}
+use Rattle.ref_base.specs.CollectorRows.{IsRow, IsRun}
+use Rattle.ref_base.specs.declared.reply.Reply.{Reply}
+use Rattle.ref_base.specs.declared.step.Step.{Step}
+use Rattle.ref_world.specs.Standing.{IsRowOf}
 use Rattle.ref_base.specs.declared.row.Row.{Row}
 use Rattle.refrun.specs.ScriptRuns.{world_row, world_rows, RunsIn, IsScriptRow}
 use Rattle.refrun.specs.ScriptSteps.{script_row_text}
@@ -84,6 +87,19 @@ module _ {J : Type 0} (number note : J → ℕ) where
 
   -- ---- its text
 
+  -- a row of the world, and its line
+  pub tells_world : (k : ℕ) (old new : Core) (with_jobs : StageJobs J) (step : Step) (answer reply : Reply)
+      (text more : List ℕ) → IsRowOf old step answer new → reply ≡ answer
+      → more ≡ text ++ (decimal k ++ 32 ∷ (script_row_text
+      (record { step = scripts.World step; reply = replies.World reply }) ++ 10 ∷ []))
+      → TellsRow number note k old with_jobs (scripts.World step) text more new with_jobs
+  tells_world k old new with_jobs step answer reply text more row same line = (
+    replies.World reply,
+    λ a stands. let one = row a stands in
+        (one.0, (subst (λ r. IsRow a (record { step = step; reply = r }) one.0) (sym same) one.1, refl), one.2),
+    line,
+  )
+
   -- a run with no step
   pub tells_nothing_yet : (rule : SpanRule) (world : Core) (jobs : StageJobs J)
       → TellsRun number note rule world jobs [] (trace_text rule []) world jobs
@@ -91,14 +107,15 @@ module _ {J : Type 0} (number note : J → ℕ) where
 
   -- and with one step more, whose row is number i + 1
   pub tells_more : (rule : SpanRule) (old mid new : Core) (before between after : StageJobs J)
-      (steps : List ScriptStep) (i k : ℕ)
-      (next : ScriptStep) (reply : ScriptReply) (text more : List ℕ)
+      (steps : List ScriptStep) (i k : ℕ) (next : ScriptStep) (text more : List ℕ)
       → TellsRun number note rule old before (take i steps) text mid between → k ≡ i → i < length steps
-      → next ≡ get_or steps i next → IsScriptRowOf number note mid between next reply new after
-      → more ≡ text ++ (decimal (k + 1) ++ 32 ∷ (script_row_text (record { step = next; reply = reply }) ++ 10 ∷ []))
+      → next ≡ get_or steps i next → TellsRow number note (k + 1) mid between next text more new after
       → TellsRun number note rule old before (take (i + 1) steps) more new after
   unfolding line_of_row
-  tells_more rule old mid new before between after steps i k next reply text more told same_k within is row more_is =
+  tells_more rule old mid new before between after steps i k next text more told same_k within is one_more =
+      let reply = one_more.0 in
+      let row = one_more.1 in
+      let more_is = one_more.2 in
       let row_made : ScriptRow = record { step = next; reply = reply } in
       let rows = told.0 in
       let counted : length rows ≡ i =

@@ -6,12 +6,13 @@ use Rattle.ref_base.specs.declared.span_rule.SpanRule.{SpanRule}
 use Rattle.ref_world.specs.Cores.{Core}
 use Rattle.refrun.specs.Answers.{AnswersText}
 use Rattle.refrun.specs.ScriptRuns.{StageJobs, world_rows, IsScriptTrace}
-use Rattle.refrun.specs.ScriptStanding.{RunsScriptFrom}
+use Rattle.refrun.specs.ScriptStanding.{IsScriptRowOf, RunsScriptFrom}
 use Rattle.refrun.specs.ScriptSteps.{script_row_text}
 use Rattle.refrun.specs.Scripts.{IsScript}
 use Rattle.refrun.specs.TextFaults.{script_fault}
 use Rattle.refrun.specs.Versions.{trace_title}
 use Rattle.ref_text.specs.declared.fault.TextFault.{TextFault}
+use Rattle.refrun.specs.declared.script_step.ScriptReply.{ScriptReply}
 use Rattle.refrun.specs.declared.script_step.ScriptRow.{ScriptRow}
 use Rattle.refrun.specs.declared.script_step.ScriptStep.{ScriptStep}
 
@@ -28,6 +29,12 @@ abbrev pub script_steps_of : List ScriptRow → List ScriptStep
 script_steps_of rows = map (λ row. row.step) rows
 
 module _ {J : Type 0} (number note : J → ℕ) where
+  -- the step is answered by a row, and behind the text stands its line, which has number k
+  abbrev pub TellsRow : ℕ → Core → StageJobs J → ScriptStep → List ℕ → List ℕ → Core → StageJobs J → Type 0
+  TellsRow k old before step text more new after =
+      (reply : ScriptReply) × IsScriptRowOf number note old before step reply new after
+      × (more ≡ text ++ (decimal k ++ 32 ∷ (script_row_text (record { step = step; reply = reply }) ++ 10 ∷ [])))
+
   -- the text of rows of these steps, which are a run from each state that the one world stands for, and these jobs, to
   -- one for which the other stands
   abbrev pub TellsRun : SpanRule → Core → StageJobs J → List ScriptStep → List ℕ → Core → StageJobs J → Type 0

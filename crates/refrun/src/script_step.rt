@@ -1,10 +1,10 @@
 //! The steps of a script, its replies and its rows: those of the world, and those of jobs.
 
-ghost use Rattle.std.specs.Prelude.{◌≡◌, ◌++◌, Some, OnOk, string_bytes};
+ghost use Rattle.std.specs.Prelude.{◌≡◌, ◌++◌, Some, IfSome, OnOk, string_bytes};
 ghost use Rattle.ref_base.specs.Texts.{text_of};
 ghost use Rattle.refrun.specs.ScriptSteps.{script_step_words, script_reply_text, script_row_text};
 
-use ref_base::{MutNo, Reply, SlotNo, Step};
+use ref_base::{MutNo, PlainStep, Reply, SlotNo, Step};
 use ref_queue::Ran;
 use std::alloc::{AllocError, Allocator};
 use std::fmt;
@@ -92,6 +92,17 @@ impl fmt::Display for ScriptRow {
 }
 
 impl ScriptStep {
+    /// The step of the heap alone that it is, if it is one.
+    #[inline(always)]
+    pub(crate) fn plain(self) -> Option<PlainStep>
+        ensures { IfSome result (λ plain. self ≡ ScriptStep.World (Step.Plain plain)) }
+    {
+        match self {
+            ScriptStep::World(Step::Plain(plain)) => Some(plain),
+            _ => None,
+        }
+    }
+
     /// Pushes it as it prints. The one error is that memory is refused: then a part of it may have been pushed.
     pub fn push_to<A: Allocator>(&self, text: &mut String<A>) -> Result<(), AllocError>
         ensures { OnOk result (string_bytes text.new ≡ string_bytes text.old ++ text_of (script_step_words self.now)) }

@@ -8,7 +8,7 @@ ghost use Rattle.refrun.specs.Lines.{lines_of, most_bytes};
 ghost use Rattle.refrun.specs.ScriptStanding.{jobs};
 ghost use Rattle.refrun.specs.ScriptSteps.{script_row_text};
 ghost use Rattle.refrun.specs.TextFaults.{ScriptHeader, first_fault, script_fault};
-ghost use Rattle.refrun.specs.Traces.{AnswersRun, PrintsTrace, TellsRun, TellsTrace};
+ghost use Rattle.refrun.specs.Traces.{AnswersRun, PrintsTrace, TellsRow, TellsRun, TellsTrace};
 ghost use Rattle.refrun.specs.Answers.{KeepsUnlessDone, TellsFault, is_cannot_read, is_cannot_write};
 
 use crate::jobs::Stage;
@@ -119,11 +119,35 @@ fn told_run<A: Allocator + Copy>(
     text.push_str(trace_title(rule))?;
     let mut number = 0u64;
     for step in steps {
-        let reply = stage.step(*step);
         number += 1;
-        push_line(&mut text, number, step, &reply)?;
+        tell_step(stage, &mut text, number, step)?;
     }
     Ok(text)
+}
+
+/// Does a step, and adds the line of its row, which has this number.
+#[inline(always)]
+fn tell_step<A: Allocator + Copy>(
+    stage: &mut Stage<A>,
+    text: &mut String<A>,
+    number: u64,
+    step: &ScriptStep,
+) -> Result<(), AllocError>
+    ensures { OnOk result (TellsRow job_number note_of number stage.old.world
+        (jobs stage.old.table stage.old.left.items) step.now (string_bytes text.old) (string_bytes text.new)
+        stage.new.world (jobs stage.new.table stage.new.left.items)) }
+{
+    match (*step).plain() {
+        // The reply to most steps is narrow: its row is pushed before it is passed on as one that has lists.
+        Some(plain) => {
+            let reply = ScriptReply::World(stage.world.ask(plain).reply());
+            push_line(text, number, step, &reply)
+        }
+        None => {
+            let reply = stage.step(*step);
+            push_line(text, number, step, &reply)
+        }
+    }
 }
 
 /// Adds the line of the row of this number.

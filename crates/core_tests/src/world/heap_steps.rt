@@ -70,7 +70,7 @@ struct Bench<A: Allocator> {
 /// What the heap answers. A hold that it gives goes into the hand.
 fn asked<A: Allocator + Copy>(bench: &mut Bench<A>, step: HeapCall<A>) -> Told {
     match apply_heap(&mut bench.heap, step) {
-        HeapReply::Told(reply) => Told::Only(reply),
+        HeapReply::Told(reply) => Told::Only(reply.reply()),
         HeapReply::Notice(notice) => {
             let told = Told::Notice(notice.obj().0, notice.cause());
             keep(&mut bench.hand, notice.into_hold());

@@ -13,7 +13,7 @@ ghost use Rattle.ref_world.specs.WorldHeaps.{heap_no_of, model_heap};
 use super::World;
 use crate::hands::Hands;
 use crate::heap_machine::{plain_call, told};
-use crate::{HeapCall, HeapReply, WorldHeap, WorldNotice, apply_heap};
+use crate::{HeapCall, HeapReply, PlainReply, WorldHeap, WorldNotice, apply_heap};
 use ref_base::{Actor, Fault, HeapStep, MutNo, PlainStep, Reply, SlotNo, Step, WorkerNo};
 use std::alloc::Allocator;
 
@@ -31,8 +31,7 @@ impl<A: Allocator + Copy> World<A> {
         ensures row { IsRowOf self.old step result self.new }
     {
         match step {
-            // A reply is wide, so that of most steps isn't copied on its way.
-            Step::Plain(step) => self.ask(step),
+            Step::Plain(step) => self.ask(step).reply(),
             step => match self.perform(step) {
                 Ok(reply) => reply,
                 Err(fault) => Reply::Refused(fault),
@@ -46,7 +45,7 @@ impl<A: Allocator + Copy> World<A> {
         ensures { Does self.old step result self.new }
     {
         match step {
-            Step::Plain(step) => Ok(self.ask(step)),
+            Step::Plain(step) => Ok(self.ask(step).reply()),
             Step::Unhook { mutator, reference } => self.unhook(mutator, reference),
             Step::Hand { worker } => self.hand(worker),
             Step::Hands { worker, max } => self.hand_some(worker, max),
@@ -64,9 +63,9 @@ impl<A: Allocator + Copy> World<A> {
         }
     }
 
-    // A step that is the heap's alone.
+    /// Does a step of the heap alone, as `step` does it, and answers it in fewer bytes.
     #[inline(always)]
-    fn ask(&mut self, step: PlainStep) -> Reply
+    pub fn ask(&mut self, step: PlainStep) -> PlainReply
         ensures { IsRowOf self.old (Step.Plain step) result self.new }
     {
         plain_call(&mut self.heap, step)

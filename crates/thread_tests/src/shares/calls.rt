@@ -200,7 +200,7 @@ pub fn weak(slot: u32, source: u32, queue: Option<QueueNo>) -> PlainStep {
 /// What the heap answered. What it gives out with that is given up.
 pub fn replied<A: Allocator>(answer: Result<HeapAnswer<A>, TurnFault<HeapCall<A>>>) -> Told {
     match answer {
-        Ok(HeapReply::Told(reply)) => Told::Reply(reply),
+        Ok(HeapReply::Told(reply)) => Told::Reply(reply.reply()),
         Ok(HeapReply::Notice(notice)) => {
             notice.into_hold().leak();
             Told::Else

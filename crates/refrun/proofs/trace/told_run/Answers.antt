@@ -13,7 +13,7 @@ loop-step-init g c = (
 pub loop-step-preserved : goal.loop-step-preserved
 loop-step-preserved g c = (
   tells_more job_number note_of c.args.rule _ _ _ _ _ _ c.args.steps.now c.loop-step.step-index c.loop-step.number
-      c.step-item.result c.step-reply.result _ _ c.loop-step.invariant.0 c.loop-step.invariant.1
-      c.loop-step-test.true c.step-item.is c.step-reply.ensures c.in_ok-push_line.ensures,
+      c.step-item.result _ _ c.loop-step.invariant.0 c.loop-step.invariant.1 c.loop-step-test.true c.step-item.is
+      c.in_ok-tell_step.ensures,
   omega (arith, c.loop-step.invariant.1),
 )

@@ -10,5 +10,5 @@ returns-in-Ok-Told-clause-gives g c =
     let is = c.in-Ok-Told.field-0-is in
     let acted = c.in-Ok-Told.ensures.acted in
     gives_none v w acted.0 acted.1 step c.in-Ok-Told.reply c.none_given.result c.requires.step
-    (subst (λ reply. Acts acted.0 step reply acted.1) is acted.2) c.none_given.ensures
+    (subst (λ reply. Acts acted.0 step reply acted.1) is acted.2) (rw c.reply.ensures at c.none_given.ensures)
     (subst (λ reply. Called v step reply w) is c.in-Ok-Told.ensures.ok)
