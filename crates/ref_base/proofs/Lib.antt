@@ -82,3 +82,4 @@ mod LegalExamples
 mod IllegalExamples
 mod Examples
 pub mod WantedMemory
+pub mod StoredFields

@@ -3,17 +3,15 @@ use Rattle.ref_base.proofs.Common.{◌≡◌, ℕ, ◌+◌, ◌<◌, true, false
 use Rattle.ref_base.proofs.Common.{[], ◌∷◌, ◌++◌, Option, Some, None, is_some, inl, inr, suc, cases_Bool, true≢false}
 use Rattle.ref_base.proofs.Common.{false≢true, eq-eqb, eqb-true, ltb-true, ne_eqb, or_cases, nat_eq_equiv, lookup}
 use Rattle.ref_base.proofs.Common.{Object, object_at, is_there, with_object, numbers, stored_object, has, IsRising}
-use Rattle.std.proofs.Common.{Bor}
 use Rattle.std.proofs.lemmas.Bool.{ltb-false}
 use Rattle.std.proofs.lemmas.List.Sorted.{IsNonDecreasingBy-from_sort, list_any-IsPermutation}
 use Rattle.std.proofs.lemmas.Map.Keys.{IsDistinct-IsPermutation, IsStrictlyIncreasing-from_distinct}
 use Rattle.std.specs.List.{IsDistinct}
 use Rattle.std.specs.List.Sorted.{IsPermutation, IsSorted, IsStrictlyIncreasing}
 use Rattle.std.specs.Map.{keys_of}
-use Rattle.std.specs.Option.{option_map, option_copied}
+use Rattle.std.specs.Option.{option_map}
 use Rattle.std.specs.Ordering.{nat_cmp}
-use Rattle.ref_base.specs.GraphViews.{objects_in, linked_reference, placed}
-use Rattle.ref_base.specs.declared.stored.Stored.{Stored}
+use Rattle.ref_base.specs.GraphViews.{Held, objects_in, placed}
 use Rattle.ref_base.proofs.HasLaws.{has-first, has-list_any}
 use native.Mathlib.Numerals.{unary_clauses}
 
@@ -169,15 +167,15 @@ with_object-same (p ∷ ps) o rising there = grind (arith, rising-lacks, is_ther
 
 -- ---- the objects that are stored
 
-rising-placed : (os : List Object) (es : List (ℕ × Stored)) → IsRising (numbers os) → IsRising (numbers (placed os es))
+rising-placed : (os : List Object) (es : List (ℕ × Held)) → IsRising (numbers os) → IsRising (numbers (placed os es))
 rising-placed os [] rising = rising
 rising-placed os (e ∷ es) rising =
     rising-placed (with_object os (stored_object e)) es (rising-with_object os (stored_object e) rising)
 
-pub rising-objects_in : (es : List (ℕ × Stored)) → IsRising (numbers (objects_in es))
+pub rising-objects_in : (es : List (ℕ × Held)) → IsRising (numbers (objects_in es))
 rising-objects_in es = rising-placed [] es tt
 
-object_at-placed : (os : List Object) (es : List (ℕ × Stored)) (n : ℕ) → IsRising (numbers os)
+object_at-placed : (os : List Object) (es : List (ℕ × Held)) (n : ℕ) → IsRising (numbers os)
     → object_at (placed os es) n
     ≡ first_of (object_at os n) (option_map (λ s. stored_object (n, s)) (lookup (nat_eq n) es))
 object_at-placed os [] n rising = sym (first_of-none (object_at os n))
@@ -199,51 +197,37 @@ object_at-placed os (e ∷ es) n rising =
     ∙ ap (first_of (object_at os n)) here
 
 -- a look-up of the map is one of the objects
-pub object_at-objects_in : (es : List (ℕ × Stored)) (n : ℕ)
+pub object_at-objects_in : (es : List (ℕ × Held)) (n : ℕ)
     → object_at (objects_in es) n ≡ option_map (λ s. stored_object (n, s)) (lookup (nat_eq n) es)
 object_at-objects_in es n = object_at-placed [] es n tt
-
-pub none_from_is_some : {X : Type 0} (o : Option X) → is_some o ≡ false → o ≡ None
-none_from_is_some None h = refl
-none_from_is_some (Some x) h = absurd (true≢false h)
 
 pub is_some-option_map : {X Y : Type 0} (f : X → Y) (o : Option X) → is_some (option_map f o) ≡ is_some o
 is_some-option_map f None = refl
 is_some-option_map f (Some x) = refl
 
 -- whether the map has a number is whether an object of it is there
-pub is_there-objects_in : (es : List (ℕ × Stored)) (n : ℕ) → is_some (lookup (nat_eq n) es) ≡ is_there (objects_in es) n
+pub is_there-objects_in : (es : List (ℕ × Held)) (n : ℕ) → is_some (lookup (nat_eq n) es) ≡ is_there (objects_in es) n
 is_there-objects_in es n =
     sym (ap is_some (object_at-objects_in es n) ∙ is_some-option_map (λ s. stored_object (n, s)) (lookup (nat_eq n) es))
 
--- what the map lends at a number is the object
-pub object_at-stored : (es : List (ℕ × Stored)) (n : ℕ) (lent : Option (Bor Stored))
-    → option_copied lent ≡ lookup (nat_eq n) es
-    → option_map (λ s. stored_object (n, s.now)) lent ≡ object_at (objects_in es) n
-object_at-stored es n None e =
-    ap (option_map (λ s. stored_object (n, s))) e ∙ sym (object_at-objects_in es n)
-object_at-stored es n (Some s) e =
-    ap (option_map (λ s. stored_object (n, s))) e ∙ sym (object_at-objects_in es n)
-
-placed-last : (os : List Object) (es : List (ℕ × Stored)) (e : ℕ × Stored)
+placed-last : (os : List Object) (es : List (ℕ × Held)) (e : ℕ × Held)
     → placed os (es ++ e ∷ []) ≡ with_object (placed os es) (stored_object e)
 placed-last os [] e = refl
 placed-last os (d ∷ es) e = placed-last (with_object os (stored_object d)) es e
 
 -- what is stored last comes to its place
-pub stored-last : (es new : List (ℕ × Stored)) (n : ℕ) (s : Stored) (fields : List (Option ℕ)) → s.fields ≡ fields
-    → new ≡ es ++ (n, s) ∷ [] → objects_in new ≡ with_object (objects_in es)
-    (record { no = n; fields = fields; reference = linked_reference s.link })
-stored-last es new n s fields held is = grind (arith, placed-last)
+pub stored-last : (es : List (ℕ × Held)) (e : ℕ × Held)
+    → objects_in (es ++ e ∷ []) ≡ with_object (objects_in es) (stored_object e)
+stored-last es e = placed-last [] es e
 
 -- ---- the numbers by size
 
-lookup-keys : (es : List (ℕ × Stored)) (n : ℕ) → is_some (lookup (nat_eq n) es) ≡ has (keys_of es) n
+lookup-keys : (es : List (ℕ × Held)) (n : ℕ) → is_some (lookup (nat_eq n) es) ≡ has (keys_of es) n
 lookup-keys [] n = refl
 lookup-keys (e ∷ es) n = grind (arith, lookup-keys es n)
 
 -- the map's numbers, sorted, are those of the objects
-pub numbers_from_sorted : (es : List (ℕ × Stored)) (ns : List ℕ) → IsDistinct nat_eq (keys_of es)
+pub numbers_from_sorted : (es : List (ℕ × Held)) (ns : List ℕ) → IsDistinct nat_eq (keys_of es)
     → IsPermutation (keys_of es) ns → IsSorted nat_cmp ns → ns ≡ numbers (objects_in es)
 numbers_from_sorted es ns distinct moved sorted =
     let apart = IsDistinct-IsPermutation nat_eq nat_eq_equiv.symm (keys_of es) ns moved distinct in

@@ -38,6 +38,5 @@ pub mod OldNumbers
 pub mod Forgetting
 pub mod LegalTraces
 pub mod Provenance
-pub mod Words
 pub mod ScannedRows
 pub mod ClearingOrder

@@ -1,5 +1,5 @@
 -- How each reply is spelled (this project's profile).
-use Rattle.std.specs.Prelude.{ℕ, Bool, true, false, List, [], ◌∷◌, ◌++◌, codes, decimal}
+use Rattle.std.specs.Prelude.{ℕ, true, false, List, [], ◌∷◌, ◌++◌, codes, decimal}
 use Rattle.ref_base.specs.Texts.{Word, Letters, Long, queue, worker, number, text_of}
 use Rattle.ref_base.specs.Outs.{outs_of}
 use Rattle.ref_base.specs.Faults.{number_of, name_of}
@@ -22,13 +22,6 @@ out_words out.Already = Letters (codes "already") ∷ []
 out_words out.Closed = Letters (codes "closed") ∷ []
 out_words (out.Refused fault) =
     Letters (codes "refused") ∷ number (number_of fault) ∷ Letters (name_of fault) ∷ []
-
--- whether a reply is to a step of a batch, and tells of each of its items
-abbrev pub is_of_batch : Reply → Bool
-is_of_batch (replies.Notices ns q cycle k) = true
-is_of_batch (replies.Outs outs) = true
-is_of_batch (replies.TookSome ns) = true
-is_of_batch reply = false
 
 -- the words of a reply of no batch, as a trace has them
 abbrev pub reply_words : Reply → List Word

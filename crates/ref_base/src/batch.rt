@@ -58,6 +58,7 @@ impl<T, A: Allocator> Batch<T, A> {
     }
 
     /// One more, last. In constant time. Takes no memory.
+    #[inline(always)]
     pub fn push(&mut self, item: T)
         requires { length self.old < 32 }
         ensures { self.new ≡ self.old ++ item ∷ [] }

@@ -1,36 +1,45 @@
 //! Object graphs.
 
-ghost use Rattle.std.specs.Prelude.{◌≡◌, ◌≤◌, length, IfOk};
-ghost use Rattle.std.specs.Option.{option_map};
-ghost use Rattle.ref_base.specs.GraphViews.{stored_object, linked_reference};
+ghost use Rattle.std.specs.Prelude.{◌≡◌, nat_eq, IfOk};
+ghost use Rattle.std.specs.Map.{lookup};
+ghost use Rattle.std.specs.Option.{option_copied, option_map};
+ghost use Rattle.ref_base.specs.GraphViews.{linked_reference};
 ghost use Rattle.ref_base.specs.GraphAnswers.{AnswersObject, after_object, AnswersRoot, after_root};
 ghost use Rattle.ref_base.specs.Graphs.{empty_graph, is_there, numbers, object_at, plain_object, reference_object};
 ghost use Rattle.ref_base.specs.Strengths.{IsRising};
 
-use crate::stored::{Fields, Link, Stored};
+use crate::stored::{Lent, Link, Stored};
 use crate::{Fault, MOST_FIELDS, ObjNo, Strength};
 use indexmap::{IndexMap, IndexSet};
 use std::alloc::{AllocError, Allocator, Global};
 use std::hash::{BuildHasherDefault, FoldHasher};
 use std::marker::Model;
 
+// In the order in which they were added: a search looks each up by number, and only a listing sorts them.
+type Objects<A> = IndexMap<ObjNo, Stored, BuildHasherDefault<FoldHasher>, A>;
+
 /// An object graph: objects, what they refer to, and roots, the numbers that a program reaches by itself (package
 /// `java.lang.ref` of Java SE 17). That objects have numbers and at most 8 fields is this project's profile. All its
 /// memory is of the allocator that it was made with.
 #[derive(Drop)]
 pub struct Graph<A: Allocator = Global> {
-    // In the order in which they were added: a search looks each up by number, and only a listing sorts them.
-    objects: IndexMap<ObjNo, Stored, BuildHasherDefault<FoldHasher>, A>,
+    objects: Objects<A>,
+    // Those of all objects, one object's after another's: most objects have few of the fields that they may have.
+    fields: Vec<Option<ObjNo>, A>,
     roots: IndexSet<ObjNo, BuildHasherDefault<FoldHasher>, A>,
 }
 
 impl<A: Allocator> Model for Graph<A> {
-    ghost use Rattle.ref_base.specs.GraphViews.{objects_in};
+    ghost use Rattle.std.specs.Prelude.{length};
+    ghost use Rattle.ref_base.specs.GraphViews.{held_in, objects_in, HaveFieldsWithin};
     ghost use Rattle.ref_base.specs.Graphs.{Graph as Data};
 
     ghost Value = { Data };
 
-    ghost view = { λ g. record { objects = objects_in g.objects.entries; roots = g.roots.keys } };
+    ghost view = { λ g.
+        record { objects = objects_in (held_in g.fields.items g.objects.entries); roots = g.roots.keys } };
+
+    ghost invariant = { λ g. HaveFieldsWithin (length g.fields.items) g.objects.entries };
 }
 
 impl<A: Allocator + Copy> Graph<A> {
@@ -40,6 +49,7 @@ impl<A: Allocator + Copy> Graph<A> {
     {
         Graph {
             objects: IndexMap::new(alloc),
+            fields: Vec::new(alloc),
             roots: IndexSet::new(alloc),
         }
     }
@@ -49,8 +59,9 @@ impl<A: Allocator + Copy> Graph<A> {
     /// later: while it isn't there, no path goes on to it.
     ///
     /// Tried in this order: `BadField` where there are more than 8 fields, false where the number is there, `NoMemory`
-    /// where a growth is refused. In each of these nothing has changed. Only true takes memory. In expected constant
-    /// time, amortized.
+    /// where a growth is refused, or where the objects that are there have 2 ^ 32 fields or more. In each of these
+    /// nothing has changed, though room that was made for the fields is kept where a further growth is refused. False
+    /// and `BadField` take no memory. In expected constant time, amortized.
     pub fn add_object(&mut self, no: ObjNo, fields: &[Option<ObjNo>]) -> Result<bool, Fault>
         ensures answer { AnswersObject self.old (plain_object no fields.now) result }
         ensures after { self.new ≡ after_object self.old (plain_object no fields.now) result }
@@ -92,14 +103,20 @@ impl<A: Allocator + Copy> Graph<A> {
         if self.objects.contains_key(&no) {
             return Ok(false);
         }
-        let stored = Stored {
-            fields: Fields::new(fields),
-            link,
+        let Ok(start) = u32::try_from(self.fields.len()) else {
+            return Err(Fault::NoMemory);
         };
-        match self.objects.insert(no, stored) {
-            Ok(_) => Ok(true),
-            Err(_) => Err(Fault::NoMemory),
+        if self.fields.extend_from_slice(fields).is_err() {
+            return Err(Fault::NoMemory);
         }
+        let count = fields.len() as u8;
+        let stored = Stored { start, count, link };
+        if self.objects.insert(no, stored).is_err() {
+            // No object has these fields.
+            self.fields.truncate(start as usize);
+            return Err(Fault::NoMemory);
+        }
+        Ok(true)
     }
 
     /// Makes a number a root. True where it was none. It needn't be an object's: while there is no such object, no path
@@ -115,23 +132,24 @@ impl<A: Allocator + Copy> Graph<A> {
         }
     }
 
-    /// Whether there is an object of this number.
+    /// Whether there is an object of this number. In expected constant time.
     pub(crate) fn has_object(&self, no: ObjNo) -> bool
         ensures { result ≡ is_there self.now.objects no }
     {
-        self.stored(no).is_some()
+        stored_at(&self.objects, no).is_some()
     }
 
-    /// What is stored of the object of this number. Where objects were added by number from 1 on, as most graphs have
-    /// them, it stands where its number says; elsewhere it is found by hashing, in expected constant time.
-    pub(crate) fn stored(&self, no: ObjNo) -> Option<&Stored>
-        ensures { option_map (λ s. stored_object (no, s.now)) result ≡ object_at self.now.objects no }
+    /// The object of this number. In expected constant time.
+    pub(crate) fn object(&self, no: ObjNo) -> Option<Lent<'_>>
+        ensures { option_map
+            (λ o. record { no = no; fields = o.fields.now; reference = linked_reference o.link }) result
+            ≡ object_at self.now.objects no }
     {
-        let place = no.0.saturating_sub(1) as usize;
-        match self.objects.get_index(place) {
-            Some((found, stored)) if *found == no => Some(stored),
-            _ => self.objects.get(&no),
-        }
+        let stored = stored_at(&self.objects, no)?;
+        Some(Lent {
+            fields: stored.fields_among(&self.fields),
+            link: stored.link,
+        })
     }
 
     /// The roots, in the order in which they were added.
@@ -150,5 +168,17 @@ impl<A: Allocator + Copy> Graph<A> {
         let mut listed: Vec<ObjNo, B> = self.objects.keys().copied().collect(alloc)?;
         listed.sort_unstable();
         Ok(listed)
+    }
+}
+
+// What is stored of the object of this number. Where objects were added by number from 1 on, as most graphs have them,
+// it stands where its number says; elsewhere it is found by hashing.
+fn stored_at<A: Allocator>(objects: &Objects<A>, no: ObjNo) -> Option<&Stored>
+    ensures { option_copied result ≡ lookup (nat_eq no) objects.now.entries }
+{
+    let place = no.0.saturating_sub(1) as usize;
+    match objects.get_index(place) {
+        Some((found, stored)) if *found == no => Some(stored),
+        _ => objects.get(&no),
     }
 }

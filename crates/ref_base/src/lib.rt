@@ -58,4 +58,4 @@ pub use span_rule::SpanRule;
 pub use step::Step;
 pub use strength::Strength;
 pub use urgency::Urgency;
-pub use words::push_number;
+pub use words::say_number;

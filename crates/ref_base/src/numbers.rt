@@ -2,6 +2,7 @@
 
 ghost use Rattle.std.specs.Prelude.{◌∷◌, decimal, Some};
 
+use crate::words::{say_behind, say_number};
 use std::fmt;
 use std::marker::Model;
 
@@ -23,8 +24,7 @@ impl fmt::Display for ObjNo {
     ghost output = { λ n. Some (decimal n) };
 
     fn fmt<W: fmt::Write>(&self, f: &mut fmt::Formatter<W>) -> fmt::Result {
-        let number = self.0;
-        write!(f, "{number}")
+        say_number(f, u64::from(self.0))
     }
 }
 
@@ -46,8 +46,7 @@ impl fmt::Display for QueueNo {
     ghost output = { λ n. Some (113 ∷ decimal n) };
 
     fn fmt<W: fmt::Write>(&self, f: &mut fmt::Formatter<W>) -> fmt::Result {
-        let number = self.0;
-        write!(f, "q{number}")
+        say_behind(f, "q", self.0)
     }
 }
 
@@ -69,8 +68,7 @@ impl fmt::Display for MutNo {
     ghost output = { λ n. Some (109 ∷ decimal n) };
 
     fn fmt<W: fmt::Write>(&self, f: &mut fmt::Formatter<W>) -> fmt::Result {
-        let number = self.0;
-        write!(f, "m{number}")
+        say_behind(f, "m", self.0)
     }
 }
 
@@ -92,8 +90,7 @@ impl fmt::Display for WorkerNo {
     ghost output = { λ n. Some (119 ∷ decimal n) };
 
     fn fmt<W: fmt::Write>(&self, f: &mut fmt::Formatter<W>) -> fmt::Result {
-        let number = self.0;
-        write!(f, "w{number}")
+        say_behind(f, "w", self.0)
     }
 }
 
@@ -115,7 +112,6 @@ impl fmt::Display for SlotNo {
     ghost output = { λ n. Some (115 ∷ decimal n) };
 
     fn fmt<W: fmt::Write>(&self, f: &mut fmt::Formatter<W>) -> fmt::Result {
-        let number = self.0;
-        write!(f, "s{number}")
+        say_behind(f, "s", self.0)
     }
 }

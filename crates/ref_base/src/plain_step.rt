@@ -1,18 +1,18 @@
 //! The steps that hand nothing over: what mutators and workers do with a heap's objects alone, and the turns of cycles
 //! and moves.
 
-ghost use Rattle.std.specs.Prelude.{◌≡◌, [], ◌∷◌};
-ghost use Rattle.ref_base.specs.Texts.{Letters, mutator, slot, queue_or_none};
+ghost use Rattle.std.specs.Prelude.{[], ◌∷◌, Some};
+ghost use Rattle.std.specs.Fmt.{DisplaysOnOk};
+ghost use Rattle.ref_base.specs.Texts.{Letters, text_of, word_text, mutator, slot, queue_or_none};
 ghost use Rattle.ref_base.specs.Steps.{plain_words};
-ghost use Rattle.ref_base.specs.Words.{word_of, spelt};
 
-use crate::words::Word::{self, End, Long, Mutator, Name, Number, Queue, Slot};
-use crate::words::{alone, at_slot, by_worker};
+use crate::words::{say_at_slot, say_behind, say_by_worker, say_next, say_number, say_slot};
 use crate::{MutNo, QueueNo, SlotNo, Strength, Urgency, WorkerNo};
+use std::fmt;
 
 /// One step that hands nothing over: neither a hold nor a notice goes with it. A world and a heap have these in common
-/// (`Step::Plain`, `HeapStep::Plain`). Any number can be named: a step with one outside the configuration is refused as
-/// it runs.
+/// (`Step::Plain`, `HeapStep::Plain`). It prints as the world's step does. Any number can be named: a step with one
+/// outside the configuration is refused as it runs.
 #[derive(Clone, Copy, PartialEq, Eq)]
 pub enum PlainStep {
     /// `m0 new s1 2`: makes a plain object, and the slot then holds it.
@@ -110,17 +110,19 @@ pub enum PlainStep {
     EndMove,
 }
 
-impl PlainStep {
-    // The words that it is spelled with.
-    pub(crate) fn words(&self) -> [Word; 6]
-        ensures { spelt result ≡ plain_words self.now }
-    {
+impl fmt::Display for PlainStep {
+    ghost output = { λ step. Some (text_of (plain_words step)) };
+
+    fn fmt<W: fmt::Write>(&self, f: &mut fmt::Formatter<W>) -> fmt::Result {
         match *self {
             PlainStep::New {
                 mutator,
                 slot,
                 fields,
-            } => new_words(mutator, slot, fields),
+            } => {
+                say_at_slot(f, mutator, "new", slot)?;
+                say_next(f, fields)
+            }
             PlainStep::Refer {
                 mutator,
                 strength,
@@ -128,111 +130,97 @@ impl PlainStep {
                 source,
                 queue,
                 fields,
-            } => refer_words(mutator, strength, slot, source, queue, fields),
+            } => {
+                say_at_slots(f, mutator, strength.name(), slot, source)?;
+                say_queue_or_none(f, queue)?;
+                say_next(f, fields)
+            }
             PlainStep::Store {
                 mutator,
                 object,
                 field,
                 value,
-            } => store_words(mutator, object, field, value),
+            } => {
+                say_at_slot(f, mutator, "store", object)?;
+                say_next(f, field)?;
+                say_slot(f, value)
+            }
             PlainStep::Load {
                 mutator,
                 slot,
                 object,
                 field,
-            } => load_words(mutator, slot, object, field),
+            } => {
+                say_at_slots(f, mutator, "load", slot, object)?;
+                say_next(f, field)
+            }
             PlainStep::Copy {
                 mutator,
                 slot,
                 source,
-            } => at_slots(mutator, "copy", slot, source),
-            PlainStep::Drop { mutator, slot } => at_slot(mutator, "drop", slot),
+            } => say_at_slots(f, mutator, "copy", slot, source),
+            PlainStep::Drop { mutator, slot } => say_at_slot(f, mutator, "drop", slot),
             PlainStep::Get {
                 mutator,
                 slot,
                 reference,
-            } => at_slots(mutator, "get", slot, reference),
-            PlainStep::Clear { mutator, reference } => at_slot(mutator, "clear", reference),
+            } => say_at_slots(f, mutator, "get", slot, reference),
+            PlainStep::Clear { mutator, reference } => say_at_slot(f, mutator, "clear", reference),
             PlainStep::RefersTo {
                 mutator,
                 reference,
                 other,
-            } => at_slots(mutator, "refers", reference, other),
-            PlainStep::Begin { now, urgency } => begin_words(now, urgency),
-            PlainStep::Scan { worker } => by_worker(worker, "scan"),
-            PlainStep::EndMark => alone("endmark"),
-            PlainStep::ClearNext { worker } => by_worker(worker, "clearnext"),
-            PlainStep::EndClear => alone("endclear"),
-            PlainStep::Sweep { worker } => by_worker(worker, "sweep"),
-            PlainStep::EndSweep => alone("endsweep"),
-            PlainStep::Select => alone("select"),
-            PlainStep::MoveNext { worker } => by_worker(worker, "move"),
-            PlainStep::EndMove => alone("endmove"),
+            } => say_at_slots(f, mutator, "refers", reference, other),
+            PlainStep::Begin { now, urgency } => say_begin(f, now, urgency),
+            PlainStep::Scan { worker } => say_by_worker(f, worker, "scan"),
+            PlainStep::EndMark => f.write_str("endmark"),
+            PlainStep::ClearNext { worker } => say_by_worker(f, worker, "clearnext"),
+            PlainStep::EndClear => f.write_str("endclear"),
+            PlainStep::Sweep { worker } => say_by_worker(f, worker, "sweep"),
+            PlainStep::EndSweep => f.write_str("endsweep"),
+            PlainStep::Select => f.write_str("select"),
+            PlainStep::MoveNext { worker } => say_by_worker(f, worker, "move"),
+            PlainStep::EndMove => f.write_str("endmove"),
         }
     }
 }
 
-// `m0 new s1 2`.
-fn new_words(by: MutNo, at: SlotNo, fields: u32) -> [Word; 6]
-    ensures { spelt result ≡ plain_words (PlainStep.New by at fields) }
-{
-    let (by, at, fields) = (Mutator(by), Slot(at), Number(fields));
-    [by, Name("new"), at, fields, End, End]
-}
-
-// `m0 weak s1 s0 q0 2`.
-fn refer_words(
+// As `m0 copy s1 s0`.
+#[inline(always)]
+fn say_at_slots<W: fmt::Write>(
+    f: &mut fmt::Formatter<W>,
     by: MutNo,
-    strength: Strength,
-    at: SlotNo,
-    source: SlotNo,
+    name: &'static str,
+    first: SlotNo,
+    second: SlotNo,
+) -> fmt::Result
+    ensures { DisplaysOnOk W.write_str_gives f.old result
+        (Some (text_of (mutator by ∷ Letters name.now ∷ slot first ∷ slot second ∷ []))) f.new }
+{
+    say_at_slot(f, by, name, first)?;
+    say_slot(f, second)
+}
+
+// As ` q0`, or ` -` where there is none.
+fn say_queue_or_none<W: fmt::Write>(
+    f: &mut fmt::Formatter<W>,
     queue: Option<QueueNo>,
-    fields: u32,
-) -> [Word; 6]
-    ensures { spelt result ≡ plain_words (PlainStep.Refer by strength at source queue fields) }
-{
-    let (by, at, source) = (Mutator(by), Slot(at), Slot(source));
-    let (name, queue) = (Name(strength.name()), queue_or_none(queue));
-    [by, name, at, source, queue, Number(fields)]
-}
-
-// `m0 store s0 1 s2`.
-fn store_words(by: MutNo, object: SlotNo, field: u32, value: SlotNo) -> [Word; 6]
-    ensures { spelt result ≡ plain_words (PlainStep.Store by object field value) }
-{
-    let (by, object, field) = (Mutator(by), Slot(object), Number(field));
-    [by, Name("store"), object, field, Slot(value), End]
-}
-
-// `m0 load s2 s0 1`.
-fn load_words(by: MutNo, at: SlotNo, object: SlotNo, field: u32) -> [Word; 6]
-    ensures { spelt result ≡ plain_words (PlainStep.Load by at object field) }
-{
-    let (by, at, object) = (Mutator(by), Slot(at), Slot(object));
-    [by, Name("load"), at, object, Number(field), End]
-}
-
-// `begin 5 normal`.
-fn begin_words(now: u64, urgency: Urgency) -> [Word; 6]
-    ensures { spelt result ≡ plain_words (PlainStep.Begin now urgency) }
-{
-    let urgency = Name(urgency.name());
-    [Name("begin"), Long(now), urgency, End, End, End]
-}
-
-// A dash where there is none.
-fn queue_or_none(queue: Option<QueueNo>) -> Word
-    ensures { word_of result ≡ queue_or_none queue }
+) -> fmt::Result
+    ensures { DisplaysOnOk W.write_str_gives f.old result (Some (32 ∷ word_text (queue_or_none queue))) f.new }
 {
     match queue {
-        Some(queue) => Queue(queue),
-        None => Name("-"),
+        Some(queue) => say_behind(f, " q", queue.0),
+        None => f.write_str(" -"),
     }
 }
 
-// As `m0 copy s1 s0`.
-fn at_slots(by: MutNo, name: &'static str, first: SlotNo, second: SlotNo) -> [Word; 6]
-    ensures { spelt result ≡ mutator by ∷ Letters name.now ∷ slot first ∷ slot second ∷ [] }
+// As `begin 5 normal`.
+fn say_begin<W: fmt::Write>(f: &mut fmt::Formatter<W>, now: u64, urgency: Urgency) -> fmt::Result
+    ensures { DisplaysOnOk W.write_str_gives f.old result
+        (Some (text_of (plain_words (PlainStep.Begin now urgency)))) f.new }
 {
-    [Mutator(by), Name(name), Slot(first), Slot(second), End, End]
+    f.write_str("begin ")?;
+    say_number(f, now)?;
+    f.write_str(" ")?;
+    f.write_str(urgency.name())
 }

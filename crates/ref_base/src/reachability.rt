@@ -17,7 +17,10 @@ use std::alloc::{AllocError, Allocator};
 fn phantom_referent<A: Allocator + Copy>(graph: &Graph<A>, no: ObjNo) -> Option<ObjNo>
     ensures { if_any result ≡ phantom_referent_at (object_at graph.now.objects no) }
 {
-    match graph.stored(no)?.link {
+    let Some(object) = graph.object(no) else {
+        return None;
+    };
+    match object.link {
         Some(link) if link.strength == Strength::Phantom => link.referent,
         _ => None,
     }

@@ -1,17 +1,13 @@
 //! What a step is answered.
 
-ghost use Rattle.std.specs.Prelude.{◌≡◌, ◌+◌, ◌<◌, ◌^◌, [], ◌∷◌, ◌++◌, Some, false, length, OnOk, string_bytes};
-ghost use Rattle.ref_base.specs.Texts.{Letters, Long, number, queue as queue_word};
+ghost use Rattle.std.specs.Prelude.{◌+◌, ◌<◌, ◌^◌, [], ◌∷◌, Some, length};
 ghost use Rattle.std.specs.Fmt.{DisplaysOnOk};
+ghost use Rattle.ref_base.specs.Texts.{Letters, number, queue as queue_word, text_of};
 ghost use Rattle.ref_base.specs.Outs.{out_of, outs_of};
-ghost use Rattle.ref_base.specs.Replies.{reply_words, out_words, is_of_batch, spaced, outs_text, reply_text};
-ghost use Rattle.ref_base.specs.Replies.{cause_words};
-ghost use Rattle.ref_base.specs.Words.{spelt};
+ghost use Rattle.ref_base.specs.Replies.{cause_words, out_words, outs_text, reply_text, spaced};
 
-use crate::words::Word::{End, Long, Name, Number, Queue, Worker};
-use crate::words::{Word, alone, push_number, push_words, say};
+use crate::words::{say_behind, say_next, say_number};
 use crate::{Cause, Done, Fault, Nos, ObjNo, Outs, QueueNo, WorkerNo};
-use std::alloc::{AllocError, Allocator};
 use std::fmt;
 
 /// The answer to one step. It prints as it stands in a trace.
@@ -82,110 +78,21 @@ pub enum Reply {
     Refused(Fault),
 }
 
-impl Reply {
-    /// Pushes it as it prints. The one error is that memory is refused: then a part of it may have been pushed.
-    pub fn push_to<A: Allocator>(&self, text: &mut String<A>) -> Result<(), AllocError>
-        ensures { OnOk result (string_bytes text.new ≡ string_bytes text.old ++ reply_text self.now) }
-    {
-        match self {
-            Reply::Notices {
-                objects,
-                queue,
-                cycle,
-                worker,
-            } => {
-                text.push_str("notices")?;
-                push_numbers(text, objects.as_slice())?;
-                text.push_str(" ")?;
-                push_words(text, &origin_words(*queue, *cycle, *worker))
-            }
-            Reply::Outs(outs) => push_outs(text, outs.before(), outs.as_slice()),
-            Reply::TookSome(objects) => {
-                text.push_str("took")?;
-                push_numbers(text, objects.as_slice())
-            }
-            reply => push_words(text, &reply.words()),
-        }
-    }
-
-    // The words that it is spelled with, where it is of no batch.
-    fn words(&self) -> [Word; 6]
-        requires { is_of_batch self.now ≡ false }
-        ensures { spelt result ≡ reply_words self.now }
-    {
-        match *self {
-            Reply::Object(object) => with_number("object", object.0),
-            Reply::Null => alone("null"),
-            Reply::Done => alone("ok"),
-            Reply::Refers(true) => alone("true"),
-            Reply::Refers(false) => alone("false"),
-            Reply::Notice {
-                object,
-                queue,
-                cause,
-            } => notice_words(object, queue, cause),
-            Reply::Nothing => alone("none"),
-            Reply::Added(position) => with_long("added", position),
-            Reply::Already => alone("already"),
-            Reply::Closed => alone("closed"),
-            Reply::Notices { .. } | Reply::Outs(_) | Reply::TookSome(_) => unreachable!(),
-            Reply::Took(object) => with_number("took", object.0),
-            Reply::Empty => alone("empty"),
-            Reply::Cycle(cycle) => with_long("cycle", cycle),
-            Reply::Scanned(object) => with_number("scanned", object.0),
-            Reply::Doomed(count) => with_number("doomed", count),
-            Reply::Cleared(object) => with_number("cleared", object.0),
-            Reply::Kept(object) => with_number("kept", object.0),
-            Reply::Skipped(object) => with_number("skipped", object.0),
-            Reply::Swept(count) => with_number("swept", count),
-            Reply::Selected(count) => with_number("selected", count),
-            Reply::Moved(object) => with_number("moved", object.0),
-            Reply::Refused(fault) => refusal_words(fault),
-        }
-    }
-}
-
-// As `object 1`.
-fn with_number(name: &'static str, count: u32) -> [Word; 6]
-    ensures { spelt result ≡ Letters name.now ∷ number count ∷ [] }
-{
-    [Name(name), Number(count), End, End, End, End]
-}
-
-// As `cycle 1`.
-fn with_long(name: &'static str, count: u64) -> [Word; 6]
-    ensures { spelt result ≡ Letters name.now ∷ Long count ∷ [] }
-{
-    [Name(name), Long(count), End, End, End, End]
-}
-
-// As `notice 2 q0 own`.
-fn notice_words(object: ObjNo, queue: QueueNo, cause: Cause) -> [Word; 6]
-    ensures { spelt result ≡ reply_words (Reply.Notice object queue cause) }
-{
-    let (notice, object, queue) = (Name("notice"), Number(object.0), Queue(queue));
-    match cause {
-        Cause::Own => [notice, object, queue, Name("own"), End, End],
-        Cause::Cycle(cycle, worker) => {
-            let (cycle, worker) = (Long(cycle), Worker(worker));
-            [notice, object, queue, Name("cycle"), cycle, worker]
-        }
-    }
-}
-
-// As `refused 9 NoSuchActor`.
-fn refusal_words(fault: Fault) -> [Word; 6]
-    ensures { spelt result ≡ reply_words (Reply.Refused fault) }
-{
-    let (number, name) = (fault.number(), fault.name());
-    [Name("refused"), Number(number), Name(name), End, End, End]
-}
-
 impl fmt::Display for Reply {
     ghost output = { λ reply. Some (reply_text reply) };
 
     fn fmt<W: fmt::Write>(&self, f: &mut fmt::Formatter<W>) -> fmt::Result {
         match self {
+            Reply::Object(object) => say_named(f, "object", object.0),
+            Reply::Null => f.write_str("null"),
+            Reply::Done => f.write_str("ok"),
+            Reply::Refers(true) => f.write_str("true"),
+            Reply::Refers(false) => f.write_str("false"),
+            Reply::Notice {
+                object,
+                queue,
+                cause,
+            } => say_notice(f, *object, *queue, *cause),
             Reply::Notices {
                 objects,
                 queue,
@@ -194,16 +101,93 @@ impl fmt::Display for Reply {
             } => {
                 f.write_str("notices")?;
                 say_numbers(f, objects.as_slice())?;
-                write!(f, " {queue} cycle {cycle} {worker}")
+                say_origin(f, *queue, *cycle, *worker)
             }
+            Reply::Nothing => f.write_str("none"),
+            Reply::Added(position) => say_out(f, *position, Done::Added),
+            Reply::Already => f.write_str("already"),
+            Reply::Closed => f.write_str("closed"),
             Reply::Outs(outs) => say_outs(f, outs.before(), outs.as_slice()),
+            Reply::Took(object) => say_named(f, "took", object.0),
             Reply::TookSome(objects) => {
                 f.write_str("took")?;
                 say_numbers(f, objects.as_slice())
             }
-            reply => say(f, &reply.words()),
+            Reply::Empty => f.write_str("empty"),
+            Reply::Cycle(cycle) => {
+                f.write_str("cycle ")?;
+                say_number(f, *cycle)
+            }
+            Reply::Scanned(object) => say_named(f, "scanned", object.0),
+            Reply::Doomed(count) => say_named(f, "doomed", *count),
+            Reply::Cleared(object) => say_named(f, "cleared", object.0),
+            Reply::Kept(object) => say_named(f, "kept", object.0),
+            Reply::Skipped(object) => say_named(f, "skipped", object.0),
+            Reply::Swept(count) => say_named(f, "swept", *count),
+            Reply::Selected(count) => say_named(f, "selected", *count),
+            Reply::Moved(object) => say_named(f, "moved", object.0),
+            Reply::Refused(fault) => say_refusal(f, *fault),
         }
     }
+}
+
+// As `object 1`.
+#[inline(always)]
+fn say_named<W: fmt::Write>(
+    f: &mut fmt::Formatter<W>,
+    name: &'static str,
+    count: u32,
+) -> fmt::Result
+    ensures { DisplaysOnOk W.write_str_gives f.old result
+        (Some (text_of (Letters name.now ∷ number count ∷ []))) f.new }
+{
+    f.write_str(name)?;
+    say_next(f, count)
+}
+
+// As `refused 9 NoSuchActor`.
+fn say_refusal<W: fmt::Write>(f: &mut fmt::Formatter<W>, fault: Fault) -> fmt::Result
+    ensures { DisplaysOnOk W.write_str_gives f.old result (Some (reply_text (Reply.Refused fault))) f.new }
+{
+    say_named(f, "refused", fault.number())?;
+    f.write_str(" ")?;
+    f.write_str(fault.name())
+}
+
+// As `notice 2 q0 own`.
+fn say_notice<W: fmt::Write>(
+    f: &mut fmt::Formatter<W>,
+    object: ObjNo,
+    queue: QueueNo,
+    cause: Cause,
+) -> fmt::Result
+    ensures { DisplaysOnOk W.write_str_gives f.old result
+        (Some (reply_text (Reply.Notice object queue cause))) f.new }
+{
+    say_named(f, "notice", object.0)?;
+    match cause {
+        Cause::Own => {
+            say_behind(f, " q", queue.0)?;
+            f.write_str(" own")
+        }
+        Cause::Cycle(cycle, worker) => say_origin(f, queue, cycle, worker),
+    }
+}
+
+// As ` q0 cycle 1 w0`.
+fn say_origin<W: fmt::Write>(
+    f: &mut fmt::Formatter<W>,
+    queue: QueueNo,
+    cycle: u64,
+    worker: WorkerNo,
+) -> fmt::Result
+    ensures { DisplaysOnOk W.write_str_gives f.old result
+        (Some (32 ∷ text_of (queue_word queue ∷ cause_words (Cause.Cycle cycle worker)))) f.new }
+{
+    say_behind(f, " q", queue.0)?;
+    f.write_str(" cycle ")?;
+    say_number(f, cycle)?;
+    say_behind(f, " w", worker.0)
 }
 
 // Prints the numbers, with a space before each.
@@ -212,7 +196,7 @@ fn say_numbers<W: fmt::Write>(f: &mut fmt::Formatter<W>, numbers: &[ObjNo]) -> f
 {
     match numbers {
         [first, rest @ ..] => {
-            write!(f, " {first}")?;
+            say_next(f, first.0)?;
             say_numbers(f, rest)
         }
         [] => Ok(()),
@@ -225,9 +209,9 @@ fn say_outs<W: fmt::Write>(f: &mut fmt::Formatter<W>, before: u64, done: &[Done]
     ensures { DisplaysOnOk W.write_str_gives f.old result (Some (outs_text (outs_of before done.now))) f.new }
 {
     match done {
-        [last] => say(f, &out_words(before, *last)),
+        [last] => say_out(f, before, *last),
         [first, rest @ ..] => {
-            say(f, &out_words(before, *first))?;
+            say_out(f, before, *first)?;
             f.write_str(", ")?;
             say_outs(f, before + u64::from(first.is_added()), rest)
         }
@@ -236,64 +220,17 @@ fn say_outs<W: fmt::Write>(f: &mut fmt::Formatter<W>, before: u64, done: &[Done]
 }
 
 // As `added 1`, where so many were put in before.
-fn out_words(before: u64, done: Done) -> [Word; 6]
-    ensures { spelt result ≡ out_words (out_of before done) }
+fn say_out<W: fmt::Write>(f: &mut fmt::Formatter<W>, before: u64, done: Done) -> fmt::Result
+    ensures { DisplaysOnOk W.write_str_gives f.old result (Some (text_of (out_words (out_of before done)))) f.new }
 {
     match done {
-        Done::Added => with_long("added", before),
-        Done::Already => alone("already"),
-        Done::Closed => alone("closed"),
-        Done::Refused(fault) => refusal_words(fault),
-    }
-}
-
-// As `q0 cycle 1 w0`.
-fn origin_words(queue: QueueNo, cycle: u64, worker: WorkerNo) -> [Word; 6]
-    ensures { spelt result ≡ queue_word queue ∷ cause_words (Cause.Cycle cycle worker) }
-{
-    [
-        Queue(queue),
-        Name("cycle"),
-        Long(cycle),
-        Worker(worker),
-        End,
-        End,
-    ]
-}
-
-// Pushes the numbers, with a space before each.
-fn push_numbers<A: Allocator>(text: &mut String<A>, numbers: &[ObjNo]) -> Result<(), AllocError>
-    ensures { OnOk result (string_bytes text.new ≡ string_bytes text.old ++ spaced numbers.now) }
-{
-    match numbers {
-        [first, rest @ ..] => {
-            text.push_str(" ")?;
-            push_number(text, u64::from(first.0))?;
-            push_numbers(text, rest)
+        Done::Added => {
+            f.write_str("added ")?;
+            say_number(f, before)
         }
-        [] => Ok(()),
-    }
-}
-
-// Pushes what became of each, with a comma between each two, where so many were put in before.
-fn push_outs<A: Allocator>(
-    text: &mut String<A>,
-    before: u64,
-    done: &[Done],
-) -> Result<(), AllocError>
-    requires { before + length done.now < 2 ^ 64 }
-    ensures { OnOk result (string_bytes text.new ≡ string_bytes text.old ++ outs_text (outs_of before done.now)) }
-{
-    match done {
-        [first, rest @ ..] => {
-            push_words(text, &out_words(before, *first))?;
-            if rest.is_empty() {
-                return Ok(());
-            }
-            text.push_str(", ")?;
-            push_outs(text, before + u64::from(first.is_added()), rest)
-        }
-        [] => Ok(()),
+        Done::Already => f.write_str("already"),
+        Done::Closed => f.write_str("closed"),
+        Done::Refused(fault) => say_refusal(f, fault),
     }
 }
 

@@ -119,9 +119,9 @@ fn add_targets<A: Allocator + Copy, B: Allocator + Copy>(
     ensures { OnOk result (seen.new.keys
         ≡ added_all graph.now.objects seen.old.keys (targets_at (allowed allow) graph.now.objects no)) }
 {
-    if let Some(stored) = graph.stored(no) {
-        add_fields(seen, graph, stored.fields.as_slice())?;
-        add_if_any(seen, graph, allow.referent(stored.link))?;
+    if let Some(object) = graph.object(no) {
+        add_fields(seen, graph, object.fields)?;
+        add_if_any(seen, graph, allow.referent(object.link))?;
     }
     Ok(())
 }
@@ -136,8 +136,8 @@ fn add_referent<A: Allocator + Copy, B: Allocator + Copy>(
     ensures { OnOk result (seen.new.keys ≡ added_all graph.now.objects seen.old.keys
         (searched_referents (allowed allow) (object_at graph.now.objects no))) }
 {
-    match graph.stored(no) {
-        Some(stored) => add_if_any(seen, graph, allow.referent(stored.link)),
+    match graph.object(no) {
+        Some(object) => add_if_any(seen, graph, allow.referent(object.link)),
         None => Ok(()),
     }
 }

@@ -1,14 +1,12 @@
 //! The steps of a script: what mutators and workers ask of the heap and its queues, and the turns of the collector.
 
-ghost use Rattle.std.specs.Prelude.{◌≡◌, [], ◌∷◌, ◌++◌, Some, OnOk, string_bytes};
-ghost use Rattle.ref_base.specs.Texts.{Letters, text_of, mutator, worker, queue, number};
+ghost use Rattle.std.specs.Prelude.{[], ◌∷◌, Some};
+ghost use Rattle.std.specs.Fmt.{DisplaysOnOk};
+ghost use Rattle.ref_base.specs.Texts.{Letters, text_of, mutator, queue};
 ghost use Rattle.ref_base.specs.Steps.{actor, step_words};
-ghost use Rattle.ref_base.specs.Words.{spelt};
 
-use crate::words::Word::{End, Mutator, Name, Number, Queue, Who, Worker};
-use crate::words::{Word, at_slot, by_worker, push_words, say};
+use crate::words::{say_at_slot, say_behind, say_by, say_by_worker, say_next};
 use crate::{Actor, MutNo, PlainStep, QueueNo, SlotNo, WorkerNo};
-use std::alloc::{AllocError, Allocator};
 use std::fmt;
 
 /// One step. It prints as it is spelled in a script, with single spaces and no leading zeros. Any number can be named:
@@ -67,72 +65,63 @@ pub enum Step {
     },
 }
 
-impl Step {
-    /// Pushes it as it prints. The one error is that memory is refused: then a part of it may have been pushed.
-    pub fn push_to<A: Allocator>(&self, text: &mut String<A>) -> Result<(), AllocError>
-        ensures { OnOk result (string_bytes text.new ≡ string_bytes text.old ++ text_of (step_words self.now)) }
-    {
-        push_words(text, &self.words())
-    }
+impl fmt::Display for Step {
+    ghost output = { λ step. Some (text_of (step_words step)) };
 
-    // The words that it is spelled with.
-    fn words(&self) -> [Word; 6]
-        ensures { spelt result ≡ step_words self.now }
-    {
+    fn fmt<W: fmt::Write>(&self, f: &mut fmt::Formatter<W>) -> fmt::Result {
         match *self {
-            Step::Plain(step) => step.words(),
-            Step::Unhook { mutator, reference } => at_slot(mutator, "unhook", reference),
-            Step::Put { actor } => by_actor(actor, "put"),
-            Step::Puts { actor } => by_actor(actor, "puts"),
-            Step::Poll { mutator, queue } => at_queue(mutator, "poll", queue),
+            Step::Plain(step) => fmt::Display::fmt(&step, f),
+            Step::Unhook { mutator, reference } => say_at_slot(f, mutator, "unhook", reference),
+            Step::Put { actor } => say_by_actor(f, actor, "put"),
+            Step::Puts { actor } => say_by_actor(f, actor, "puts"),
+            Step::Poll { mutator, queue } => say_at_queue(f, mutator, "poll", queue),
             Step::Polls {
                 mutator,
                 queue,
                 max,
-            } => some_at_queue(mutator, "polls", queue, max),
-            Step::Adopt { mutator, slot } => at_slot(mutator, "adopt", slot),
-            Step::Release { actor } => by_actor(actor, "release"),
-            Step::Close { mutator, queue } => at_queue(mutator, "close", queue),
-            Step::Hand { worker } => by_worker(worker, "hand"),
-            Step::Hands { worker, max } => some_by_worker(worker, "hands", max),
+            } => {
+                say_at_queue(f, mutator, "polls", queue)?;
+                say_next(f, max)
+            }
+            Step::Adopt { mutator, slot } => say_at_slot(f, mutator, "adopt", slot),
+            Step::Release { actor } => say_by_actor(f, actor, "release"),
+            Step::Close { mutator, queue } => say_at_queue(f, mutator, "close", queue),
+            Step::Hand { worker } => say_by_worker(f, worker, "hand"),
+            Step::Hands { worker, max } => {
+                say_by_worker(f, worker, "hands")?;
+                say_next(f, max)
+            }
         }
     }
 }
 
 // As `m0 put`.
-fn by_actor(by: Actor, name: &'static str) -> [Word; 6]
-    ensures { spelt result ≡ actor by ∷ Letters name.now ∷ [] }
+fn say_by_actor<W: fmt::Write>(
+    f: &mut fmt::Formatter<W>,
+    by: Actor,
+    name: &'static str,
+) -> fmt::Result
+    ensures { DisplaysOnOk W.write_str_gives f.old result (Some (text_of (actor by ∷ Letters name.now ∷ []))) f.new }
 {
-    [Who(by), Name(name), End, End, End, End]
+    match by {
+        Actor::Mutator(mutator) => say_by(f, mutator, name),
+        Actor::Worker(worker) => say_by_worker(f, worker, name),
+    }
 }
 
 // As `m0 poll q0`.
-fn at_queue(by: MutNo, name: &'static str, at: QueueNo) -> [Word; 6]
-    ensures { spelt result ≡ mutator by ∷ Letters name.now ∷ queue at ∷ [] }
+#[inline(always)]
+fn say_at_queue<W: fmt::Write>(
+    f: &mut fmt::Formatter<W>,
+    by: MutNo,
+    name: &'static str,
+    at: QueueNo,
+) -> fmt::Result
+    ensures { DisplaysOnOk W.write_str_gives f.old result
+        (Some (text_of (mutator by ∷ Letters name.now ∷ queue at ∷ []))) f.new }
 {
-    [Mutator(by), Name(name), Queue(at), End, End, End]
-}
-
-// As `m0 polls q0 2`.
-fn some_at_queue(by: MutNo, name: &'static str, at: QueueNo, max: u32) -> [Word; 6]
-    ensures { spelt result ≡ mutator by ∷ Letters name.now ∷ queue at ∷ number max ∷ [] }
-{
-    [Mutator(by), Name(name), Queue(at), Number(max), End, End]
-}
-
-// As `w0 hands 32`.
-fn some_by_worker(by: WorkerNo, name: &'static str, max: u32) -> [Word; 6]
-    ensures { spelt result ≡ worker by ∷ Letters name.now ∷ number max ∷ [] }
-{
-    [Worker(by), Name(name), Number(max), End, End, End]
-}
-
-impl fmt::Display for Step {
-    ghost output = { λ step. Some (text_of (step_words step)) };
-
-    fn fmt<W: fmt::Write>(&self, f: &mut fmt::Formatter<W>) -> fmt::Result {
-        say(f, &self.words())
-    }
+    say_by(f, by, name)?;
+    say_behind(f, " q", at.0)
 }
 
 // As in a trace: what a failed test prints reads as the trace does.

@@ -1,46 +1,9 @@
 //! What a graph stores of an object.
 
-ghost use Rattle.std.specs.Prelude.{◌≡◌, ◌≤◌, length};
+ghost use Rattle.std.specs.Prelude.{◌≡◌, ◌+◌, ◌≤◌, length, take, drop};
 
 use crate::{ObjNo, Strength};
-use std::marker::Model;
-
-/// At most 8 fields, each an object's number or null, kept in place. In a clause they are their list.
-#[derive(Drop)]
-pub(crate) struct Fields {
-    held: [Option<ObjNo>; 8],
-    count: usize,
-}
-
-impl Model for Fields {
-    ghost use Rattle.std.specs.Prelude.{◌≡◌, ◌≤◌, ℕ, List, Option, length, take};
-
-    ghost Value = { List (Option ℕ) };
-
-    ghost view = { λ f. take f.count f.held };
-
-    ghost invariant = { λ f. (f.count ≤ 8) × (length f.held ≡ 8) };
-}
-
-impl Fields {
-    /// These fields. In constant time.
-    pub(crate) fn new(fields: &[Option<ObjNo>]) -> Self
-        requires { length fields.now ≤ 8 }
-        ensures { result ≡ fields.now }
-    {
-        let count = fields.len();
-        let mut held = [None; 8];
-        held[..count].copy_from_slice(fields);
-        Fields { held, count }
-    }
-
-    /// The fields, in order.
-    pub(crate) fn as_slice(&self) -> &[Option<ObjNo>]
-        ensures { result.now ≡ self.now }
-    {
-        &self.held[..self.count]
-    }
-}
+use std::mem::size_of;
 
 /// What an object has that is a reference.
 #[derive(Clone, Copy)]
@@ -49,9 +12,31 @@ pub(crate) struct Link {
     pub(crate) referent: Option<ObjNo>,
 }
 
-/// An object but for its number.
-#[derive(Drop)]
+/// An object but for its number. Its fields stand in the graph's list of all fields.
+#[derive(Clone, Copy)]
 pub(crate) struct Stored {
-    pub(crate) fields: Fields,
+    /// Where its fields begin there.
+    pub(crate) start: u32,
+    /// How many they are.
+    pub(crate) count: u8,
+    pub(crate) link: Option<Link>,
+}
+
+const _: () = prove!(size_of::<Stored>() == 24);
+
+impl Stored {
+    /// Its fields, of those that the graph's list of all fields has. In constant time.
+    pub(crate) fn fields_among(self, all: &[Option<ObjNo>]) -> &[Option<ObjNo>]
+        requires { self.start + self.count ≤ length all.now }
+        ensures { result.now ≡ take self.count (drop self.start all.now) }
+    {
+        &all[self.start as usize..][..usize::from(self.count)]
+    }
+}
+
+/// An object but for its number, as a graph lends it.
+#[derive(Clone, Copy)]
+pub(crate) struct Lent<'a> {
+    pub(crate) fields: &'a [Option<ObjNo>],
     pub(crate) link: Option<Link>,
 }

@@ -8,7 +8,7 @@ use Rattle.ref_clear.proofs.Common.{Heap, zero, ClearHeap, pending_at, pending_f
 use Rattle.ref_clear.proofs.Common.{HeapDoes, CycleHeap, Fault, cases_Bool, inl, inr, false, not, subst}
 use Rattle.std.proofs.Common.{◌^◌, nat_lt, nat_le}
 use Rattle.std.proofs.lemmas.Bool.{lt-ltb, leb-true, le-leb}
-use Rattle.std.proofs.lemmas.List.{set-set, set-get_or, length-take}
+use Rattle.std.proofs.lemmas.List.{set-set, set-get_or, length-take, length-append, append-nil}
 use Rattle.ref_base.specs.HeapSteps.{HeldNotice}
 use Rattle.ref_base.specs.Worlds.{notice_from}
 use Rattle.ref_base.specs.Refusals.{is_worker, fits, goes_with, front_with, batch_of, hand_refusal, hands_refusal}
@@ -234,6 +234,54 @@ pub none_handed : (c : ClearHeap) (w count : ℕ) → count ≡ 0 → handed_som
 none_handed c w count none =
     ap (handed_some c w) none
     ∙ ap (λ (pss : List (List Pending)). record c { pending = pss }) (set-get_or c.pending w [])
+
+-- ---- one after the other
+
+-- What is left of a hand of those that go with p: with what was given and told before, it comes to the same as all of
+-- it from the heap a on, `max` at most.
+pub record LeadsOn (a : ClearHeap) (w : ℕ) (p : Pending) (max : ℕ) (given : List HeldNotice) (told : List ℕ)
+    (c : ClearHeap) (left : ℕ) (batch : List HeldNotice) (numbers : List ℕ) : Type 0 where
+  pub may : MayHandOn c w (front_count p left (pending_at c w))
+  pub after : handed_some c w (front_count p left (pending_at c w))
+      ≡ handed_some a w (front_count p max (pending_at a w))
+  pub gives : batch ++ held_notices c.mark.heap.no
+      (map (notice_from w) (take (front_count p left (pending_at c w)) (pending_at c w)))
+      ≡ given ++ held_notices a.mark.heap.no
+      (map (notice_from w) (take (front_count p max (pending_at a w)) (pending_at a w)))
+  pub tells : numbers ++ map (λ q. q.object) (take (front_count p left (pending_at c w)) (pending_at c w))
+      ≡ told ++ map (λ q. q.object) (take (front_count p max (pending_at a w)) (pending_at a w))
+  pub room : length batch + left ≤ 32
+  pub room_to_tell : length numbers + left ≤ 32
+
+module _ {a c : ClearHeap} {w : ℕ} {p : Pending} {max left : ℕ} {given batch : List HeldNotice}
+    {told numbers : List ℕ} (leads : LeadsOn a w p max given told c left batch numbers) where
+  -- with one more given, one fewer is left
+  pub leads_on : {d : ClearHeap} {reply : Reply} → HandsNext c w (Some p) reply d → (left ≡ 0 → ⊥)
+      → (notice : HeldNotice) → reply ≡ notice_reply (Some notice) → notice.hold.heap_no ≡ c.mark.heap.no → (object : ℕ)
+      → object ≡ notice.hold.object
+      → LeadsOn a w p max given told d (left - 1) (batch ++ notice ∷ []) (numbers ++ object ∷ [])
+  leads_on next some notice is own object same =
+      let goes = given_goes leads.may.there next left some leads.may notice is in record {
+        may = may_next goes.1 goes.2;
+        after = one_then_others goes.1 goes.2 ∙ rw goes.0 at leads.after;
+        gives = notices_then goes.1 goes.2 notice batch is own ∙ rw goes.0 at leads.gives;
+        tells = numbers_then goes.1 goes.2 object numbers notice is same ∙ rw goes.0 at leads.tells;
+        room = omega (arith, leads.room, some, length-append batch (notice ∷ []));
+        room_to_tell = omega (arith, leads.room_to_tell, some, length-append numbers (object ∷ []));
+      }
+
+  -- where no more go, all is done
+  module _ (none : front_count p left (pending_at c w) ≡ 0) where
+    pub all_handed_on : c ≡ handed_some a w (front_count p max (pending_at a w))
+    all_handed_on = sym (none_handed c w _ none) ∙ leads.after
+
+    pub all_given : batch ≡ given ++ held_notices a.mark.heap.no
+        (map (notice_from w) (take (front_count p max (pending_at a w)) (pending_at a w)))
+    all_given = sym (append-nil batch) ∙ rw none at leads.gives
+
+    pub all_told : numbers
+        ≡ told ++ map (λ q. q.object) (take (front_count p max (pending_at a w)) (pending_at a w))
+    all_told = sym (append-nil numbers) ∙ rw none at leads.tells
 
 -- ---- all of them
 

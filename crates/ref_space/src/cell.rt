@@ -248,6 +248,7 @@ impl Cell {
 
     /// Counts one more hold of the object, which has to be marked where that is told. False where there is no such
     /// object: then nothing changes.
+    #[inline(always)]
     pub(crate) fn add_hold(&mut self, if_marked: bool, round: u8) -> bool
         requires { holds_in self.old < 2 ^ 64 - 1 }
         ensures there { result ≡ may_hold round if_marked self.old }

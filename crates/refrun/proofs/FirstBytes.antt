@@ -1,6 +1,8 @@
--- Searches that look at many bytes at once: where the first of its kind stands, and whether each is ASCII.
+-- What bytes tell of a line: where the first of its kind stands, whether each is ASCII, and whether it says nothing.
 use Rattle.refrun.proofs.Common.{◌≡◌, ℕ, ◌<◌, ◌==◌, true, false, not, sym, ap, ◌∙◌, arith, List, length}
-use Rattle.refrun.proofs.Common.{inl, inr, list_all, Some, None, prefix_len, cases_Bool}
+use Rattle.refrun.proofs.Common.{inl, inr, list_all, Some, None, prefix_len, cases_Bool, says_nothing}
+use Rattle.refrun.proofs.Common.{Bool, [], ◌∷◌, refl}
+use Rattle.refrun.specs.Lines.{goes_on, onto_word, words_of}
 use Rattle.std.proofs.Common.{◌+◌, ◌≤◌, ◌&&◌, bit_or, get_or, drop}
 use Rattle.std.proofs.Math.Bool.{and_assoc}
 use Rattle.std.proofs.lemmas.List.{at_drop_more}
@@ -68,3 +70,19 @@ gathers_ascii bytes i bits within =
     ap (λ b. b && list_all is_ascii (drop (i + 1) bytes)) (both_ascii bits (get_or bytes i 0))
     ∙ and_assoc (is_ascii bits) (is_ascii (get_or bytes i 0)) (list_all is_ascii (drop (i + 1) bytes))
     ∙ ap (λ b. is_ascii bits && b) (sym (at_drop_more (list_all is_ascii) bytes i 0 within))
+
+-- a byte that isn't a space begins the first word
+first_byte_tells : (b : ℕ) (bs : List ℕ) → (b == 32) ≡ false → says_nothing (words_of (b ∷ bs)) ≡ (b == 35)
+first_byte_tells b bs is = simp is (begins (goes_on bs) (words_of bs))
+  where
+    begins : (more : Bool) (words : List (List ℕ)) → says_nothing (onto_word more b words) ≡ (b == 35)
+    begins true [] = refl
+    begins true (w ∷ ws) = refl
+    begins false ws = refl
+
+-- so it tells whether the line from there on says nothing
+pub told_by_first : (bytes : List ℕ) (i : ℕ) → i < length bytes → (get_or bytes i 0 == 32) ≡ false
+    → says_nothing (words_of (drop i bytes)) ≡ (get_or bytes i 0 == 35)
+told_by_first bytes i within is =
+    at_drop_more (λ bs. says_nothing (words_of bs)) bytes i 0 within
+    ∙ first_byte_tells (get_or bytes i 0) (drop (i + 1) bytes) is

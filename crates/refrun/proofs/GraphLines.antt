@@ -4,7 +4,7 @@ use Rattle.refrun.proofs.Common.{Option, Some, None, OnSome, IfNone, refl, sym, 
 use Rattle.refrun.proofs.Common.{append-nil, Graph, plain_object, number_in, Declared, Root, Plain, Reference}
 use Rattle.refrun.proofs.Common.{SpellsDeclared, declared_no, NoneTwice, SpellAll, in_front, fault_from, Finds}
 use Rattle.refrun.proofs.Common.{lines_of, words_of, Place, Declarations, place_fault, fault_or, first_fault}
-use Rattle.refrun.proofs.Common.{is_plain_line, told, LineFault, DoubleObject, TextFault, Told}
+use Rattle.refrun.proofs.Common.{is_plain_line, told, LineFault, DoubleObject, TextFault, Told, FailsFor, subst}
 use Rattle.refrun.specs.Declarations.{with_declared_no, declared_graph, is_declared, with_declared, with_all}
 use Rattle.ref_base.specs.Graphs.{Object, empty_graph, is_there, with_object, reference_object}
 use Rattle.refrun.specs.GraphReading.{AreNumbersOf, has_object, AddsObject, AddsDeclared, AddsAll, FailsAfter}
@@ -136,6 +136,26 @@ has_declared_all text number found g r found_is =
       },
       r.plain ∙ rw none refl,
     )
+
+-- a line's fault stands, whatever the faults behind it
+fails_further : (e : TextFault) (k : ℕ) (fault : Option LineFault) (later : Option TextFault)
+    → FailsFor e (fault_or k fault None) → FailsFor e (fault_or k fault later)
+fails_further e k (Some f) later fails = fails
+fails_further texts.NoMemory k None later fails = tt
+fails_further (texts.Line j f) k None later fails = let wrong = fails in absurd cc
+fails_further texts.TooLong k None later fails = let wrong = fails in absurd cc
+fails_further texts.CannotRead k None later fails = absurd fails
+fails_further texts.CannotWrite k None later fails = absurd fails
+
+-- the fault of the line that was found is that of the text
+pub has_declared_fault : (text : List ℕ) (number : ℕ) (found : Told) (g : Graph) (c : Bor (List ℕ)) (e : TextFault)
+    → HasDeclared text number found g → found.content ≡ Some c → FailsAfter (words_of c.now) found.number g e
+    → FailsFor e (first_fault (Declarations []) (number + 1) (lines_of text))
+has_declared_fault text number found g c e r found_is fails =
+    let fault_is : first_fault (Declarations []) (number + 1) (lines_of text) ≡ fault_from (Declarations r.seen)
+    (Some c) found.number (lines_of found.rest.now) = r.fault ∙ rw found_is refl in
+    subst (FailsFor e) (sym fault_is)
+    (fails_further e found.number (place_fault (Declarations r.seen) (words_of c.now)) _ (fails r.seen r.numbers))
 
 -- a fault behind it is that of the text too
 pub has_declared_later_fault : (text : List ℕ) (number : ℕ) (found : Told) (g h : Graph) (c : Bor (List ℕ))

@@ -16,6 +16,7 @@ pub mod OneReading
 pub mod OneGraph
 pub mod FaultLaws
 pub mod JobLemmas
+pub mod Printing
 pub mod TraceLemmas
 pub mod ListingLemmas
 pub mod ReadLemmas

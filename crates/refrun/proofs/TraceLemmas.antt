@@ -8,7 +8,8 @@ use Rattle.std.proofs.Common.{decimal}
 use Rattle.std.proofs.lemmas.List.{length-take-le, map-append}
 use Rattle.ref_base.specs.declared.span_rule.SpanRule.{SpanRule}
 use Rattle.std.specs.Option.{IfSome}
-use Rattle.refrun.proofs.Common.{Err}
+use Rattle.refrun.proofs.Common.{Err, Ok}
+use Rattle.std.specs.Io.KnownBytes.{Appends}
 use Rattle.refrun.specs.Answers.{AnswersText}
 use Rattle.ref_text.specs.Streams.{AppendsPrefix}
 use Rattle.ref_text.specs.declared.fault.TextFault.{TextFault}
@@ -156,6 +157,16 @@ module _ {J : Type 0} (number note : J → ℕ) where
 pub is_script : (text : List ℕ) (config : Config) (steps : List ScriptStep) → length text ≤ most_bytes
     → AreScript (lines_of text) config steps → IsScript text config steps
 is_script text config steps short lines = record { short = le-leb _ _ short; lines = lines }
+
+-- where it was written, all that the text prints has gone out
+pub gone_out : (T : Type 0) (known : Option (List ℕ)) (Prints : List ℕ → List ℕ → Type 0)
+    (fault : List ℕ → Option TextFault) (read text printed bytes : List ℕ) (old new : Option (List ℕ)) (done : T)
+    → IfSome known (λ whole. read ≡ whole) → text ≡ read → Prints text printed → bytes ≡ printed
+    → Appends old new bytes
+    → IfSome known (λ whole. AnswersText {T = T} (Prints whole) (fault whole) old new (Ok done))
+gone_out T None Prints fault read text printed bytes old new done same slice prints out appends = tt
+gone_out T (Some whole) Prints fault read text printed bytes old new done same slice prints out appends =
+    (printed, subst (λ t. Prints t printed) (slice ∙ same) prints, subst (Appends old new) out appends)
 
 -- where a write failed, a prefix of what the text prints has gone out
 pub cut_off : (T : Type 0) (known : Option (List ℕ)) (Prints : List ℕ → List ℕ → Type 0)

@@ -1,25 +1,18 @@
 -- What the reading of a line of a graph text comes to.
-use Rattle.std.specs.Prelude.{◌≡◌, ℕ, ◌≤◌, false, List, [], ◌++◌, length, take, Option, Some, ◌⊎◌}
+use Rattle.std.specs.Prelude.{◌≡◌, ℕ, ◌≤◌, false, List, [], ◌++◌, length, take, Option, ◌⊎◌}
 use Rattle.std.specs.List.{list_all}
 use Rattle.refrun.specs.DeclarationFaults.{is_object_or_none}
 use Rattle.refrun.specs.Declarations.{Declared, Root, Plain, Reference, SpellFields}
 use Rattle.refrun.specs.declared.declarations.Declaration.{Declaration}
 use Rattle.refrun.specs.declared.declarations.Declaration.TheVariants as lines
-use Rattle.refrun.specs.declared.declarations.Unread.{Unread}
-use Rattle.refrun.specs.declared.declarations.Unread.TheVariants.{Faulty, NoMemory}
 use Rattle.ref_text.specs.declared.fault.LineFault.{LineFault}
 use Rattle.ref_text.specs.declared.fault.LineFault.TheVariants.{BadWord}
 
 -- what a line of the program says
-abbrev pub declared_by : {A : Type 0} → Declaration A → Declared
+abbrev pub declared_by : Declaration → Declared
 declared_by (lines.Root n) = Root n
 declared_by (lines.Plain n fields) = Plain n fields.items
 declared_by (lines.Reference n strength referent fields) = Reference n strength referent fields.items
-
--- want of memory, or the fault of the line
-abbrev pub FailsBy : Option LineFault → Unread → Type 0
-FailsBy fault (Faulty f) = fault ≡ Some f
-FailsBy fault NoMemory = Unit {0}
 
 -- the first words spell these fields, at most 8, and no word is left or 8 were read
 pub record ReadsFields (words : List (List ℕ)) (fields : List (Option ℕ)) (rest : List (List ℕ)) : Type 0 where
@@ -30,6 +23,5 @@ pub record ReadsFields (words : List (List ℕ)) (fields : List (Option ℕ)) (r
   pub whole : (rest ≡ []) ⊎ (length read ≡ 8)
 
 -- one of the first 8 words is no object's number and not `-`
-abbrev pub IsBadField : List (List ℕ) → Unread → Type 0
-IsBadField words (Faulty f) = (list_all is_object_or_none (take 8 words) ≡ false) × (f ≡ BadWord)
-IsBadField words NoMemory = Unit {0}
+abbrev pub IsBadField : List (List ℕ) → LineFault → Type 0
+IsBadField words fault = (list_all is_object_or_none (take 8 words) ≡ false) × (fault ≡ BadWord)

@@ -1,24 +1,25 @@
 //! A line of a graph text, read as a root or as an object and what it refers to.
 
-ghost use Rattle.std.specs.Prelude.{◌≡◌, ◌∷◌, ◌+◌, ◌≤◌, [], false, take, drop, length, IfOk, IfErr, MatchResult};
-ghost use Rattle.std.specs.Prelude.{codes};
-ghost use Rattle.std.specs.List.{list_all};
-ghost use Rattle.refrun.specs.Declarations.{SpellsObject, SpellsObjectOrNone, SpellFields, SpellsDeclared};
+ghost use Rattle.std.specs.Prelude.{◌≡◌, ◌∷◌, Some, false, codes, IfOk, IfErr, MatchResult};
+ghost use Rattle.refrun.specs.Declarations.{SpellsObject, SpellsObjectOrNone, SpellsDeclared};
 ghost use Rattle.ref_base.specs.Steps.{strength_name};
 ghost use Rattle.refrun.specs.DeclarationFaults.{is_object, is_object_or_none, words_fault, declaration_fault};
-ghost use Rattle.refrun.specs.DeclarationViews.{declared_by, FailsBy, ReadsFields, IsBadField};
+ghost use Rattle.refrun.specs.DeclarationViews.{declared_by, ReadsFields, IsBadField};
 ghost use Rattle.refrun.specs.Lines.{words_of};
 
 use crate::lines::next_word;
 use crate::numerals::short_number;
 use crate::operands::{ends, operand};
+use arrayvec::ArrayVec;
 use ref_base::{MOST_FIELDS, ObjNo, Strength};
 use ref_text::LineFault;
-use std::alloc::{AllocFailed, Allocator};
+
+/// The fields of an object, kept in place.
+pub type Fields = ArrayVec<Option<ObjNo>, MOST_FIELDS>;
 
 /// What a line of a graph text says.
 #[derive(Drop)]
-pub enum Declaration<A: Allocator> {
+pub enum Declaration {
     /// A program reaches the object of this number by itself.
     Root {
         no: ObjNo,
@@ -26,73 +27,42 @@ pub enum Declaration<A: Allocator> {
     /// A plain object.
     Plain {
         no: ObjNo,
-        fields: Vec<Option<ObjNo>, A>,
+        fields: Fields,
     },
     /// A soft, weak or phantom reference.
     Reference {
         no: ObjNo,
         strength: Strength,
         referent: Option<ObjNo>,
-        fields: Vec<Option<ObjNo>, A>,
+        fields: Fields,
     },
 }
 
-/// Why a line wasn't read.
-#[derive(Clone, Copy)]
-pub enum Unread {
-    /// It has this fault.
-    Faulty(LineFault),
-    /// Memory ran out.
-    NoMemory,
-}
-
-impl From<LineFault> for Unread {
-    ghost use Rattle.std.specs.Prelude.{◌≡◌};
-    ghost use Rattle.refrun.specs.declared.declarations.Unread.TheVariants.{Faulty};
-
-    ghost from_gives = { λ fault e. e ≡ Faulty fault };
-
-    fn from(fault: LineFault) -> Unread {
-        Unread::Faulty(fault)
-    }
-}
-
-impl<T: Drop> From<AllocFailed<T>> for Unread {
-    ghost use Rattle.std.specs.Prelude.{◌≡◌};
-    ghost use Rattle.refrun.specs.declared.declarations.Unread.TheVariants.{NoMemory};
-
-    ghost from_gives = { λ _ e. e ≡ NoMemory };
-
-    fn from(_error: AllocFailed<T>) -> Unread {
-        Unread::NoMemory
-    }
-}
-
 /// What a line says, or the first of its faults by kind.
-pub fn declaration_of<A: Allocator>(alloc: A, line: &[u8]) -> Result<Declaration<A>, Unread>
+pub fn declaration_of(line: &[u8]) -> Result<Declaration, LineFault>
     ensures found { IfOk result (λ d. SpellsDeclared (words_of line.now) (declared_by d)) }
-    ensures fault { IfErr result (FailsBy (declaration_fault (words_of line.now))) }
+    ensures fault { IfErr result (λ fault. declaration_fault (words_of line.now) ≡ Some fault) }
 {
     let (name, operands) = next_word(line).ok_or(LineFault::UnknownLine)?;
     if name == b"root".as_slice() {
-        return Ok(root_of(operands)?);
+        return root_of(operands);
     }
     if name == b"plain".as_slice() {
-        return plain_of(alloc, operands);
+        return plain_of(operands);
     }
     if name == b"soft".as_slice() {
-        return reference_of(alloc, Strength::Soft, operands);
+        return reference_of(Strength::Soft, operands);
     }
     if name == b"weak".as_slice() {
-        return reference_of(alloc, Strength::Weak, operands);
+        return reference_of(Strength::Weak, operands);
     }
     if name == b"phantom".as_slice() {
-        return reference_of(alloc, Strength::Phantom, operands);
+        return reference_of(Strength::Phantom, operands);
     }
-    Err(Unread::Faulty(LineFault::UnknownLine))
+    Err(LineFault::UnknownLine)
 }
 
-fn root_of<A: Allocator>(operands: &[u8]) -> Result<Declaration<A>, LineFault>
+fn root_of(operands: &[u8]) -> Result<Declaration, LineFault>
     ensures found { IfOk result (λ d. SpellsDeclared (codes "root" ∷ words_of operands.now) (declared_by d)) }
     ensures fault { IfErr result (λ fault. words_fault 1 0 (words_of operands.now) ≡ Some fault) }
 {
@@ -102,30 +72,26 @@ fn root_of<A: Allocator>(operands: &[u8]) -> Result<Declaration<A>, LineFault>
     Ok(Declaration::Root { no })
 }
 
-fn plain_of<A: Allocator>(alloc: A, operands: &[u8]) -> Result<Declaration<A>, Unread>
+fn plain_of(operands: &[u8]) -> Result<Declaration, LineFault>
     ensures found { IfOk result (λ d. SpellsDeclared (codes "plain" ∷ words_of operands.now) (declared_by d)) }
-    ensures fault { IfErr result (FailsBy (words_fault 1 8 (words_of operands.now))) }
+    ensures fault { IfErr result (λ fault. words_fault 1 8 (words_of operands.now) ≡ Some fault) }
 {
     let (no, rest) = operand(operands)?;
     let no = object_of(no)?;
-    let (fields, rest) = fields_of(alloc, rest)?;
+    let (fields, rest) = fields_of(rest)?;
     ends(rest)?;
     Ok(Declaration::Plain { no, fields })
 }
 
-fn reference_of<A: Allocator>(
-    alloc: A,
-    strength: Strength,
-    operands: &[u8],
-) -> Result<Declaration<A>, Unread>
+fn reference_of(strength: Strength, operands: &[u8]) -> Result<Declaration, LineFault>
     ensures found { IfOk result (λ d. SpellsDeclared (strength_name strength ∷ words_of operands.now) (declared_by d)) }
-    ensures fault { IfErr result (FailsBy (words_fault 2 8 (words_of operands.now))) }
+    ensures fault { IfErr result (λ fault. words_fault 2 8 (words_of operands.now) ≡ Some fault) }
 {
     let (no, rest) = operand(operands)?;
     let (referent, rest) = operand(rest)?;
     let no = object_of(no)?;
     let referent = object_or_none_of(referent)?;
-    let (fields, rest) = fields_of(alloc, rest)?;
+    let (fields, rest) = fields_of(rest)?;
     ends(rest)?;
     Ok(Declaration::Reference {
         no,
@@ -136,20 +102,17 @@ fn reference_of<A: Allocator>(
 }
 
 /// The fields that the first words spell, at most 8 of them, and the line behind them.
-fn fields_of<A: Allocator>(
-    alloc: A,
-    operands: &[u8],
-) -> Result<(Vec<Option<ObjNo>, A>, &[u8]), Unread>
+fn fields_of(operands: &[u8]) -> Result<(Fields, &[u8]), LineFault>
     ensures found { IfOk result (λ r. ReadsFields (words_of operands.now) r.0.items (words_of r.1.now)) }
     ensures fault { IfErr result (IsBadField (words_of operands.now)) }
 {
-    let mut fields = Vec::new(alloc);
+    let mut fields = Fields::new();
     let mut rest = operands;
     while fields.len() < MOST_FIELDS {
         let Some((word, behind)) = next_word(rest) else {
             break;
         };
-        fields.push(object_or_none_of(word)?)?;
+        fields.push(object_or_none_of(word)?);
         rest = behind;
     }
     Ok((fields, rest))

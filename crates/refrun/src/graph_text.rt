@@ -10,7 +10,7 @@ ghost use Rattle.refrun.specs.LineReading.{FailsFor};
 ghost use Rattle.refrun.specs.TextFaults.{GraphHeader, Declarations, first_fault};
 ghost use Rattle.refrun.specs.ToldLines.{is_plain_line, told};
 
-use crate::declarations::{Declaration, Unread, declaration_of};
+use crate::declarations::{Declaration, declaration_of};
 use crate::told::{is_titled, next_told};
 use ref_base::{Fault, Graph};
 use ref_text::{LineFault, TextFault};
@@ -46,7 +46,7 @@ fn graph_behind<A: Allocator + Copy>(
     let mut graph = Graph::new(alloc);
     let mut told = next_told(text, number)?;
     while let Some(content) = told.content {
-        add_line(alloc, &mut graph, content, told.number)?;
+        add_line(&mut graph, content, told.number)?;
         told = next_told(told.rest, told.number)?;
     }
     Ok(graph)
@@ -54,7 +54,6 @@ fn graph_behind<A: Allocator + Copy>(
 
 /// Adds what the line of this number says.
 fn add_line<A: Allocator + Copy>(
-    alloc: A,
     graph: &mut Graph<A>,
     content: &[u8],
     number: u64,
@@ -62,10 +61,9 @@ fn add_line<A: Allocator + Copy>(
     ensures ok { OnOk result (AddsDeclared (words_of content.now) graph.old graph.new) }
     ensures fault { IfErr result (FailsAfter (words_of content.now) number graph.old) }
 {
-    let declaration = match declaration_of(alloc, content) {
+    let declaration = match declaration_of(content) {
         Ok(declaration) => declaration,
-        Err(Unread::Faulty(fault)) => return Err(TextFault::Line(number, fault)),
-        Err(Unread::NoMemory) => return Err(TextFault::NoMemory),
+        Err(fault) => return Err(TextFault::Line(number, fault)),
     };
     if !add_declaration(graph, &declaration)? {
         return Err(TextFault::Line(number, LineFault::DoubleObject));
@@ -77,7 +75,7 @@ fn add_line<A: Allocator + Copy>(
 /// most 8 fields, so that the graph refuses it for want of memory alone.
 fn add_declaration<A: Allocator + Copy>(
     graph: &mut Graph<A>,
-    declaration: &Declaration<A>,
+    declaration: &Declaration,
 ) -> Result<bool, TextFault>
     ensures ok { IfOk result (AddsObject graph.old graph.new (declared_by declaration.now)) }
     ensures err { OnErr result (result ≡ Err TextFault.NoMemory) }

@@ -11,6 +11,7 @@ mod listing;
 mod lists;
 mod numerals;
 mod operands;
+mod printed;
 mod reading;
 mod roles;
 mod script;

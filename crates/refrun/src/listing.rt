@@ -1,7 +1,7 @@
 //! How strongly the objects of a graph text are reachable, and the text that says so.
 
-ghost use Rattle.std.specs.Prelude.{◌≡◌, ◌≤◌, ◌++◌, ◌||◌, [], length, string_bytes, take, None};
-ghost use Rattle.std.specs.Prelude.{IfOk, IfErr, OnOk, OnErr, IfSome};
+ghost use Rattle.std.specs.Prelude.{◌≡◌, ◌≤◌, ◌||◌, length, None, Some, IfOk, IfErr, OnErr, IfSome};
+ghost use Rattle.std.specs.Fmt.{DisplaysOnOk};
 ghost use Rattle.refrun.specs.Answers.{KeepsUnlessDone, TellsFault, is_cannot_read, is_cannot_write};
 ghost use Rattle.refrun.specs.LineReading.{FailsFor};
 ghost use Rattle.refrun.specs.Lines.{lines_of, most_bytes};
@@ -9,10 +9,16 @@ ghost use Rattle.refrun.specs.Listings.{AnswersStrengths, ListsStrengths, Prints
 ghost use Rattle.refrun.specs.TextFaults.{GraphHeader, first_fault, graph_fault};
 
 use crate::graph_text::declared_graph;
+use crate::printed::Printed;
 use crate::reading::text_of;
 use ref_base::{Graph, ObjectReach, strengths};
 use ref_text::{TextFault, TextSink, TextSource, WriteFailed};
 use std::alloc::{AllocError, Allocator};
+use std::fmt;
+use std::fmt::Formatter;
+
+/// As many bytes as few lines are longer than.
+const LINE_TEXT: usize = 20;
 
 /// Reads a graph text, and writes how strongly each of its objects is reachable.
 ///
@@ -39,16 +45,16 @@ pub fn strength_text<R: TextSource, W: TextSink, A: Allocator + Copy>(
 {
     let text = text_of(alloc, reader)?;
     let listing = listing_behind(alloc, text.as_slice())?;
-    match writer.write_text(listing.as_bytes()) {
+    match writer.write_text(listing.as_slice()) {
         Ok(()) => Ok(()),
         Err(WriteFailed) => Err(TextFault::CannotWrite),
     }
 }
 
 /// The listing of the graph that a text declares, or the fault of the text's first faulty line.
-fn listing_behind<A: Allocator + Copy>(alloc: A, text: &[u8]) -> Result<String<A>, TextFault>
+fn listing_behind<A: Allocator + Copy>(alloc: A, text: &[u8]) -> Result<Printed<A>, TextFault>
     requires { length text.now ≤ most_bytes }
-    ensures prints { IfOk result (λ listing. PrintsStrengths text.now (string_bytes listing)) }
+    ensures prints { IfOk result (λ listing. PrintsStrengths text.now listing) }
     ensures sound { IfOk result (λ listing. graph_fault text.now ≡ None) }
     ensures fault { IfErr result (λ e. FailsFor e (first_fault GraphHeader 1 (lines_of text.now))) }
 {
@@ -57,8 +63,8 @@ fn listing_behind<A: Allocator + Copy>(alloc: A, text: &[u8]) -> Result<String<A
 }
 
 /// The listing of the strengths of a graph's objects.
-fn listing_of<A: Allocator + Copy>(alloc: A, graph: &Graph<A>) -> Result<String<A>, TextFault>
-    ensures text { IfOk result (λ text. ListsStrengths graph.now (string_bytes text)) }
+fn listing_of<A: Allocator + Copy>(alloc: A, graph: &Graph<A>) -> Result<Printed<A>, TextFault>
+    ensures text { IfOk result (λ text. ListsStrengths graph.now text) }
     ensures err { OnErr result (result ≡ Err TextFault.NoMemory) }
 {
     let listed = strengths(alloc, graph).map_err(|_| TextFault::NoMemory)?;
@@ -66,21 +72,31 @@ fn listing_of<A: Allocator + Copy>(alloc: A, graph: &Graph<A>) -> Result<String<
 }
 
 /// A line for each object.
-fn lines_of_objects<A: Allocator>(alloc: A, listed: &[ObjectReach]) -> Result<String<A>, AllocError>
-    ensures { IfOk result (λ text. string_bytes text ≡ listing_text listed.now) }
+fn lines_of_objects<A: Allocator>(
+    alloc: A,
+    listed: &[ObjectReach],
+) -> Result<Printed<A>, AllocError>
+    ensures { IfOk result (λ text. text ≡ listing_text listed.now) }
 {
-    let mut text = String::new(alloc);
+    // Room for most listings at once, and one formatter for all lines.
+    let text = Printed::with_capacity(alloc, listed.len().saturating_mul(LINE_TEXT))?;
+    let mut listing = Formatter::new(text);
     for object in listed {
-        add_object(&mut text, object)?;
+        // What it prints into fails where memory is refused, and only there.
+        let Ok(()) = say_object(&mut listing, object) else {
+            return Err(AllocError);
+        };
     }
-    Ok(text)
+    Ok(listing.into_inner())
 }
 
-/// Adds the line of an object.
-fn add_object<A: Allocator>(text: &mut String<A>, listed: &ObjectReach) -> Result<(), AllocError>
-    ensures { OnOk result (string_bytes text.new ≡ string_bytes text.old ++ listing_line listed.now) }
+/// Prints the line of an object.
+#[inline(always)]
+fn say_object<W: fmt::Write>(f: &mut Formatter<W>, listed: &ObjectReach) -> fmt::Result
+    ensures { DisplaysOnOk W.write_str_gives f.old result (Some (listing_line listed.now)) f.new }
 {
-    let object = listed.object;
-    let reach = listed.reach;
-    writeln!(text, "{object} {reach}")
+    fmt::Display::fmt(&listed.object, f)?;
+    f.write_str(" ")?;
+    fmt::Display::fmt(&listed.reach, f)?;
+    f.write_str("\n")
 }

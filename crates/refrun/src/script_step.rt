@@ -1,12 +1,12 @@
 //! The steps of a script, its replies and its rows: those of the world, and those of jobs.
 
-ghost use Rattle.std.specs.Prelude.{◌≡◌, ◌++◌, Some, IfSome, OnOk, string_bytes};
+ghost use Rattle.std.specs.Prelude.{◌≡◌, Some, IfSome};
+ghost use Rattle.std.specs.Fmt.{DisplaysOnOk};
 ghost use Rattle.ref_base.specs.Texts.{text_of};
 ghost use Rattle.refrun.specs.ScriptSteps.{script_step_words, script_reply_text, script_row_text};
 
 use ref_base::{MutNo, PlainStep, Reply, SlotNo, Step};
 use ref_queue::Ran;
-use std::alloc::{AllocError, Allocator};
 use std::fmt;
 
 /// One step of a script. It prints as it is spelled there, with single spaces and no leading zeros.
@@ -54,9 +54,10 @@ pub struct ScriptRow {
 impl fmt::Display for ScriptStep {
     ghost output = { λ step. Some (text_of (script_step_words step)) };
 
+    #[inline(always)]
     fn fmt<W: fmt::Write>(&self, f: &mut fmt::Formatter<W>) -> fmt::Result {
-        match *self {
-            ScriptStep::World(step) => fmt::Display::fmt(&step, f),
+        match self {
+            ScriptStep::World(step) => fmt::Display::fmt(step, f),
             ScriptStep::Job {
                 mutator,
                 slot,
@@ -70,6 +71,7 @@ impl fmt::Display for ScriptStep {
 impl fmt::Display for ScriptReply {
     ghost output = { λ reply. Some (script_reply_text reply) };
 
+    #[inline(always)]
     fn fmt<W: fmt::Write>(&self, f: &mut fmt::Formatter<W>) -> fmt::Result {
         match self {
             ScriptReply::World(reply) => fmt::Display::fmt(reply, f),
@@ -85,10 +87,23 @@ impl fmt::Display for ScriptRow {
     ghost output = { λ row. Some (script_row_text row) };
 
     fn fmt<W: fmt::Write>(&self, f: &mut fmt::Formatter<W>) -> fmt::Result {
-        let step = &self.step;
-        let reply = &self.reply;
-        write!(f, "{step} : {reply}")
+        say_row(f, &self.step, &self.reply)
     }
+}
+
+/// Prints the row of this step and reply. A reply is wide, so that it isn't copied into a row first.
+#[inline(always)]
+pub(crate) fn say_row<W: fmt::Write>(
+    f: &mut fmt::Formatter<W>,
+    step: &ScriptStep,
+    reply: &ScriptReply,
+) -> fmt::Result
+    ensures { DisplaysOnOk W.write_str_gives f.old result
+        (Some (script_row_text (record { step = step.now; reply = reply.now }))) f.new }
+{
+    fmt::Display::fmt(step, f)?;
+    f.write_str(" : ")?;
+    fmt::Display::fmt(reply, f)
 }
 
 impl ScriptStep {
@@ -102,41 +117,4 @@ impl ScriptStep {
             _ => None,
         }
     }
-
-    /// Pushes it as it prints. The one error is that memory is refused: then a part of it may have been pushed.
-    pub fn push_to<A: Allocator>(&self, text: &mut String<A>) -> Result<(), AllocError>
-        ensures { OnOk result (string_bytes text.new ≡ string_bytes text.old ++ text_of (script_step_words self.now)) }
-    {
-        match self {
-            ScriptStep::World(step) => step.push_to(text),
-            // A job costs more than its row.
-            step => write!(text, "{step}"),
-        }
-    }
-}
-
-impl ScriptReply {
-    /// The same of a reply.
-    pub fn push_to<A: Allocator>(&self, text: &mut String<A>) -> Result<(), AllocError>
-        ensures { OnOk result (string_bytes text.new ≡ string_bytes text.old ++ script_reply_text self.now) }
-    {
-        match self {
-            ScriptReply::World(reply) => reply.push_to(text),
-            reply => write!(text, "{reply}"),
-        }
-    }
-}
-
-/// Pushes the row of this step and reply as it prints, as they do. A reply is wide, so that it isn't copied into a row.
-pub(crate) fn push_row<A: Allocator>(
-    text: &mut String<A>,
-    step: &ScriptStep,
-    reply: &ScriptReply,
-) -> Result<(), AllocError>
-    ensures { OnOk result (string_bytes text.new
-        ≡ string_bytes text.old ++ script_row_text (record { step = step.now; reply = reply.now })) }
-{
-    step.push_to(text)?;
-    text.push_str(" : ")?;
-    reply.push_to(text)
 }

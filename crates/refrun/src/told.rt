@@ -7,7 +7,7 @@ ghost use Rattle.refrun.specs.Lines.{lines_of, content_of, words_of, most_bytes}
 ghost use Rattle.refrun.specs.LineReading.{Finds};
 ghost use Rattle.refrun.specs.LineViews.{line_of};
 ghost use Rattle.refrun.specs.TextFaults.{Place, plain_fault, first_fault};
-ghost use Rattle.refrun.specs.ToldLines.{begins_remark, says_nothing, is_titled};
+ghost use Rattle.refrun.specs.ToldLines.{says_nothing, is_titled};
 
 use crate::lines::{Line, next_line, next_word};
 use ref_text::{LineFault, TextFault};
@@ -78,24 +78,16 @@ fn are_ascii(bytes: &[u8]) -> bool
     bits.is_ascii()
 }
 
-/// Whether a line is blank or a remark.
+/// Whether a line is blank or a remark: the first byte that isn't a space tells.
 fn says_nothing(content: &[u8]) -> bool
     ensures { result ≡ says_nothing (words_of content.now) }
 {
-    match next_word(content) {
-        None => true,
-        Some((word, _)) => begins_remark(word),
+    for byte in content {
+        if *byte != b' ' {
+            return *byte == b'#';
+        }
     }
-}
-
-/// Whether a word begins with `#`.
-fn begins_remark(word: &[u8]) -> bool
-    ensures { result ≡ begins_remark word.now }
-{
-    match word.split_first() {
-        Some((first, _)) => *first == b'#',
-        None => false,
-    }
+    true
 }
 
 /// Whether a line is a header: this name, and this word as its version.

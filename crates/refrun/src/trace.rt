@@ -1,7 +1,8 @@
 //! Running a script, and the text of its trace.
 
-ghost use Rattle.std.specs.Prelude.{◌≡◌, ◌≤◌, ◌||◌, ◌++◌, ◌∷◌, [], true, string_bytes, length, None, decimal};
-ghost use Rattle.std.specs.Prelude.{IfOk, IfErr, OnOk, OnErr, IfSome};
+ghost use Rattle.std.specs.Prelude.{◌≡◌, ◌≤◌, ◌||◌, ◌++◌, ◌∷◌, [], length, None, decimal};
+ghost use Rattle.std.specs.Prelude.{IfOk, IfErr, OnOk, OnErr, IfSome, Some};
+ghost use Rattle.std.specs.Fmt.{DisplaysOnOk, IsPlainFormatter, formatter_writer};
 ghost use Rattle.refrun.specs.JobViews.{job_number, note_of};
 ghost use Rattle.refrun.specs.LineReading.{FailsFor};
 ghost use Rattle.refrun.specs.Lines.{lines_of, most_bytes};
@@ -12,15 +13,18 @@ ghost use Rattle.refrun.specs.Traces.{AnswersRun, PrintsTrace, TellsRow, TellsRu
 ghost use Rattle.refrun.specs.Answers.{KeepsUnlessDone, TellsFault, is_cannot_read, is_cannot_write};
 
 use crate::jobs::Stage;
+use crate::printed::Printed;
 use crate::reading::text_of;
 use crate::script::{Script, script_of};
-use crate::script_step::{ScriptReply, ScriptStep, push_row};
+use crate::script_step::{ScriptReply, ScriptStep, say_row};
 use crate::version::trace_title;
-use ref_base::{SpanRule, push_number};
+use ref_base::{SpanRule, say_number};
 use ref_queue::{CleanTable, Job};
 use ref_text::{TextFault, TextSink, TextSource, WriteFailed};
 use ref_world::World;
 use std::alloc::{AllocError, Allocator};
+use std::fmt;
+use std::fmt::Formatter;
 
 /// As many bytes as few rows are longer than.
 const ROW_TEXT: usize = 40;
@@ -56,7 +60,7 @@ pub fn run_script<R: TextSource, W: TextSink, A: Allocator + Copy>(
 {
     let text = text_of(alloc, reader)?;
     let trace = trace_behind(alloc, text.as_slice(), jobs)?;
-    match writer.write_text(trace.as_bytes()) {
+    match writer.write_text(trace.as_slice()) {
         Ok(()) => Ok(()),
         Err(WriteFailed) => Err(TextFault::CannotWrite),
     }
@@ -67,9 +71,9 @@ fn trace_behind<A: Allocator + Copy>(
     alloc: A,
     text: &[u8],
     jobs: Vec<Job, A>,
-) -> Result<String<A>, TextFault>
+) -> Result<Printed<A>, TextFault>
     requires { length text.now ≤ most_bytes }
-    ensures prints { IfOk result (λ trace. PrintsTrace job_number note_of jobs.items text.now (string_bytes trace)) }
+    ensures prints { IfOk result (λ trace. PrintsTrace job_number note_of jobs.items text.now trace) }
     ensures sound { IfOk result (λ trace. script_fault text.now ≡ None) }
     ensures fault { IfErr result (λ e. FailsFor e (first_fault ScriptHeader 1 (lines_of text.now))) }
 {
@@ -83,9 +87,9 @@ fn trace_of<A: Allocator + Copy>(
     alloc: A,
     script: Script<A>,
     jobs: Vec<Job, A>,
-) -> Result<String<A>, TextFault>
+) -> Result<Printed<A>, TextFault>
     ensures told { IfOk result (λ text. TellsTrace job_number note_of script.config jobs.items script.steps.items
-        (string_bytes text)) }
+        text) }
     ensures err { OnErr result (result ≡ Err TextFault.NoMemory) }
 {
     let Script { config, steps } = script;
@@ -109,60 +113,85 @@ fn told_run<A: Allocator + Copy>(
     rule: SpanRule,
     stage: &mut Stage<A>,
     steps: &[ScriptStep],
-) -> Result<String<A>, AllocError>
+) -> Result<Printed<A>, AllocError>
     ensures { IfOk result (λ text. TellsRun job_number note_of rule stage.old.world
-        (jobs stage.old.table stage.old.left.items) steps.now (string_bytes text) stage.new.world
+        (jobs stage.old.table stage.old.left.items) steps.now text stage.new.world
         (jobs stage.new.table stage.new.left.items)) }
 {
     // Room for most traces at once: while it grows, a text is copied, and takes its room more than once.
-    let mut text = String::with_capacity(alloc, steps.len().saturating_mul(ROW_TEXT))?;
-    text.push_str(trace_title(rule))?;
+    let text = Printed::with_capacity(alloc, steps.len().saturating_mul(ROW_TEXT))?;
+    // One formatter for all rows. What it prints into fails where memory is refused, and only there.
+    let mut trace = Formatter::new(text);
+    let Ok(()) = trace.write_str(trace_title(rule)) else {
+        return Err(AllocError);
+    };
     let mut number = 0u64;
     for step in steps {
         number += 1;
-        tell_step(stage, &mut text, number, step)?;
+        let Ok(()) = tell_step(stage, &mut trace, number, step) else {
+            return Err(AllocError);
+        };
     }
-    Ok(text)
+    Ok(trace.into_inner())
 }
 
 /// Does a step, and adds the line of its row, which has this number.
 #[inline(always)]
 fn tell_step<A: Allocator + Copy>(
     stage: &mut Stage<A>,
-    text: &mut String<A>,
+    trace: &mut Formatter<Printed<A>>,
     number: u64,
     step: &ScriptStep,
-) -> Result<(), AllocError>
-    ensures { OnOk result (TellsRow job_number note_of number stage.old.world
-        (jobs stage.old.table stage.old.left.items) step.now (string_bytes text.old) (string_bytes text.new)
-        stage.new.world (jobs stage.new.table stage.new.left.items)) }
+) -> fmt::Result
+    requires { IsPlainFormatter trace.old }
+    ensures row { OnOk result (TellsRow job_number note_of number stage.old.world
+        (jobs stage.old.table stage.old.left.items) step.now (formatter_writer trace.old)
+        (formatter_writer trace.new) stage.new.world
+        (jobs stage.new.table stage.new.left.items)) }
+    ensures plain { OnOk result (IsPlainFormatter trace.new) }
 {
     match (*step).plain() {
-        // The reply to most steps is narrow: its row is pushed before it is passed on as one that has lists.
+        // The reply to most steps is narrow: its row is written before it is passed on as one that has lists.
         Some(plain) => {
             let reply = ScriptReply::World(stage.world.ask(plain).reply());
-            push_line(text, number, step, &reply)
+            say_line(trace, number, step, &reply)
         }
-        None => {
-            let reply = stage.step(*step);
-            push_line(text, number, step, &reply)
-        }
+        None => tell_other(stage, trace, number, step),
     }
 }
 
-/// Adds the line of the row of this number.
+/// The same of a step of any kind. It is kept out of its caller, whose replies are narrow.
+#[inline(never)]
+fn tell_other<A: Allocator + Copy>(
+    stage: &mut Stage<A>,
+    trace: &mut Formatter<Printed<A>>,
+    number: u64,
+    step: &ScriptStep,
+) -> fmt::Result
+    requires { IsPlainFormatter trace.old }
+    ensures row { OnOk result (TellsRow job_number note_of number stage.old.world
+        (jobs stage.old.table stage.old.left.items) step.now (formatter_writer trace.old)
+        (formatter_writer trace.new) stage.new.world
+        (jobs stage.new.table stage.new.left.items)) }
+    ensures plain { OnOk result (IsPlainFormatter trace.new) }
+{
+    let reply = stage.step(*step);
+    say_line(trace, number, step, &reply)
+}
+
+/// Prints the line of the row of this number.
 #[inline(always)]
-fn push_line<A: Allocator>(
-    text: &mut String<A>,
+fn say_line<W: fmt::Write>(
+    f: &mut Formatter<W>,
     number: u64,
     step: &ScriptStep,
     reply: &ScriptReply,
-) -> Result<(), AllocError>
-    ensures { OnOk result (string_bytes text.new ≡ string_bytes text.old
-        ++ (decimal number ++ 32 ∷ (script_row_text (record { step = step.now; reply = reply.now }) ++ 10 ∷ []))) }
+) -> fmt::Result
+    ensures { DisplaysOnOk W.write_str_gives f.old result (Some (decimal number ++ 32 ∷
+        (script_row_text (record { step = step.now; reply = reply.now }) ++ 10 ∷ []))) f.new }
 {
-    push_number(text, number)?;
-    text.push_str(" ")?;
-    push_row(text, step, reply)?;
-    text.push_str("\n")
+    say_number(f, number)?;
+    f.write_str(" ")?;
+    say_row(f, step, reply)?;
+    f.write_str("\n")
 }

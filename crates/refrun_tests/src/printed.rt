@@ -18,28 +18,6 @@ fn agree<T: fmt::Display>(rt: &impl Abort, alloc: Global, table: &[(T, &str)]) -
     Ok(())
 }
 
-/// Each step prints so, and is pushed so.
-fn steps_agree(rt: &impl Abort, alloc: Global, table: &[(Step, &str)]) -> Result<(), Fail> {
-    agree(rt, alloc, table)?;
-    for (row, (step, want)) in table.iter().enumerate() {
-        let mut text = String::new(alloc);
-        step.push_to(&mut text)?;
-        assert_eq!(rt; text.as_str(), *want, "row {row}, pushed");
-    }
-    Ok(())
-}
-
-/// Each reply prints so, and is pushed so.
-fn replies_agree(rt: &impl Abort, alloc: Global, table: &[(Reply, &str)]) -> Result<(), Fail> {
-    agree(rt, alloc, table)?;
-    for (row, (reply, want)) in table.iter().enumerate() {
-        let mut text = String::new(alloc);
-        reply.push_to(&mut text)?;
-        assert_eq!(rt; text.as_str(), *want, "row {row}, pushed");
-    }
-    Ok(())
-}
-
 #[test]
 fn each_number_prints_behind_its_letter(rt: HostRuntime) -> Result<(), Fail> {
     let alloc = rt.alloc();
@@ -191,8 +169,8 @@ fn each_step_of_objects_prints_as_in_a_script(rt: HostRuntime) -> Result<(), Fai
         ),
         (refer(Strength::Phantom, None), "m7 phantom s1 s0 - 2"),
     ];
-    steps_agree(&rt, rt.alloc(), &STEPS_OF_OBJECTS)?;
-    steps_agree(&rt, rt.alloc(), &references)
+    agree(&rt, rt.alloc(), &STEPS_OF_OBJECTS)?;
+    agree(&rt, rt.alloc(), &references)
 }
 
 /// Steps of references.
@@ -311,9 +289,9 @@ const STEPS_OF_BATCHES: [(Step, &str); 4] = [
 
 #[test]
 fn each_step_of_references_and_queues_prints_as_in_a_script(rt: HostRuntime) -> Result<(), Fail> {
-    steps_agree(&rt, rt.alloc(), &STEPS_OF_REFERENCES)?;
-    steps_agree(&rt, rt.alloc(), &STEPS_OF_QUEUES)?;
-    steps_agree(&rt, rt.alloc(), &STEPS_OF_BATCHES)
+    agree(&rt, rt.alloc(), &STEPS_OF_REFERENCES)?;
+    agree(&rt, rt.alloc(), &STEPS_OF_QUEUES)?;
+    agree(&rt, rt.alloc(), &STEPS_OF_BATCHES)
 }
 
 #[test]
@@ -345,7 +323,7 @@ fn each_step_of_the_collector_prints_as_in_a_script(rt: HostRuntime) -> Result<(
         (Step::Plain(PlainStep::MoveNext { worker }), "w0 move"),
         (Step::Plain(PlainStep::EndMove), "endmove"),
     ];
-    steps_agree(&rt, rt.alloc(), &table)
+    agree(&rt, rt.alloc(), &table)
 }
 
 #[test]
@@ -372,7 +350,7 @@ fn each_reply_to_a_mutator_prints_as_in_a_trace(rt: HostRuntime) -> Result<(), F
         (Reply::Empty, "empty"),
         (Reply::Refused(Fault::NoSuchActor), "refused 9 NoSuchActor"),
     ];
-    replies_agree(&rt, rt.alloc(), &table)
+    agree(&rt, rt.alloc(), &table)
 }
 
 #[test]
@@ -396,7 +374,7 @@ fn each_reply_of_the_collector_prints_as_in_a_trace(rt: HostRuntime) -> Result<(
         (Reply::Selected(3), "selected 3"),
         (Reply::Moved(ObjNo(1)), "moved 1"),
     ];
-    replies_agree(&rt, rt.alloc(), &table)
+    agree(&rt, rt.alloc(), &table)
 }
 
 /// These numbers, 32 at most.
@@ -448,7 +426,7 @@ fn each_reply_of_several_notices_prints_as_in_a_trace(rt: HostRuntime) -> Result
             "added 9, already, added 10, closed, refused 3 NoMemory",
         ),
     ];
-    replies_agree(&rt, rt.alloc(), &table)
+    agree(&rt, rt.alloc(), &table)
 }
 
 #[test]

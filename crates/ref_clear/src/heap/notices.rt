@@ -139,18 +139,18 @@ impl<A: Allocator + Copy> Heap<A> {
         ensures numbers { numbers.new ≡ numbers.old ++ map (λ p. p.object)
             (take (front_count with max (pending_at self.old worker)) (pending_at self.old worker)) }
     {
-        if max == 0 {
-            return;
-        }
-        match self.hand_next(worker, Some(with)) {
-            Ok(Some(notice)) => {
-                numbers.push(notice.obj());
-                batch.push(notice);
-                self.hand_each(worker, with, max - 1, batch, numbers);
+        let mut left = max;
+        while left > 0 {
+            match self.hand_next(worker, Some(with)) {
+                Ok(Some(notice)) => {
+                    numbers.push(notice.obj());
+                    batch.push(notice);
+                }
+                Ok(None) => return,
+                // So many holds can be counted.
+                Err(_) => unreachable!(),
             }
-            Ok(None) => {}
-            // So many holds can be counted.
-            Err(_) => unreachable!(),
+            left -= 1;
         }
     }
 

@@ -43,6 +43,7 @@ impl<A: Allocator + Copy> Marker<A> {
 
     /// Takes a hold of the object of this number, as `Objects::mint` does: `NoSuchObject`, `NumbersSpent`. For the
     /// layer above, of an object that a root names.
+    #[inline(always)]
     pub fn mint(&mut self, no: ObjNo) -> Result<Hold, Fault>
         ensures answer { reply_of hold_reply result ≡ mint_answer_in self.old no }
         ensures own { IfOk result (λ hold. hold.heap_no ≡ self.old.heap.no) }

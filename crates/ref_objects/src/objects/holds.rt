@@ -61,6 +61,7 @@ impl<A: Allocator + Copy> Objects<A> {
 
     /// Takes a hold of the object of this number. Tried in this order: `NoSuchObject` where there is none that isn't
     /// condemned, `NumbersSpent` where 2^64 - 1 holds are out. In logarithmic time.
+    #[inline(always)]
     pub fn mint(&mut self, no: ObjNo) -> Result<Hold, Fault>
         ensures refused { IsRefused (mint_refusal self.old no) result }
         ensures answer { IfOk result (λ hold. IsHoldOf self.old (Some no) hold) }
@@ -82,6 +83,7 @@ impl<A: Allocator + Copy> Objects<A> {
 
     // One more hold of the object of this number. False where there is none, or it is condemned: then nothing changes.
     // By one search.
+    #[inline(always)]
     fn add_hold(&mut self, no: ObjNo) -> bool
         requires { length self.old.heap.holds < 2 ^ 64 - 1 }
         ensures spared { result ≡ is_spared self.old no }

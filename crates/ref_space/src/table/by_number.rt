@@ -234,6 +234,7 @@ impl<A: Allocator + Copy> Table<A> {
 
     /// Counts one more hold of the object of this number, which has to be marked where that is told. False where there
     /// is no such object: then nothing changes.
+    #[inline(always)]
     pub fn add_hold(&mut self, no: ObjNo, if_marked: bool) -> bool
         requires { length (holds_of self.old.tabled) < 2 ^ 64 - 1 }
         ensures there { result ≡ may_hold self.old.round.number if_marked (tabled_at self.old.tabled no) }

@@ -63,7 +63,8 @@ impl<A: Allocator + Copy> World<A> {
         }
     }
 
-    /// Does a step of the heap alone, as `step` does it, and answers it in fewer bytes.
+    /// Does a step of the heap alone, as `step` does it, and answers it in fewer bytes. Takes no memory. In the time of
+    /// the heap's call.
     #[inline(always)]
     pub fn ask(&mut self, step: PlainStep) -> PlainReply
         ensures { IsRowOf self.old (Step.Plain step) result self.new }

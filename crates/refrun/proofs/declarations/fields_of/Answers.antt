@@ -1,10 +1,9 @@
 use Rattle.refrun.proofs.Common.{arith, err_from_is_err_and, words_of}
 use Rattle.refrun.proofs.Fields.{has_bad_field, has_field_more, reads_fields}
-use Rattle.refrun.proofs.declarations.fields_of.Goals.{else-loop-rest-test, then-loop-rest-test+in_default}
 use Rattle.refrun.proofs.declarations.fields_of.Goals as goal
 
 pub returns-in_err-object_or_none_of-clause-fault : goal.returns-in_err-object_or_none_of-clause-fault
-returns-in_err-object_or_none_of-clause-fault g c =
+returns-in_err-object_or_none_of-clause-fault c =
     let p = err_from_is_err_and c.from_residual.result c.from_residual.ensures.1 in
     let bad = c.in_err-object_or_none_of.ensures in
     rw (p.1, p.2) (
@@ -14,7 +13,7 @@ returns-in_err-object_or_none_of-clause-fault g c =
     )
 
 pub loop-rest-preserved : goal.loop-rest-preserved
-loop-rest-preserved g c = grind (arith, has_field_more)
+loop-rest-preserved c = grind (arith, has_field_more)
 
 pub returns-clause-found : goal.returns-clause-found
-returns-clause-found g c = grind (arith, reads_fields)
+returns-clause-found c = grind (arith, reads_fields)

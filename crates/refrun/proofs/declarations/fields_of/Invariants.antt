@@ -1,9 +1,10 @@
-use Rattle.refrun.proofs.Common.{◌-◌, vec_len, words_of}
+use Rattle.refrun.proofs.Common.{◌-◌, words_of}
+use Rattle.arrayvec.specs.ArrayVec.{array_vec_len}
 use Rattle.refrun.proofs.Fields.{HasFields}
 use Rattle.refrun.proofs.declarations.fields_of.Given as goal
 
 abbrev pub invariant-loop-rest : goal.invariant-loop-rest
-invariant-loop-rest g l = HasFields (words_of l.operands) l.fields.items (words_of l.rest)
+invariant-loop-rest l = HasFields (words_of l.operands) l.fields.items (words_of l.rest)
 
 abbrev pub decreases-loop-rest : goal.decreases-loop-rest
-decreases-loop-rest g l = 8 - vec_len l.fields
+decreases-loop-rest l = 8 - array_vec_len l.fields

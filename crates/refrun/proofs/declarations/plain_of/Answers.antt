@@ -3,7 +3,7 @@ use Rattle.refrun.proofs.Fields.{object_fits, all_fields, extra_words}
 use Rattle.refrun.proofs.declarations.plain_of.Goals as goal
 
 pub returns-in_err-ends-clause-fault : goal.returns-in_err-ends-clause-fault
-returns-in_err-ends-clause-fault g c =
+returns-in_err-ends-clause-fault c =
     let p = err_from_is_err_and c.from_residual-in_err-ends.result c.from_residual-in_err-ends.ensures.1 in
     let left = c.in_err-ends.ensures in
     rw (p.1, p.2, left.3, c.in_ok-no.ensures)
@@ -11,4 +11,4 @@ returns-in_err-ends-clause-fault g c =
     (λ read good. simp (object_fits c.in_ok-no.no.now _ c.in_ok-no-2.ensures) good) c.in_ok-fields.ensures.found left.2)
 
 pub returns-clause-found : goal.returns-clause-found
-returns-clause-found g c = grind (arith, all_fields)
+returns-clause-found c = grind (arith, all_fields)

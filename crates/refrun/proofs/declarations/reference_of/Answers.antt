@@ -3,7 +3,7 @@ use Rattle.refrun.proofs.Fields.{object_fits, object_or_none_fits, all_fields, e
 use Rattle.refrun.proofs.declarations.reference_of.Goals as goal
 
 pub returns-in_err-ends-clause-fault : goal.returns-in_err-ends-clause-fault
-returns-in_err-ends-clause-fault g c =
+returns-in_err-ends-clause-fault c =
     let p = err_from_is_err_and c.from_residual-in_err-ends.result c.from_residual-in_err-ends.ensures.1 in
     let left = c.in_err-ends.ensures in
     let no = c.in_ok-no.no.now in
@@ -14,4 +14,4 @@ returns-in_err-ends-clause-fault g c =
     good) c.in_ok-fields.ensures.found left.2)
 
 pub returns-clause-found : goal.returns-clause-found
-returns-clause-found g c = grind (arith, all_fields)
+returns-clause-found c = grind (arith, all_fields)

@@ -1,6 +1,7 @@
 use Rattle.refrun.proofs.Common.{arith, ◌+◌, [], err_from_is_err_and, lines_of, Declarations}
 use Rattle.refrun.proofs.LineLemmas.{fails_for}
-use Rattle.refrun.proofs.GraphLines.{has_declared_none, has_declared_more, has_declared_all, has_declared_later_fault}
+use Rattle.refrun.proofs.GraphLines.{has_declared_none, has_declared_more, has_declared_all, has_declared_fault}
+use Rattle.refrun.proofs.GraphLines.{has_declared_later_fault}
 use Rattle.refrun.proofs.graph_text.graph_behind.Goals as goal
 
 pub returns-in_err-told-clause-fault : goal.returns-in_err-told-clause-fault
@@ -12,7 +13,10 @@ loop-told-init g c =
     c.in_ok-told.ensures.found c.in_ok-told.ensures.behind)
 
 pub returns-in_err-add_line-clause-fault : goal.returns-in_err-add_line-clause-fault
-returns-in_err-add_line-clause-fault g c = grind arith
+returns-in_err-add_line-clause-fault g c =
+    let p = err_from_is_err_and c.from_residual-in_err-add_line.result c.from_residual-in_err-add_line.ensures.1 in
+    rw (p.1, p.2) (has_declared_fault c.args.text.now c.args.number c.loop-told.told c.loop-told.graph c.in-Some.content
+    _ c.loop-told.invariant c.in-Some.is c.in_err-add_line.ensures.fault)
 
 pub returns-in_err-told-2-clause-fault : goal.returns-in_err-told-2-clause-fault
 returns-in_err-told-2-clause-fault g c =

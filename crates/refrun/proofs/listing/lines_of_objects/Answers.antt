@@ -1,8 +1,15 @@
-use Rattle.refrun.proofs.Common.{arith}
+use Rattle.refrun.proofs.Common.{arith, ap}
+use Rattle.std.specs.Result.{is_ok}
 use Rattle.refrun.proofs.ListingLemmas.{listed_more}
+use Rattle.refrun.proofs.Printing.{stands_behind}
 use Rattle.refrun.proofs.listing.lines_of_objects.Goals as goal
 
 pub loop-object-preserved : goal.loop-object-preserved
 loop-object-preserved g c =
-    listed_more c.args.listed.now c.loop-object.object-index c.object-item.result _ _ c.loop-object.invariant
-    (omega arith) c.object-item.is c.in_ok-add_object.ensures
+    let line =
+    stands_behind (λ printed. printed) (λ w bs v e. e)
+    (c.say_object.ensures c.loop-object.invariant.1 (ap is_ok c.in-Ok.is)) in (
+      listed_more c.args.listed.now c.loop-object.object-index c.object-item.result _ _ c.loop-object.invariant.0
+          (omega arith) c.object-item.is line.0,
+      line.1,
+    )

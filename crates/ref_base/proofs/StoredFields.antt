@@ -1,0 +1,108 @@
+-- What stored objects are, whose fields stand in one list of all fields.
+use Rattle.ref_base.proofs.Common.{◌≡◌, ℕ, ◌+◌, ◌≤◌, Bool, nat_eq, refl, sym, ap, ◌∙◌, arith, List, [], ◌∷◌}
+use Rattle.ref_base.proofs.Common.{◌++◌, Option, Some, None, is_some, length, take, drop, lookup, object_at, is_there}
+use Rattle.ref_base.proofs.Common.{numbers, with_object, stored_object, map-append, cases_Bool, inl, inr}
+use Rattle.std.proofs.lemmas.List.{take-append-le, drop-append-le, drop_at, take_all, length-drop}
+use Rattle.std.specs.List.{IsDistinct}
+use Rattle.std.specs.List.Sorted.{IsPermutation, IsSorted}
+use Rattle.std.specs.Map.{keys_of}
+use Rattle.std.specs.Option.{option_map}
+use Rattle.std.specs.Ordering.{nat_cmp}
+use Rattle.ref_base.specs.GraphViews.{HaveFieldsWithin, held_at, held_in, linked_reference, objects_in}
+use Rattle.ref_base.specs.declared.stored.Stored.{Stored}
+use Rattle.ref_base.proofs.StoreLaws.{is_some-option_map, is_there-objects_in, numbers_from_sorted}
+use Rattle.ref_base.proofs.StoreLaws.{object_at-objects_in, stored-last}
+
+lookup-held_in : (all : List (Option ℕ)) (test : ℕ → Bool) (es : List (ℕ × Stored))
+    → lookup test (held_in all es) ≡ option_map (held_at all) (lookup test es)
+lookup-held_in all test [] = refl
+lookup-held_in all test (e ∷ es) =
+    elim (cases_Bool (test e.0)) [ inl is ↦ simp is refl | inr other ↦ simp other (lookup-held_in all test es) ]
+
+keys_of-held_in : (all : List (Option ℕ)) (es : List (ℕ × Stored)) → keys_of (held_in all es) ≡ keys_of es
+keys_of-held_in all [] = refl
+keys_of-held_in all (e ∷ es) = ap (λ ns. e.0 ∷ ns) (keys_of-held_in all es)
+
+-- ---- look-ups
+
+option_map-twice : {X Y Z : Type 0} (f : Y → Z) (g : X → Y) (o : Option X)
+    → option_map f (option_map g o) ≡ option_map (λ x. f (g x)) o
+option_map-twice f g None = refl
+option_map-twice f g (Some x) = refl
+
+-- a look-up of the map is one of the objects
+pub object_at-stored : (all : List (Option ℕ)) (es : List (ℕ × Stored)) (n : ℕ)
+    → object_at (objects_in (held_in all es)) n
+    ≡ option_map (λ s. stored_object (n, held_at all s)) (lookup (nat_eq n) es)
+object_at-stored all es n =
+    object_at-objects_in (held_in all es) n
+    ∙ ap (option_map (λ h. stored_object (n, h))) (lookup-held_in all (nat_eq n) es)
+    ∙ option_map-twice (λ h. stored_object (n, h)) (held_at all) (lookup (nat_eq n) es)
+
+-- whether the map has a number is whether an object of it is there
+pub is_there-stored : (all : List (Option ℕ)) (es : List (ℕ × Stored)) (n : ℕ)
+    → is_some (lookup (nat_eq n) es) ≡ is_there (objects_in (held_in all es)) n
+is_there-stored all es n =
+    sym (is_some-option_map (held_at all) (lookup (nat_eq n) es))
+    ∙ ap is_some (sym (lookup-held_in all (nat_eq n) es))
+    ∙ is_there-objects_in (held_in all es) n
+
+-- the fields of what is looked up stand where those of all do
+pub within-lookup : (n : ℕ) (test : ℕ → Bool) (es : List (ℕ × Stored)) (s : Stored) → HaveFieldsWithin n es
+    → lookup test es ≡ Some s → s.start + s.count ≤ n
+within-lookup n test [] s within found = grind arith
+within-lookup n test (e ∷ es) s within found = grind (arith, within-lookup n test es s)
+
+-- ---- one object more
+
+-- more fields, put behind all others, change none of them
+held_at-more : (all more : List (Option ℕ)) (s : Stored) → s.start + s.count ≤ length all
+    → held_at (all ++ more) s ≡ held_at all s
+held_at-more all more s within =
+    ap (λ fields. record { fields = fields; link = s.link })
+    (ap (take s.count) (drop-append-le s.start all more (omega arith))
+    ∙ take-append-le s.count (drop s.start all) more (omega (arith, length-drop s.start all)))
+
+held_in-more : (all more : List (Option ℕ)) (es : List (ℕ × Stored)) → HaveFieldsWithin (length all) es
+    → held_in (all ++ more) es ≡ held_in all es
+held_in-more all more [] within = refl
+held_in-more all more (e ∷ es) within =
+    rw (held_at-more all more e.1 within.0, held_in-more all more es within.1) refl
+
+-- the fields that were put behind all others are those of the object whose fields begin there
+held_at-last : (all fields : List (Option ℕ)) (s : Stored) → s.start ≡ length all → s.count ≡ length fields
+    → held_at (all ++ fields) s ≡ record { fields = fields; link = s.link }
+held_at-last all fields s start count =
+    ap (λ found. record { fields = found; link = s.link })
+    (ap (take s.count) (drop_at all fields s.start (sym start)) ∙ take_all s.count fields (omega arith))
+
+-- an object that is stored last, and its fields behind all others, comes to its place
+pub objects_in-added : (all fields : List (Option ℕ)) (es : List (ℕ × Stored)) (n : ℕ) (s : Stored)
+    → HaveFieldsWithin (length all) es → s.start ≡ length all → s.count ≡ length fields
+    → objects_in (held_in (all ++ fields) (es ++ (n, s) ∷ []))
+    ≡ with_object (objects_in (held_in all es))
+    (record { no = n; fields = fields; reference = linked_reference s.link })
+objects_in-added all fields es n s within start count =
+    ap objects_in (map-append (λ e. (e.0, held_at (all ++ fields) e.1)) es ((n, s) ∷ []))
+    ∙ stored-last (held_in (all ++ fields) es) (n, held_at (all ++ fields) s)
+    ∙ ap (λ hs. with_object (objects_in hs) (stored_object (n, held_at (all ++ fields) s)))
+    (held_in-more all fields es within)
+    ∙ ap (λ h. with_object (objects_in (held_in all es)) (stored_object (n, h)))
+    (held_at-last all fields s start count)
+
+-- all of them have their fields among all fields still
+pub within-added : (m n : ℕ) (es : List (ℕ × Stored)) (e : ℕ × Stored) → m ≤ n → HaveFieldsWithin m es
+    → e.1.start + e.1.count ≤ n → HaveFieldsWithin n (es ++ e ∷ [])
+within-added m n [] e more within last = (last, tt)
+within-added m n (d ∷ es) e more within last =
+    (omega (arith, within.0), within-added m n es e more within.1 last)
+
+-- ---- the numbers by size
+
+-- the map's numbers, sorted, are those of the objects
+pub numbers_from_stored : (all : List (Option ℕ)) (es : List (ℕ × Stored)) (ns : List ℕ)
+    → IsDistinct nat_eq (keys_of es) → IsPermutation (keys_of es) ns → IsSorted nat_cmp ns
+    → ns ≡ numbers (objects_in (held_in all es))
+numbers_from_stored all es ns distinct moved sorted =
+    numbers_from_sorted (held_in all es) ns (rw (keys_of-held_in all es) distinct) (rw (keys_of-held_in all es) moved)
+    sorted
