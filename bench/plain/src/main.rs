@@ -1,7 +1,9 @@
 //! The shapes of `ref_bench` in plain Rust, to compare the compilers' code: nanoseconds, the least of nine runs. With
-//! the word `script` it runs a script instead, as `refrun run` does, and with `long` it prints a long one, or with
+//! the word `script` it runs a script instead, as `refrun run` does, and with `strength` it prints how strongly each
+//! object of a graph text is reachable, as `refrun strength` does. With `long` it prints a long script, or with
 //! `long 65536` one of a larger heap.
 
+mod graph;
 mod long_script;
 mod script;
 mod word_runs;
@@ -138,15 +140,19 @@ fn main() {
     let words: Vec<String> = std::env::args().skip(1).collect();
     match words.iter().map(String::as_str).collect::<Vec<&str>>()[..] {
         [] => measure(),
-        ["script"] => {
-            if let Err(fault) = script::run() {
-                eprintln!("refrun: {fault}");
-                std::process::exit(3);
-            }
-        }
+        ["script"] => end(script::run()),
+        ["strength"] => end(graph::run()),
         ["long"] => long_script::print(1, 4_096),
         ["long", "65536"] => long_script::print(2, 65_536),
         _ => std::process::exit(3),
+    }
+}
+
+/// Tells what is wrong with the text that was read, if anything is.
+fn end(run: Result<(), script::TextFault>) {
+    if let Err(fault) = run {
+        eprintln!("refrun: {fault}");
+        std::process::exit(3);
     }
 }
 

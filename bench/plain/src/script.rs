@@ -8,10 +8,10 @@ mod fault;
 mod heap;
 mod pages;
 mod replies;
-mod spelling;
+pub mod spelling;
 mod steps;
-mod text;
-mod trace;
+pub mod text;
+pub mod trace;
 mod worklist;
 mod world;
 
@@ -25,7 +25,7 @@ use trace::Trace;
 use world::World;
 
 /// How often reading may be interrupted.
-const MOST_INTERRUPTIONS: u32 = 999;
+pub const MOST_INTERRUPTIONS: u32 = 999;
 
 /// What is wrong with a text, or with reading and writing.
 pub enum TextFault {

@@ -10,9 +10,11 @@ pub enum LineFault {
     BadHeader,
     BadConfig,
     UnknownStep,
+    UnknownLine,
     MissingWord,
     BadWord,
     ExtraWord,
+    DoubleObject,
 }
 
 impl LineFault {
@@ -23,15 +25,18 @@ impl LineFault {
             LineFault::BadHeader => "bad header",
             LineFault::BadConfig => "bad config",
             LineFault::UnknownStep => "unknown step",
+            LineFault::UnknownLine => "unknown line",
             LineFault::MissingWord => "missing word",
             LineFault::BadWord => "bad word",
             LineFault::ExtraWord => "extra word",
+            LineFault::DoubleObject => "double object",
         }
     }
 }
 
 /// The words of the line that begins here, and where the next begins. None behind the last line. A blank line and a
-/// remark have no words.
+/// remark have no words. Unless it is compiled into its callers, the code that reads the steps of a script is slower.
+#[inline(always)]
 pub fn words_at(text: &[u8], start: usize) -> Result<Option<(Vec<&[u8]>, usize)>, LineFault> {
     let text = &text[..text.len() - PADDING];
     if start == text.len() {
@@ -153,6 +158,29 @@ fn has_form(form: u8, word: &[u8]) -> bool {
         b'n' => is_short(word),
         b'c' => number(word).is_some(),
         _ => word == b"normal" || word == b"urgent",
+    }
+}
+
+/// What is wrong with the words of a line as a root or an object of a graph, if anything is: the first fault by kind,
+/// too. Whether the object is a double one is not looked at.
+pub fn declaration_fault(words: &[&[u8]]) -> Option<LineFault> {
+    let (name, rest) = words.split_first()?;
+    let (least, more) = match *name {
+        b"root" => (1, 0),
+        b"plain" => (1, 8),
+        b"soft" | b"weak" | b"phantom" => (2, 8),
+        _ => return Some(LineFault::UnknownLine),
+    };
+    let is_object = |word: &[u8]| number(word).is_some_and(|number| number > 0 && number >> 32 == 0);
+    let has_form = |(place, word): (usize, &&[u8])| is_object(word) || place > 0 && *word == b"-";
+    if rest.len() < least {
+        Some(LineFault::MissingWord)
+    } else if !rest.iter().take(least + more).enumerate().all(has_form) {
+        Some(LineFault::BadWord)
+    } else if rest.len() > least + more {
+        Some(LineFault::ExtraWord)
+    } else {
+        None
     }
 }
 

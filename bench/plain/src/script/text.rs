@@ -99,6 +99,45 @@ impl<'a> Line<'a> {
         word & (first_stop >> 6).wrapping_sub(1)
     }
 
+    /// Whether this word stands here. It is read then.
+    #[inline(always)]
+    pub fn word<const N: usize>(&mut self, word: &[u8; N]) -> bool {
+        let stands = self.bytes[self.at % MOST_PLAIN..].first_chunk() == Some(word);
+        self.at += if stands { N } else { 0 };
+        stands
+    }
+
+    /// A number of an object, from 1 and below 2^32. Nearly all such numbers have some digits, but less than eight: the
+    /// bytes that are digits are found all at once, and so are they put together, two, four and then eight of them.
+    #[inline(always)]
+    pub fn object(&mut self) -> Option<u32> {
+        let bytes = *self.bytes[self.at % MOST_PLAIN..].first_chunk().expect("a window is larger");
+        let block = u64::from_le_bytes(bytes) ^ 0x3030_3030_3030_3030;
+        let stops = (block.wrapping_add(0x7676_7676_7676_7676) | block) & 0x8080_8080_8080_8080;
+        if stops == 0 {
+            let (number, count) = long_object(&self.bytes[self.at % MOST_PLAIN..])?;
+            self.at += count;
+            return Some(number);
+        }
+        let bits = stops.trailing_zeros() & 56;
+        let digits = block << 1 << (63 - bits);
+        let twos = (digits * 10 + (digits >> 8)) & 0x00ff_00ff_00ff_00ff;
+        let fours = (twos * 100 + (twos >> 16)) & 0x0000_ffff_0000_ffff;
+        let number = (fours * 10_000 + (fours >> 32)) as u32;
+        self.at += (bits / 8) as usize;
+        (number > 0).then_some(number)
+    }
+
+    /// The same, or 0 for a dash.
+    #[inline(always)]
+    pub fn object_or_none(&mut self) -> Option<u32> {
+        if self.byte(0) == b'-' {
+            self.at += 1;
+            return Some(0);
+        }
+        self.object()
+    }
+
     #[inline(always)]
     pub fn letter(&mut self, letter: u8) -> Option<()> {
         if self.byte(0) != letter {
@@ -147,6 +186,14 @@ impl<'a> Line<'a> {
         self.at += from + count;
         u32::try_from(number).ok()
     }
+}
+
+/// A number of an object that has more digits than most, and how many.
+#[cold]
+#[inline(never)]
+fn long_object(text: &[u8]) -> Option<(u32, usize)> {
+    let (number, count) = digits(text)?;
+    Some((u32::try_from(number).ok()?, count))
 }
 
 /// The number below 2^64 that stands here, and how many digits it has.

@@ -24,16 +24,27 @@ static DIGITS: [[u8; 4]; 1_000] = {
 };
 
 /// The number of a row, as bytes of a number: its digits, the first first, and a space behind them. A script has no
-/// more than some 600,000 steps.
-struct Count {
+/// more than some 600,000 steps, and a number in the table of a graph's objects has no more digits than seven.
+pub struct Count {
     text: u64,
     /// Where the last digit stands, in bits.
     last: u32,
 }
 
 impl Count {
+    /// It counts from 1.
+    pub fn new() -> Count {
+        Count { text: u64::from_le_bytes(*b"1 \0\0\0\0\0\0"), last: 0 }
+    }
+
+    /// The digits and the space in front of a block, and how many bytes these are.
     #[inline(always)]
-    fn add_one(&mut self) {
+    pub fn digits(&self) -> ([u8; 8], usize) {
+        (self.text.to_le_bytes(), (self.last / 8) as usize + 2)
+    }
+
+    #[inline(always)]
+    pub fn add_one(&mut self) {
         self.text += 1 << (self.last & 63);
         if (self.text >> (self.last & 63)) as u8 > b'9' {
             self.carry();
@@ -78,7 +89,7 @@ impl Trace {
     pub fn new(title: &[u8; 11], script: usize) -> Trace {
         let mut bytes = vec![0; SHARE * script + ROOM];
         bytes[..title.len()].copy_from_slice(title);
-        Trace { bytes, length: title.len(), count: Count { text: u64::from_le_bytes(*b"1 \0\0\0\0\0\0"), last: 0 } }
+        Trace { bytes, length: title.len(), count: Count::new() }
     }
 
     pub fn into_bytes(mut self) -> Vec<u8> {
