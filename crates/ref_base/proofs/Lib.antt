@@ -82,4 +82,5 @@ mod LegalExamples
 mod IllegalExamples
 mod Examples
 pub mod WantedMemory
+pub mod NumberPlaceLemmas
 pub mod StoredFields

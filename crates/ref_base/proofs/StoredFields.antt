@@ -1,15 +1,17 @@
 -- What stored objects are, whose fields stand in one list of all fields.
 use Rattle.ref_base.proofs.Common.{◌≡◌, ℕ, ◌+◌, ◌≤◌, Bool, nat_eq, refl, sym, ap, ◌∙◌, arith, List, [], ◌∷◌}
 use Rattle.ref_base.proofs.Common.{◌++◌, Option, Some, None, is_some, length, take, drop, lookup, object_at, is_there}
-use Rattle.ref_base.proofs.Common.{numbers, with_object, stored_object, map-append, cases_Bool, inl, inr}
+use Rattle.ref_base.proofs.Common.{numbers, with_object, stored_object, map-append, cases_Bool, inl, inr, has, get_or}
+use Rattle.ref_base.proofs.Common.{position, zero, suc}
 use Rattle.std.proofs.lemmas.List.{take-append-le, drop-append-le, drop_at, take_all, length-drop}
-use Rattle.std.specs.List.{IsDistinct}
+use Rattle.std.specs.List.{IsDistinct, zip}
 use Rattle.std.specs.List.Sorted.{IsPermutation, IsSorted}
 use Rattle.std.specs.Map.{keys_of}
 use Rattle.std.specs.Option.{option_map}
 use Rattle.std.specs.Ordering.{nat_cmp}
 use Rattle.ref_base.specs.GraphViews.{HaveFieldsWithin, held_at, held_in, linked_reference, objects_in}
 use Rattle.ref_base.specs.declared.stored.Stored.{Stored}
+use Rattle.ref_base.proofs.NumberPlaceLemmas.{is_some-position}
 use Rattle.ref_base.proofs.StoreLaws.{is_some-option_map, is_there-objects_in, numbers_from_sorted}
 use Rattle.ref_base.proofs.StoreLaws.{object_at-objects_in, stored-last}
 
@@ -97,12 +99,52 @@ within-added m n [] e more within last = (last, tt)
 within-added m n (d ∷ es) e more within last =
     (omega (arith, within.0), within-added m n es e more within.1 last)
 
+-- ---- numbers beside what is stored of their objects
+
+-- a number has a place where its object is stored
+has-zip : (ns : List ℕ) (ss : List Stored) (n : ℕ) → length ns ≡ length ss
+    → is_some (lookup (nat_eq n) (zip ns ss)) ≡ has ns n
+has-zip [] ss n same = refl
+has-zip (m ∷ ns) [] n same = grind arith
+has-zip (m ∷ ns) (s ∷ ss) n same = grind (arith, has-zip ns ss n)
+
+-- whether a number came is whether an object of it is there
+pub is_there-zip : (all : List (Option ℕ)) (ns : List ℕ) (ss : List Stored) (n : ℕ) → length ns ≡ length ss
+    → has ns n ≡ is_there (objects_in (held_in all (zip ns ss))) n
+is_there-zip all ns ss n same = sym (has-zip ns ss n same) ∙ is_there-stored all (zip ns ss) n
+
+-- what is stored of a number's object stands where the number does
+pub lookup-zip : (ns : List ℕ) (ss : List Stored) (n place : ℕ) (d : Stored) → length ns ≡ length ss
+    → position (nat_eq n) ns ≡ Some place → lookup (nat_eq n) (zip ns ss) ≡ Some (get_or ss place d)
+lookup-zip [] ss n place d same at = grind arith
+lookup-zip (m ∷ ns) [] n place d same at = grind arith
+lookup-zip (m ∷ ns) (s ∷ ss) n zero d same at = grind arith
+lookup-zip (m ∷ ns) (s ∷ ss) n (suc place) d same at = grind (arith, lookup-zip ns ss n place d)
+
+-- and nothing is stored of a number that has no place
+pub lookup-zip-none : (ns : List ℕ) (ss : List Stored) (n : ℕ) → length ns ≡ length ss
+    → position (nat_eq n) ns ≡ None → lookup (nat_eq n) (zip ns ss) ≡ None
+lookup-zip-none ns ss n same none = grind (arith, has-zip ns ss n, is_some-position ns n)
+
+-- one number more, and what is stored of its object
+pub zip-push : (ns : List ℕ) (ss : List Stored) (n : ℕ) (s : Stored) → length ns ≡ length ss
+    → zip (ns ++ n ∷ []) (ss ++ s ∷ []) ≡ zip ns ss ++ (n, s) ∷ []
+zip-push [] [] n s same = refl
+zip-push [] (t ∷ ss) n s same = grind arith
+zip-push (m ∷ ns) [] n s same = grind arith
+zip-push (m ∷ ns) (t ∷ ss) n s same = ap (λ es. (m, t) ∷ es) (zip-push ns ss n s (omega (arith, same)))
+
+pub keys_of-zip : (ns : List ℕ) (ss : List Stored) → length ns ≡ length ss → keys_of (zip ns ss) ≡ ns
+keys_of-zip [] ss same = refl
+keys_of-zip (m ∷ ns) [] same = grind arith
+keys_of-zip (m ∷ ns) (s ∷ ss) same = ap (λ ks. m ∷ ks) (keys_of-zip ns ss (omega (arith, same)))
+
 -- ---- the numbers by size
 
--- the map's numbers, sorted, are those of the objects
-pub numbers_from_stored : (all : List (Option ℕ)) (es : List (ℕ × Stored)) (ns : List ℕ)
-    → IsDistinct nat_eq (keys_of es) → IsPermutation (keys_of es) ns → IsSorted nat_cmp ns
-    → ns ≡ numbers (objects_in (held_in all es))
-numbers_from_stored all es ns distinct moved sorted =
-    numbers_from_sorted (held_in all es) ns (rw (keys_of-held_in all es) distinct) (rw (keys_of-held_in all es) moved)
-    sorted
+-- the numbers, sorted, are those of the objects
+pub numbers_from_stored : (all : List (Option ℕ)) (ms : List ℕ) (ss : List Stored) (ns : List ℕ)
+    → length ms ≡ length ss → IsDistinct nat_eq ms → IsPermutation ms ns → IsSorted nat_cmp ns
+    → ns ≡ numbers (objects_in (held_in all (zip ms ss)))
+numbers_from_stored all ms ss ns same distinct moved sorted =
+    let keys : keys_of (held_in all (zip ms ss)) ≡ ms = keys_of-held_in all (zip ms ss) ∙ keys_of-zip ms ss same in
+    numbers_from_sorted (held_in all (zip ms ss)) ns (rw keys distinct) (rw keys moved) sorted

@@ -4,6 +4,7 @@ pub mod Texts
 pub mod Members
 pub mod Filled
 pub mod Graphs
+pub mod NumberPlaces
 pub mod Paths
 pub mod Strengths
 pub mod ReachNames

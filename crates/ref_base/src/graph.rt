@@ -1,45 +1,44 @@
 //! Object graphs.
 
-ghost use Rattle.std.specs.Prelude.{◌≡◌, nat_eq, IfOk};
-ghost use Rattle.std.specs.Map.{lookup};
-ghost use Rattle.std.specs.Option.{option_copied, option_map};
+ghost use Rattle.std.specs.Prelude.{◌≡◌, IfOk};
+ghost use Rattle.std.specs.Option.{option_map};
 ghost use Rattle.ref_base.specs.GraphViews.{linked_reference};
 ghost use Rattle.ref_base.specs.GraphAnswers.{AnswersObject, after_object, AnswersRoot, after_root};
 ghost use Rattle.ref_base.specs.Graphs.{empty_graph, is_there, numbers, object_at, plain_object, reference_object};
 ghost use Rattle.ref_base.specs.Strengths.{IsRising};
 
+use crate::number_list::NumberList;
 use crate::stored::{Lent, Link, Stored};
 use crate::{Fault, MOST_FIELDS, ObjNo, Strength};
-use indexmap::{IndexMap, IndexSet};
 use std::alloc::{AllocError, Allocator, Global};
-use std::hash::{BuildHasherDefault, FoldHasher};
 use std::marker::Model;
-
-// In the order in which they were added: a search looks each up by number, and only a listing sorts them.
-type Objects<A> = IndexMap<ObjNo, Stored, BuildHasherDefault<FoldHasher>, A>;
 
 /// An object graph: objects, what they refer to, and roots, the numbers that a program reaches by itself (package
 /// `java.lang.ref` of Java SE 17). That objects have numbers and at most 8 fields is this project's profile. All its
 /// memory is of the allocator that it was made with.
 #[derive(Drop)]
 pub struct Graph<A: Allocator = Global> {
-    objects: Objects<A>,
+    // In the order in which they were added: a search looks each up by number, and only a listing sorts them.
+    numbers: NumberList<A>,
+    // What is stored of the objects of these numbers, in the same order.
+    stored: Vec<Stored, A>,
     // Those of all objects, one object's after another's: most objects have few of the fields that they may have.
     fields: Vec<Option<ObjNo>, A>,
-    roots: IndexSet<ObjNo, BuildHasherDefault<FoldHasher>, A>,
+    roots: NumberList<A>,
 }
 
 impl<A: Allocator> Model for Graph<A> {
-    ghost use Rattle.std.specs.Prelude.{length};
+    ghost use Rattle.std.specs.Prelude.{◌≡◌, length, zip};
     ghost use Rattle.ref_base.specs.GraphViews.{held_in, objects_in, HaveFieldsWithin};
     ghost use Rattle.ref_base.specs.Graphs.{Graph as Data};
 
     ghost Value = { Data };
 
     ghost view = { λ g.
-        record { objects = objects_in (held_in g.fields.items g.objects.entries); roots = g.roots.keys } };
+        record { objects = objects_in (held_in g.fields.items (zip g.numbers g.stored.items)); roots = g.roots } };
 
-    ghost invariant = { λ g. HaveFieldsWithin (length g.fields.items) g.objects.entries };
+    ghost invariant = { λ g. (length g.numbers ≡ length g.stored.items)
+        × HaveFieldsWithin (length g.fields.items) (zip g.numbers g.stored.items) };
 }
 
 impl<A: Allocator + Copy> Graph<A> {
@@ -48,9 +47,10 @@ impl<A: Allocator + Copy> Graph<A> {
         ensures { result ≡ empty_graph }
     {
         Graph {
-            objects: IndexMap::new(alloc),
+            numbers: NumberList::new(alloc),
+            stored: Vec::new(alloc),
             fields: Vec::new(alloc),
-            roots: IndexSet::new(alloc),
+            roots: NumberList::new(alloc),
         }
     }
 
@@ -100,22 +100,22 @@ impl<A: Allocator + Copy> Graph<A> {
         if fields.len() > MOST_FIELDS {
             return Err(Fault::BadField);
         }
-        if self.objects.contains_key(&no) {
+        if self.numbers.contains(no) {
             return Ok(false);
         }
         let Ok(start) = u32::try_from(self.fields.len()) else {
             return Err(Fault::NoMemory);
         };
-        if self.fields.extend_from_slice(fields).is_err() {
+        if self.stored.reserve(1).is_err() || self.fields.extend_from_slice(fields).is_err() {
             return Err(Fault::NoMemory);
         }
-        let count = fields.len() as u8;
-        let stored = Stored { start, count, link };
-        if self.objects.insert(no, stored).is_err() {
+        if self.numbers.insert(no).is_err() {
             // No object has these fields.
             self.fields.truncate(start as usize);
             return Err(Fault::NoMemory);
         }
+        let count = fields.len() as u8;
+        self.stored.push_reserved(Stored { start, count, link });
         Ok(true)
     }
 
@@ -136,7 +136,7 @@ impl<A: Allocator + Copy> Graph<A> {
     pub(crate) fn has_object(&self, no: ObjNo) -> bool
         ensures { result ≡ is_there self.now.objects no }
     {
-        stored_at(&self.objects, no).is_some()
+        self.numbers.contains(no)
     }
 
     /// The object of this number. In expected constant time.
@@ -145,7 +145,7 @@ impl<A: Allocator + Copy> Graph<A> {
             (λ o. record { no = no; fields = o.fields.now; reference = linked_reference o.link }) result
             ≡ object_at self.now.objects no }
     {
-        let stored = stored_at(&self.objects, no)?;
+        let stored = self.stored[self.numbers.place(no)?];
         Some(Lent {
             fields: stored.fields_among(&self.fields),
             link: stored.link,
@@ -165,20 +165,8 @@ impl<A: Allocator + Copy> Graph<A> {
         ensures all { IfOk result (λ listed. listed.items ≡ numbers self.now.objects) }
         ensures sorted { IsRising (numbers self.now.objects) }
     {
-        let mut listed: Vec<ObjNo, B> = self.objects.keys().copied().collect(alloc)?;
+        let mut listed: Vec<ObjNo, B> = self.numbers.as_slice().iter().copied().collect(alloc)?;
         listed.sort_unstable();
         Ok(listed)
-    }
-}
-
-// What is stored of the object of this number. Where objects were added by number from 1 on, as most graphs have them,
-// it stands where its number says; elsewhere it is found by hashing.
-fn stored_at<A: Allocator>(objects: &Objects<A>, no: ObjNo) -> Option<&Stored>
-    ensures { option_copied result ≡ lookup (nat_eq no) objects.now.entries }
-{
-    let place = no.0.saturating_sub(1) as usize;
-    match objects.get_index(place) {
-        Some((found, stored)) if *found == no => Some(stored),
-        _ => objects.get(&no),
     }
 }

@@ -13,6 +13,7 @@ mod heap_step;
 pub mod laws;
 mod limits;
 mod nos;
+mod number_list;
 mod numbers;
 mod out;
 mod outs;

@@ -8,9 +8,9 @@ ghost use Rattle.ref_base.specs.Searches.{added_all, phantom_referents, phantom_
 ghost use Rattle.ref_base.specs.Searches.{found_reach, found_reaches};
 ghost use Rattle.ref_base.specs.Strengths.{AreStrengths, IsRising};
 
-use crate::search::{Allow, Numbers, add_if_any, add_roots, go_on};
+use crate::number_list::NumberList;
+use crate::search::{Allow, add_if_any, add_roots, go_on};
 use crate::{Fault, Graph, ObjNo, ObjectReach, Reach, Strength};
-use indexmap::IndexSet;
 use std::alloc::{AllocError, Allocator};
 
 // The referent of the object of this number, if it is a phantom reference.
@@ -29,12 +29,12 @@ fn phantom_referent<A: Allocator + Copy>(graph: &Graph<A>, no: ObjNo) -> Option<
 // The referents of those of these objects that are phantom references. What lies behind such a referent is not among
 // them: it is phantom reachable only where a phantom reference refers to it too.
 fn add_hung<A: Allocator + Copy, B: Allocator + Copy>(
-    hung: &mut Numbers<B>,
+    hung: &mut NumberList<B>,
     graph: &Graph<A>,
     reached: &[ObjNo],
 ) -> Result<(), AllocError>
-    ensures { OnOk result (hung.new.keys
-        ≡ added_all graph.now.objects hung.old.keys (phantom_referents graph.now.objects reached.now)) }
+    ensures { OnOk result (hung.new
+        ≡ added_all graph.now.objects hung.old (phantom_referents graph.now.objects reached.now)) }
 {
     for no in reached {
         add_if_any(hung, graph, phantom_referent(graph, *no))?;
@@ -46,31 +46,31 @@ fn add_hung<A: Allocator + Copy, B: Allocator + Copy>(
 // ones, then through weak ones too; and what hangs on a phantom reference among all of them.
 #[derive(Drop)]
 struct Found<B: Allocator> {
-    reached: Numbers<B>,
+    reached: NumberList<B>,
     // How many of them are strong, and how many are strong or soft.
     strong: usize,
     soft: usize,
-    hung: Numbers<B>,
+    hung: NumberList<B>,
 }
 
 impl<B: Allocator + Copy> Found<B> {
     // Nothing yet. Takes no memory.
     fn new(alloc: B) -> Self
-        ensures { (result.reached.keys ≡ []) × (result.hung.keys ≡ []) }
+        ensures { (result.reached ≡ []) × (result.hung ≡ []) }
     {
         Found {
-            reached: IndexSet::new(alloc),
+            reached: NumberList::new(alloc),
             strong: 0,
             soft: 0,
-            hung: IndexSet::new(alloc),
+            hung: NumberList::new(alloc),
         }
     }
 
     // Searches, and goes on twice, from nothing.
     fn search<A: Allocator + Copy>(&mut self, graph: &Graph<A>) -> Result<(), AllocError>
-        requires { (self.old.reached.keys ≡ []) × (self.old.hung.keys ≡ []) }
-        ensures { OnOk result (AreSearched graph.now (take self.new.strong self.new.reached.keys)
-            (take self.new.soft self.new.reached.keys) self.new.reached.keys self.new.hung.keys) }
+        requires { (self.old.reached ≡ []) × (self.old.hung ≡ []) }
+        ensures { OnOk result (AreSearched graph.now (take self.new.strong self.new.reached)
+            (take self.new.soft self.new.reached) self.new.reached self.new.hung) }
     {
         add_roots(&mut self.reached, graph, graph.roots())?;
         go_on(&mut self.reached, graph, Allow::NoReferents, 0)?;
@@ -83,14 +83,14 @@ impl<B: Allocator + Copy> Found<B> {
 
     // Where in the search the number was found tells its strength.
     fn reach_of(&self, no: ObjNo) -> Reach
-        ensures { result ≡ found_reach (take self.now.strong self.now.reached.keys)
-            (take self.now.soft self.now.reached.keys) self.now.reached.keys self.now.hung.keys no }
+        ensures { result ≡ found_reach (take self.now.strong self.now.reached)
+            (take self.now.soft self.now.reached) self.now.reached self.now.hung no }
     {
-        match self.reached.get_index_of(&no) {
+        match self.reached.place(no) {
             Some(place) if place < self.strong => Reach::Strong,
             Some(place) if place < self.soft => Reach::Soft,
             Some(_) => Reach::Weak,
-            None if self.hung.contains(&no) => Reach::Phantom,
+            None if self.hung.contains(no) => Reach::Phantom,
             None => Reach::Unreachable,
         }
     }
@@ -101,8 +101,8 @@ impl<B: Allocator + Copy> Found<B> {
         alloc: B,
         graph: &Graph<A>,
     ) -> Result<Vec<ObjectReach, B>, AllocError>
-        ensures ok { IfOk result (λ listed. listed.items ≡ found_reaches (take self.now.strong self.now.reached.keys)
-            (take self.now.soft self.now.reached.keys) self.now.reached.keys self.now.hung.keys
+        ensures ok { IfOk result (λ listed. listed.items ≡ found_reaches (take self.now.strong self.now.reached)
+            (take self.now.soft self.now.reached) self.now.reached self.now.hung
             (numbers graph.now.objects)) }
         ensures sorted { IsRising (numbers graph.now.objects) }
     {

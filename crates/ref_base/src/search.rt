@@ -9,11 +9,10 @@ ghost use Rattle.ref_base.specs.Paths.{allowed_referent, if_any, present, target
 ghost use Rattle.ref_base.specs.Searches.{allows, allowed, with_reached, added_all, searched_referents, ArePathEnds};
 ghost use Rattle.ref_base.specs.Searches.{IsSearched};
 
+use crate::number_list::NumberList;
 use crate::stored::Link;
 use crate::{Graph, ObjNo, Strength};
-use indexmap::IndexSet;
 use std::alloc::{AllocError, Allocator};
-use std::hash::{BuildHasherDefault, FoldHasher};
 
 /// Which references a path may go through.
 #[derive(Clone, Copy)]
@@ -50,16 +49,13 @@ impl Allow {
     }
 }
 
-/// Numbers in the order in which they were found, each once.
-pub(crate) type Numbers<B> = IndexSet<ObjNo, BuildHasherDefault<FoldHasher>, B>;
-
 // One more number, where it is an object's.
 fn add<A: Allocator + Copy, B: Allocator + Copy>(
-    seen: &mut Numbers<B>,
+    seen: &mut NumberList<B>,
     graph: &Graph<A>,
     no: ObjNo,
 ) -> Result<(), AllocError>
-    ensures { OnOk result (seen.new.keys ≡ with_reached graph.now.objects seen.old.keys no) }
+    ensures { OnOk result (seen.new ≡ with_reached graph.now.objects seen.old no) }
 {
     if graph.has_object(no) {
         seen.insert(no)?;
@@ -69,11 +65,11 @@ fn add<A: Allocator + Copy, B: Allocator + Copy>(
 
 /// One more number, if any, where it is an object's.
 pub(crate) fn add_if_any<A: Allocator + Copy, B: Allocator + Copy>(
-    seen: &mut Numbers<B>,
+    seen: &mut NumberList<B>,
     graph: &Graph<A>,
     value: Option<ObjNo>,
 ) -> Result<(), AllocError>
-    ensures { OnOk result (seen.new.keys ≡ added_all graph.now.objects seen.old.keys (if_any value)) }
+    ensures { OnOk result (seen.new ≡ added_all graph.now.objects seen.old (if_any value)) }
 {
     match value {
         Some(no) => add(seen, graph, no),
@@ -83,11 +79,11 @@ pub(crate) fn add_if_any<A: Allocator + Copy, B: Allocator + Copy>(
 
 // What these fields hold.
 fn add_fields<A: Allocator + Copy, B: Allocator + Copy>(
-    seen: &mut Numbers<B>,
+    seen: &mut NumberList<B>,
     graph: &Graph<A>,
     fields: &[Option<ObjNo>],
 ) -> Result<(), AllocError>
-    ensures { OnOk result (seen.new.keys ≡ added_all graph.now.objects seen.old.keys (present fields.now)) }
+    ensures { OnOk result (seen.new ≡ added_all graph.now.objects seen.old (present fields.now)) }
 {
     for field in fields {
         add_if_any(seen, graph, *field)?;
@@ -97,11 +93,11 @@ fn add_fields<A: Allocator + Copy, B: Allocator + Copy>(
 
 /// Where paths begin.
 pub(crate) fn add_roots<A: Allocator + Copy, B: Allocator + Copy>(
-    seen: &mut Numbers<B>,
+    seen: &mut NumberList<B>,
     graph: &Graph<A>,
     roots: &[ObjNo],
 ) -> Result<(), AllocError>
-    ensures { OnOk result (seen.new.keys ≡ added_all graph.now.objects seen.old.keys roots.now) }
+    ensures { OnOk result (seen.new ≡ added_all graph.now.objects seen.old roots.now) }
 {
     for root in roots {
         add(seen, graph, *root)?;
@@ -111,13 +107,13 @@ pub(crate) fn add_roots<A: Allocator + Copy, B: Allocator + Copy>(
 
 // Where a path may go on to from the object of this number.
 fn add_targets<A: Allocator + Copy, B: Allocator + Copy>(
-    seen: &mut Numbers<B>,
+    seen: &mut NumberList<B>,
     graph: &Graph<A>,
     no: ObjNo,
     allow: Allow,
 ) -> Result<(), AllocError>
-    ensures { OnOk result (seen.new.keys
-        ≡ added_all graph.now.objects seen.old.keys (targets_at (allowed allow) graph.now.objects no)) }
+    ensures { OnOk result (seen.new
+        ≡ added_all graph.now.objects seen.old (targets_at (allowed allow) graph.now.objects no)) }
 {
     if let Some(object) = graph.object(no) {
         add_fields(seen, graph, object.fields)?;
@@ -128,12 +124,12 @@ fn add_targets<A: Allocator + Copy, B: Allocator + Copy>(
 
 // Where a path may go on to through the object of this number, if it is a reference.
 fn add_referent<A: Allocator + Copy, B: Allocator + Copy>(
-    seen: &mut Numbers<B>,
+    seen: &mut NumberList<B>,
     graph: &Graph<A>,
     no: ObjNo,
     allow: Allow,
 ) -> Result<(), AllocError>
-    ensures { OnOk result (seen.new.keys ≡ added_all graph.now.objects seen.old.keys
+    ensures { OnOk result (seen.new ≡ added_all graph.now.objects seen.old
         (searched_referents (allowed allow) (object_at graph.now.objects no))) }
 {
     match graph.object(no) {
@@ -145,14 +141,14 @@ fn add_referent<A: Allocator + Copy, B: Allocator + Copy>(
 /// Goes on to all objects that paths lead to, where they go through no other references than these. What the fields of
 /// the first `closed` hold was seen before, so that each field is looked at once, however often a search goes on.
 pub(crate) fn go_on<A: Allocator + Copy, B: Allocator + Copy>(
-    seen: &mut Numbers<B>,
+    seen: &mut NumberList<B>,
     graph: &Graph<A>,
     allow: Allow,
     closed: usize,
 ) -> Result<(), AllocError>
-    requires { IsSearched (allowed allow) graph.now seen.old.keys closed 0 }
-    ensures reached { OnOk result (ArePathEnds (allowed allow) graph.now seen.new.keys) }
-    ensures kept { OnOk result (take (length seen.old.keys) seen.new.keys ≡ seen.old.keys) }
+    requires { IsSearched (allowed allow) graph.now seen.old closed 0 }
+    ensures reached { OnOk result (ArePathEnds (allowed allow) graph.now seen.new) }
+    ensures kept { OnOk result (take (length seen.old) seen.new ≡ seen.old) }
 {
     let mut next = 0;
     while next < seen.len() {

@@ -69,6 +69,22 @@ pub(crate) fn say_slot<W: fmt::Write>(f: &mut fmt::Formatter<W>, at: SlotNo) -> 
     say_behind(f, " s", at.0)
 }
 
+// An actor's letter and number, and the name of its step.
+#[inline(always)]
+fn say_actor<W: fmt::Write>(
+    f: &mut fmt::Formatter<W>,
+    letter: &'static str,
+    number: u32,
+    name: &'static str,
+) -> fmt::Result
+    ensures { DisplaysOnOk W.write_str_gives f.old result
+        (Some (letter.now ++ decimal number ++ 32 ∷ name.now)) f.new }
+{
+    say_behind(f, letter, number)?;
+    f.write_str(" ")?;
+    f.write_str(name)
+}
+
 /// As `m0 new`.
 #[inline(always)]
 pub(crate) fn say_by<W: fmt::Write>(
@@ -79,9 +95,7 @@ pub(crate) fn say_by<W: fmt::Write>(
     ensures { DisplaysOnOk W.write_str_gives f.old result
         (Some (text_of (mutator by ∷ Letters name.now ∷ []))) f.new }
 {
-    say_behind(f, "m", by.0)?;
-    f.write_str(" ")?;
-    f.write_str(name)
+    say_actor(f, "m", by.0, name)
 }
 
 /// As `w0 scan`.
@@ -94,9 +108,7 @@ pub(crate) fn say_by_worker<W: fmt::Write>(
     ensures { DisplaysOnOk W.write_str_gives f.old result
         (Some (text_of (worker by ∷ Letters name.now ∷ []))) f.new }
 {
-    say_behind(f, "w", by.0)?;
-    f.write_str(" ")?;
-    f.write_str(name)
+    say_actor(f, "w", by.0, name)
 }
 
 /// As `m0 drop s0`.

@@ -7,7 +7,7 @@ use Rattle.ref_base.proofs.reachability.add_hung.Goals as goal
 pub loop-no-preserved : goal.loop-no-preserved
 loop-no-preserved g c =
     let os = c.args.graph.now.objects in
-    let hung = c.loop-no.hung.keys in
+    let hung = c.loop-no.hung in
     let rest = phantom_referents os (drop (c.loop-no.no-index + 1) c.args.reached.now) in
     rw (c.in_ok-add_if_any.ensures, c.phantom_referent.ensures)
     (sym (added_all-append os (phantom_referent_at (object_at os c.no-item.result)) rest hung)

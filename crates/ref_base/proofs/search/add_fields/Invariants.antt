@@ -4,5 +4,5 @@ use Rattle.ref_base.proofs.search.add_fields.Given as goal
 -- adding what is left of the fields ends as adding all of them does
 abbrev pub invariant-loop-field : goal.invariant-loop-field
 invariant-loop-field g l =
-    added_all l.graph.objects l.seen.keys (present (drop l.field-index l.fields))
-    ≡ added_all l.graph.objects l.initial.seen.keys (present l.fields)
+    added_all l.graph.objects l.seen (present (drop l.field-index l.fields))
+    ≡ added_all l.graph.objects l.initial.seen (present l.fields)

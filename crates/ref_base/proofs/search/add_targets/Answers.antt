@@ -11,6 +11,6 @@ returns-in_ok-add_if_any g c =
       fields = c.in-Some.object.fields.now;
       reference = linked_reference c.in-Some.object.link;
     })
-    c.in-Some.object.fields.now (if_any c.referent.result) c.args.seen.now.keys c.add_fields.new.seen.keys
-    c.add_if_any.new.seen.keys c.in-Some.ensures refl c.referent.ensures c.in_ok-add_fields.ensures
+    c.in-Some.object.fields.now (if_any c.referent.result) c.args.seen.now c.add_fields.new.seen
+    c.add_if_any.new.seen c.in-Some.ensures refl c.referent.ensures c.in_ok-add_fields.ensures
     c.in_ok-add_if_any.ensures

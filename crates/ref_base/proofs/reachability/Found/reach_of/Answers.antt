@@ -5,23 +5,23 @@ use Rattle.ref_base.proofs.reachability.Found.reach_of.Goals as goal
 
 pub returns-in-Some : goal.returns-in-Some
 returns-in-Some g c =
-    search (found-strong c.args.self.now.reached.keys c.args.self.now.hung.keys c.args.self.now.strong
-    c.args.self.now.soft c.args.no c.in-Some.place c.in-Some.ensures.index)
+    search (found-strong c.args.self.now.reached c.args.self.now.hung c.args.self.now.strong
+    c.args.self.now.soft c.args.no c.in-Some.place c.in-Some.ensures.place)
 
 pub returns-in-Some-2 : goal.returns-in-Some-2
 returns-in-Some-2 g c =
     grind (
       arith,
-      found-soft c.args.self.now.reached.keys c.args.self.now.hung.keys c.args.self.now.strong c.args.self.now.soft
-          c.args.no c.in-Some-2.place c.in-Some-2.ensures.index,
+      found-soft c.args.self.now.reached c.args.self.now.hung c.args.self.now.strong c.args.self.now.soft
+          c.args.no c.in-Some-2.place c.in-Some-2.ensures.place,
     )
 
 pub returns-in-Some-3 : goal.returns-in-Some-3
 returns-in-Some-3 g c =
     grind (
       arith,
-      found-weak c.args.self.now.reached.keys c.args.self.now.hung.keys c.args.self.now.strong c.args.self.now.soft
-          c.args.no c.in-Some-2.place c.in-Some-2.ensures.index,
+      found-weak c.args.self.now.reached c.args.self.now.hung c.args.self.now.strong c.args.self.now.soft
+          c.args.no c.in-Some-2.place c.in-Some-2.ensures.place,
     )
 
 pub returns-in-None : goal.returns-in-None

@@ -11,24 +11,24 @@ go_on-requires g c =
 
 pub go_on-requires-2 : goal.go_on-requires-2
 go_on-requires-2 g c =
-    rw c.len-self.ensures.len
+    rw c.len-self.ensures.count
     (searched_from_reached no_referents soft_referents (λ r none. absurd (false≢true none)) c.args.graph.now
-    c.go_on.new.seen.keys c.in_ok-go_on.ensures.reached)
+    c.go_on.new.seen c.in_ok-go_on.ensures.reached)
 
 pub go_on-requires-3 : goal.go_on-requires-3
 go_on-requires-3 g c =
-    rw c.len-self-2.ensures.len
+    rw c.len-self-2.ensures.count
     (searched_from_reached soft_referents soft_and_weak_referents (λ r soft. simp soft refl) c.args.graph.now
-    c.go_on-2.new.seen.keys c.in_ok-go_on-2.ensures.reached)
+    c.go_on-2.new.seen c.in_ok-go_on-2.ensures.reached)
 
 pub returns : goal.returns
 returns g c =
     let os = c.args.graph.now.objects in
     on_ok_weaker c.add_hung.result
-    (λ hung. rw (c.len-self.ensures.len, c.len-self-2.ensures.len)
-    (AreFound_fronts c.args.graph.now c.go_on.new.seen.keys c.go_on-2.new.seen.keys c.go_on-3.new.seen.keys
-    c.add_hung.new.hung.keys c.in_ok-go_on.ensures.reached c.in_ok-go_on-2.ensures.reached
+    (λ hung. rw (c.len-self.ensures.count, c.len-self-2.ensures.count)
+    (AreFound_fronts c.args.graph.now c.go_on.new.seen c.go_on-2.new.seen c.go_on-3.new.seen
+    c.add_hung.new.hung c.in_ok-go_on.ensures.reached c.in_ok-go_on-2.ensures.reached
     c.in_ok-go_on-3.ensures.reached c.in_ok-go_on-2.ensures.kept c.in_ok-go_on-3.ensures.kept
     (hung ∙ ap (λ ns. added_all os ns (phantom_referents os c.as_slice.result.now)) c.requires.1
-    ∙ ap (λ ns. added_all os [] (phantom_referents os ns)) c.as_slice.ensures.keys)))
+    ∙ ap (λ ns. added_all os [] (phantom_referents os ns)) c.as_slice.ensures.numbers)))
     c.add_hung.ensures
