@@ -1,6 +1,6 @@
 -- Where a number stands in a list, and how table and map tell it before one more comes and after.
-use Rattle.std.proofs.Common.{◌≡◌, ℕ, ◌+◌, ◌<◌, ◌≤◌, true, false, nat_eq, nat_lt, refl, sym, ap, ◌∙◌, arith, cond, inl, inr}
-use Rattle.std.proofs.Common.{List, [], ◌∷◌, ◌++◌, length, not, Option, Some, None, is_some, get_or, set, position}
+use Rattle.std.proofs.Common.{◌≡◌, ℕ, ◌+◌, ◌<◌, ◌≤◌, false, nat_eq, nat_lt, refl, sym, ap, ◌∙◌, arith, cond, inl, inr}
+use Rattle.std.proofs.Common.{List, [], ◌∷◌, ◌++◌, length, not, Some, is_some, get_or, set, position}
 use Rattle.std.proofs.lemmas.Bool.{cases_Bool, eqb-true, eqb-false}
 use Rattle.std.proofs.lemmas.List.{get_or-set_same, get_or-set_other, length-append}
 use Rattle.std.proofs.lemmas.List.Folds.{position_or_len_push}
@@ -11,7 +11,7 @@ use Rattle.std.specs.List.{position_or_len}
 use Rattle.std.specs.Map.{lookup}
 use Rattle.ref_base.specs.Members.{has}
 use Rattle.ref_base.proofs.HasLaws.{has-list_any}
-use Rattle.ref_base.specs.NumberPlaces.{first_far, place_before, told_place, TellsPlaces}
+use Rattle.ref_base.specs.NumberPlaces.{first_far, told_place, TellsPlaces}
 
 -- the first place of a number is among all places just where it stands in the list
 first_within : (ns : List ℕ) (n : ℕ) → nat_lt (position_or_len (nat_eq n) ns) (length ns) ≡ has ns n
@@ -33,7 +33,6 @@ position-push ns n m is_new =
       prefix_len-le-length (λ k. not (nat_eq m k)) ns,
       length-append,
     )
-
 
 module _ {near : List ℕ} {far : List (ℕ × ℕ)} {ns : List ℕ} (tells : TellsPlaces near far ns) (n : ℕ)
     (is_new : has ns n ≡ false) where

@@ -122,7 +122,8 @@ impl<B: Allocator + Copy> Found<B> {
 /// strong, soft and weak steps, and that what lies behind such a referent isn't by that.
 ///
 /// `NoSuchObject` exactly where there is no such object, which takes no memory to tell; else `NoMemory` where a growth
-/// is refused. In expected time of the number of objects, fields and roots.
+/// is refused. In expected time of the number of objects, fields and roots, and of the objects' greatest number below
+/// 2 ^ 20.
 pub fn strength_of<A: Allocator + Copy, B: Allocator + Copy>(
     alloc: B,
     graph: &Graph<A>,
@@ -140,8 +141,8 @@ pub fn strength_of<A: Allocator + Copy, B: Allocator + Copy>(
     }
 }
 
-/// How strongly each object is reachable, by number. The one error is `NoMemory`. All of them in expected time of the
-/// number of objects, fields and roots, times a logarithm for look-ups: three searches serve them all.
+/// How strongly each object is reachable, by number. The one error is `NoMemory`. All of them in the time of one
+/// (`strength_of`), and of putting the numbers in order where they were not added so: three searches serve them all.
 pub fn strengths<A: Allocator + Copy, B: Allocator + Copy>(
     alloc: B,
     graph: &Graph<A>,

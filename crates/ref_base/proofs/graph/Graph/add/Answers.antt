@@ -41,14 +41,15 @@ invariant_of-self-2 g c =
     let same : length ns ≡ length ss = grind arith in
     let numbers : c.insert.new.self ≡ ns ++ c.args.no ∷ [] = grind arith in
     let stored : c.push_reserved.new.self.items ≡ ss ++ s ∷ [] = grind arith in
-    rw (numbers, stored, zip-push ns ss c.args.no s same)
-    (grind (arith, length-append),
-    grind (
-      arith,
-      length-append,
-      within-added (length c.self.inside.fields.items) (length c.extend_from_slice.new.self.items) (zip ns ss)
-          (c.args.no, s),
-    ))
+    rw (numbers, stored, zip-push ns ss c.args.no s same) (
+      grind (arith, length-append),
+      grind (
+        arith,
+        length-append,
+        within-added (length c.self.inside.fields.items) (length c.extend_from_slice.new.self.items) (zip ns ss)
+            (c.args.no, s),
+      ),
+    )
 
 pub returns-clause-answer : goal.returns-clause-answer
 returns-clause-answer g c =
