@@ -4,15 +4,10 @@ use Rattle.ref_base.proofs.Common.{[], ◌∷◌, ◌++◌, Option, Some, None, 
 use Rattle.ref_base.proofs.Common.{false≢true, eq-eqb, eqb-true, ltb-true, ne_eqb, or_cases, nat_eq_equiv, lookup}
 use Rattle.ref_base.proofs.Common.{Object, object_at, is_there, with_object, numbers, stored_object, has, IsRising}
 use Rattle.std.proofs.lemmas.Bool.{ltb-false}
-use Rattle.std.proofs.lemmas.List.Sorted.{IsNonDecreasingBy-from_sort, list_any-IsPermutation}
-use Rattle.std.proofs.lemmas.Map.Keys.{IsDistinct-IsPermutation, IsStrictlyIncreasing-from_distinct}
-use Rattle.std.specs.List.{IsDistinct}
-use Rattle.std.specs.List.Sorted.{IsPermutation, IsSorted, IsStrictlyIncreasing}
-use Rattle.std.specs.Map.{keys_of}
+use Rattle.std.specs.List.Sorted.{IsStrictlyIncreasing}
 use Rattle.std.specs.Option.{option_map}
-use Rattle.std.specs.Ordering.{nat_cmp}
 use Rattle.ref_base.specs.GraphViews.{Held, objects_in, placed}
-use Rattle.ref_base.proofs.HasLaws.{has-first, has-list_any}
+use Rattle.ref_base.proofs.HasLaws.{has-first}
 use native.Mathlib.Numerals.{unary_clauses}
 
 -- ---- lists of numbers that rise
@@ -219,21 +214,3 @@ placed-last os (d ∷ es) e = placed-last (with_object os (stored_object d)) es 
 pub stored-last : (es : List (ℕ × Held)) (e : ℕ × Held)
     → objects_in (es ++ e ∷ []) ≡ with_object (objects_in es) (stored_object e)
 stored-last es e = placed-last [] es e
-
--- ---- the numbers by size
-
-lookup-keys : (es : List (ℕ × Held)) (n : ℕ) → is_some (lookup (nat_eq n) es) ≡ has (keys_of es) n
-lookup-keys [] n = refl
-lookup-keys (e ∷ es) n = grind (arith, lookup-keys es n)
-
--- the map's numbers, sorted, are those of the objects
-pub numbers_from_sorted : (es : List (ℕ × Held)) (ns : List ℕ) → IsDistinct nat_eq (keys_of es)
-    → IsPermutation (keys_of es) ns → IsSorted nat_cmp ns → ns ≡ numbers (objects_in es)
-numbers_from_sorted es ns distinct moved sorted =
-    let apart = IsDistinct-IsPermutation nat_eq nat_eq_equiv.symm (keys_of es) ns moved distinct in
-    let rising = rising_from_increasing ns
-    (IsStrictlyIncreasing-from_distinct ns (IsNonDecreasingBy-from_sort (λ n. n) ns sorted) apart) in
-    rising-same ns (numbers (objects_in es)) rising (rising-objects_in es)
-    (λ n. has-list_any ns n ∙ sym (list_any-IsPermutation (nat_eq n) (keys_of es) ns moved)
-    ∙ sym (has-list_any (keys_of es) n) ∙ sym (lookup-keys es n) ∙ is_there-objects_in es n
-    ∙ is_there-has (objects_in es) n)

@@ -2,28 +2,21 @@
 use Rattle.ref_base.proofs.Common.{◌≡◌, ℕ, ◌+◌, ◌≤◌, Bool, nat_eq, refl, sym, ap, ◌∙◌, arith, List, [], ◌∷◌}
 use Rattle.ref_base.proofs.Common.{◌++◌, Option, Some, None, is_some, length, take, drop, lookup, object_at, is_there}
 use Rattle.ref_base.proofs.Common.{numbers, with_object, stored_object, map-append, cases_Bool, inl, inr, has, get_or}
-use Rattle.ref_base.proofs.Common.{position, zero, suc}
+use Rattle.ref_base.proofs.Common.{position, zero, suc, IsRising}
 use Rattle.std.proofs.lemmas.List.{take-append-le, drop-append-le, drop_at, take_all, length-drop}
-use Rattle.std.specs.List.{IsDistinct, zip}
-use Rattle.std.specs.List.Sorted.{IsPermutation, IsSorted}
-use Rattle.std.specs.Map.{keys_of}
+use Rattle.std.specs.List.{zip}
 use Rattle.std.specs.Option.{option_map}
-use Rattle.std.specs.Ordering.{nat_cmp}
 use Rattle.ref_base.specs.GraphViews.{HaveFieldsWithin, held_at, held_in, linked_reference, objects_in}
 use Rattle.ref_base.specs.declared.stored.Stored.{Stored}
 use Rattle.ref_base.proofs.NumberPlaceLemmas.{is_some-position}
-use Rattle.ref_base.proofs.StoreLaws.{is_some-option_map, is_there-objects_in, numbers_from_sorted}
-use Rattle.ref_base.proofs.StoreLaws.{object_at-objects_in, stored-last}
+use Rattle.ref_base.proofs.StoreLaws.{is_some-option_map, is_there-has, is_there-objects_in}
+use Rattle.ref_base.proofs.StoreLaws.{object_at-objects_in, rising-objects_in, rising-same, stored-last}
 
 lookup-held_in : (all : List (Option ℕ)) (test : ℕ → Bool) (es : List (ℕ × Stored))
     → lookup test (held_in all es) ≡ option_map (held_at all) (lookup test es)
 lookup-held_in all test [] = refl
 lookup-held_in all test (e ∷ es) =
     elim (cases_Bool (test e.0)) [ inl is ↦ simp is refl | inr other ↦ simp other (lookup-held_in all test es) ]
-
-keys_of-held_in : (all : List (Option ℕ)) (es : List (ℕ × Stored)) → keys_of (held_in all es) ≡ keys_of es
-keys_of-held_in all [] = refl
-keys_of-held_in all (e ∷ es) = ap (λ ns. e.0 ∷ ns) (keys_of-held_in all es)
 
 -- ---- look-ups
 
@@ -134,17 +127,13 @@ zip-push [] (t ∷ ss) n s same = grind arith
 zip-push (m ∷ ns) [] n s same = grind arith
 zip-push (m ∷ ns) (t ∷ ss) n s same = ap (λ es. (m, t) ∷ es) (zip-push ns ss n s (omega (arith, same)))
 
-pub keys_of-zip : (ns : List ℕ) (ss : List Stored) → length ns ≡ length ss → keys_of (zip ns ss) ≡ ns
-keys_of-zip [] ss same = refl
-keys_of-zip (m ∷ ns) [] same = grind arith
-keys_of-zip (m ∷ ns) (s ∷ ss) same = ap (λ ks. m ∷ ks) (keys_of-zip ns ss (omega (arith, same)))
-
 -- ---- the numbers by size
 
--- the numbers, sorted, are those of the objects
-pub numbers_from_stored : (all : List (Option ℕ)) (ms : List ℕ) (ss : List Stored) (ns : List ℕ)
-    → length ms ≡ length ss → IsDistinct nat_eq ms → IsPermutation ms ns → IsSorted nat_cmp ns
+-- the numbers, where they rise, are those of the objects
+pub numbers_from_rising : (all : List (Option ℕ)) (ms : List ℕ) (ss : List Stored) (ns : List ℕ)
+    → length ms ≡ length ss → IsRising ns → ((n : ℕ) → has ns n ≡ has ms n)
     → ns ≡ numbers (objects_in (held_in all (zip ms ss)))
-numbers_from_stored all ms ss ns same distinct moved sorted =
-    let keys : keys_of (held_in all (zip ms ss)) ≡ ms = keys_of-held_in all (zip ms ss) ∙ keys_of-zip ms ss same in
-    numbers_from_sorted (held_in all (zip ms ss)) ns (rw keys distinct) (rw keys moved) sorted
+numbers_from_rising all ms ss ns same rising came =
+    let es = held_in all (zip ms ss) in
+    rising-same ns (numbers (objects_in es)) rising (rising-objects_in es)
+    (λ n. came n ∙ is_there-zip all ms ss n same ∙ is_there-has (objects_in es) n)

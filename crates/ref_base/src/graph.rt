@@ -161,14 +161,12 @@ impl<A: Allocator + Copy> Graph<A> {
         self.roots.as_slice()
     }
 
-    /// The numbers of the objects, which rise. In time of their number where they were added so, and else times a
-    /// logarithm.
-    pub(crate) fn numbers<B: Allocator>(&self, alloc: B) -> Result<Vec<ObjNo, B>, AllocError>
+    /// The numbers of the objects, which rise. In time of how many they are and of the greatest below 2 ^ 20; the
+    /// greater ones take a logarithm each.
+    pub(crate) fn numbers<B: Allocator + Copy>(&self, alloc: B) -> Result<Vec<ObjNo, B>, AllocError>
         ensures all { IfOk result (λ listed. listed.items ≡ numbers self.now.objects) }
         ensures sorted { IsRising (numbers self.now.objects) }
     {
-        let mut listed: Vec<ObjNo, B> = self.numbers.as_slice().iter().copied().collect(alloc)?;
-        listed.sort_unstable();
-        Ok(listed)
+        self.numbers.by_size(alloc)
     }
 }

@@ -1,9 +1,11 @@
 //! Numbers of objects in the order in which they came.
 
-ghost use Rattle.std.specs.Prelude.{◌≡◌, ◌+◌, ◌<◌, ◌≤◌, ◌^◌, ◌∷◌, ◌++◌, [], false, not, if◌then◌else◌, nat_eq, length, is_some};
-ghost use Rattle.std.specs.Prelude.{ℕ, IfOk, IfSome, OnOk, OnErr, position, get_or};
+ghost use Rattle.std.specs.Prelude.{◌≡◌, ◌+◌, ◌<◌, ◌≤◌, ◌^◌, ◌∷◌, ◌++◌, [], false, not, if◌then◌else◌, nat_eq};
+ghost use Rattle.std.specs.Prelude.{length, is_some};
+ghost use Rattle.std.specs.Prelude.{ℕ, true, nat_lt, IfOk, IfSome, OnOk, OnErr, position, get_or};
 ghost use Rattle.std.specs.List.{IsDistinct};
 ghost use Rattle.ref_base.specs.Members.{has};
+ghost use Rattle.ref_base.specs.Strengths.{IsRising};
 ghost use Rattle.ref_base.specs.NumberPlaces.{first_far, place_before};
 
 use crate::ObjNo;
@@ -127,6 +129,19 @@ impl<A: Allocator + Copy> NumberList<A> {
         Ok(true)
     }
 
+    /// All that came, by size. In time of how many they are, and of the greatest near one, and for the far ones times a
+    /// logarithm.
+    pub(crate) fn by_size<B: Allocator + Copy>(&self, alloc: B) -> Result<Vec<ObjNo, B>, AllocError>
+        ensures rising { IfOk result (λ listed. IsRising listed.items) }
+        ensures same { IfOk result (λ listed. (n : ℕ) → has listed.items n ≡ has self.now n) }
+    {
+        let near = self.near.as_slice();
+        let mut listed = near_numbers(alloc, &near[..near.len().min(NEAR as usize)])?;
+        let far = far_numbers(alloc, self.as_slice())?;
+        listed.extend_from_slice(far.as_slice())?;
+        Ok(listed)
+    }
+
     // A near number comes that is new; with it there are `next` of them.
     #[inline(always)]
     fn push_near(&mut self, no: ObjNo, next: u32) -> Result<(), AllocError>
@@ -156,6 +171,40 @@ impl<A: Allocator + Copy> NumberList<A> {
         self.in_order.push_reserved(no);
         Ok(())
     }
+}
+
+// The near numbers that came, which rise.
+fn near_numbers<B: Allocator>(alloc: B, near: &[u32]) -> Result<Vec<ObjNo, B>, AllocError>
+    requires { length near.now ≤ first_far }
+    ensures rising { IfOk result (λ listed. IsRising listed.items) }
+    ensures came { IfOk result (λ listed. (n : ℕ) → has listed.items n ≡ is_some (place_before (get_or near.now n 0))) }
+{
+    let mut listed: Vec<ObjNo, B> = Vec::new(alloc);
+    let mut number = 0u32;
+    for entry in near {
+        if *entry > 0 {
+            listed.push(ObjNo(number))?;
+        }
+        number += 1;
+    }
+    Ok(listed)
+}
+
+// The far ones of these numbers, which rise.
+fn far_numbers<B: Allocator>(alloc: B, numbers: &[ObjNo]) -> Result<Vec<ObjNo, B>, AllocError>
+    requires { IsDistinct nat_eq numbers.now }
+    ensures rising { IfOk result (λ listed. IsRising listed.items) }
+    ensures came { IfOk result (λ listed. (n : ℕ) → has listed.items n
+        ≡ (if nat_lt n first_far then false else has numbers.now n)) }
+{
+    let mut listed: Vec<ObjNo, B> = Vec::new(alloc);
+    for no in numbers {
+        if no.0 >= NEAR {
+            listed.push(*no)?;
+        }
+    }
+    listed.sort_unstable();
+    Ok(listed)
 }
 
 // A number's entry in the table, 0 where that doesn't reach it.

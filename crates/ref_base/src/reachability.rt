@@ -142,7 +142,7 @@ pub fn strength_of<A: Allocator + Copy, B: Allocator + Copy>(
 }
 
 /// How strongly each object is reachable, by number. The one error is `NoMemory`. All of them in the time of one
-/// (`strength_of`), and of putting the numbers in order where they were not added so: three searches serve them all.
+/// (`strength_of`), and of sorting the numbers from 2 ^ 20 on: three searches serve them all.
 pub fn strengths<A: Allocator + Copy, B: Allocator + Copy>(
     alloc: B,
     graph: &Graph<A>,

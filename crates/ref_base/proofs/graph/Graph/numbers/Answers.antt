@@ -1,22 +1,13 @@
 use Rattle.ref_base.proofs.Common.{arith}
 use Rattle.std.specs.List.{zip}
 use Rattle.ref_base.proofs.StoreLaws.{rising-objects_in}
-use Rattle.ref_base.proofs.StoredFields.{numbers_from_stored}
+use Rattle.ref_base.proofs.StoredFields.{numbers_from_rising}
 use Rattle.ref_base.specs.GraphViews.{held_in}
 use Rattle.ref_base.proofs.graph.Graph.numbers.Goals as goal
 
-pub returns-in_err-listed-clause-sorted : goal.returns-in_err-listed-clause-sorted
-returns-in_err-listed-clause-sorted g c =
-    rw (← c.self.view_is)
-    (rising-objects_in (held_in c.self.inside.fields.items (zip c.self.inside.numbers c.self.inside.stored.items)))
-
 pub returns-clause-all : goal.returns-clause-all
 returns-clause-all g c =
-    grind (
-      arith,
-      numbers_from_stored c.self.inside.fields.items c.self.inside.numbers c.self.inside.stored.items
-          c.sort_unstable.new.self.items,
-    )
+    grind (arith, numbers_from_rising c.self.inside.fields.items c.self.inside.numbers c.self.inside.stored.items)
 
 pub returns-clause-sorted : goal.returns-clause-sorted
 returns-clause-sorted g c =
