@@ -7,7 +7,7 @@ ghost use Rattle.refrun.specs.DeclarationFaults.{is_object, is_object_or_none, w
 ghost use Rattle.refrun.specs.DeclarationViews.{declared_by, ReadsFields, IsBadField};
 ghost use Rattle.refrun.specs.Lines.{words_of};
 
-use crate::lines::next_word;
+use crate::lines::{is_name, next_word};
 use crate::numerals::short_number;
 use crate::operands::{ends, operand};
 use arrayvec::ArrayVec;
@@ -44,19 +44,19 @@ pub fn declaration_of(line: &[u8]) -> Result<Declaration, LineFault>
     ensures fault { IfErr result (λ fault. declaration_fault (words_of line.now) ≡ Some fault) }
 {
     let (name, operands) = next_word(line).ok_or(LineFault::UnknownLine)?;
-    if name == b"root".as_slice() {
+    if is_name(name, b"root") {
         return root_of(operands);
     }
-    if name == b"plain".as_slice() {
+    if is_name(name, b"plain") {
         return plain_of(operands);
     }
-    if name == b"soft".as_slice() {
+    if is_name(name, b"soft") {
         return reference_of(Strength::Soft, operands);
     }
-    if name == b"weak".as_slice() {
+    if is_name(name, b"weak") {
         return reference_of(Strength::Weak, operands);
     }
-    if name == b"phantom".as_slice() {
+    if is_name(name, b"phantom") {
         return reference_of(Strength::Phantom, operands);
     }
     Err(LineFault::UnknownLine)

@@ -1,6 +1,7 @@
 //! Lines and words, as slices of the text.
 
-ghost use Rattle.std.specs.Prelude.{◌≡◌, ◌<◌, ◌≤◌, ◌==◌, not, [], ◌∷◌, length, IfSome, MatchOption};
+ghost use Rattle.std.specs.Prelude.{◌≡◌, ◌<◌, ◌≤◌, ◌==◌, not, nat_eq, [], ◌∷◌, length, IfSome, MatchOption};
+ghost use Rattle.std.specs.Cmp.Lexicographic.{pointwise};
 ghost use Rattle.std.specs.List.{prefix_len};
 ghost use Rattle.refrun.specs.LineViews.{line_of};
 ghost use Rattle.refrun.specs.Lines.{lines_of, content_of, words_of};
@@ -112,4 +113,12 @@ pub fn next_word(line: &[u8]) -> Option<(&[u8], &[u8])>
         return None;
     }
     Some(line.split_at(length_before(line, b' ')))
+}
+
+/// Whether a word is this name. Most names are of another length, which is looked at where this is called.
+#[inline(always)]
+pub fn is_name(word: &[u8], name: &'static [u8]) -> bool
+    ensures { result ≡ pointwise nat_eq word.now name.now }
+{
+    word.len() == name.len() && word == name
 }

@@ -12,7 +12,7 @@ ghost use Rattle.refrun.specs.StepForms.{operands_in, forms_of_letter, job_forms
 ghost use Rattle.refrun.specs.StepForms.{reference_forms, notice_forms, batch_forms, worker_forms, hands_forms};
 ghost use Rattle.refrun.specs.StepForms.{turn_forms, Slot, QueueOrNone, Number};
 
-use crate::lines::next_word;
+use crate::lines::{is_name, next_word};
 use crate::operands::Operands;
 use crate::script_step::ScriptStep;
 use ref_base::{Actor, MutNo, PlainStep, Step, Strength, WorkerNo};
@@ -67,14 +67,14 @@ fn job_step(by: MutNo, name: &[u8], operands: &mut Operands<'_>) -> Option<Scrip
     ensures { IsReadAs script_step_words (job_forms ++ mutator_forms) (mutator by) name.now operands.old
         operands.new result }
 {
-    if name == b"job".as_slice() {
+    if is_name(name, b"job") {
         return Some(ScriptStep::Job {
             mutator: by,
             slot: operands.slot(),
             number: operands.number(),
         });
     }
-    if name == b"run".as_slice() {
+    if is_name(name, b"run") {
         return Some(ScriptStep::Run {
             mutator: by,
             slot: operands.slot(),
@@ -87,20 +87,20 @@ fn job_step(by: MutNo, name: &[u8], operands: &mut Operands<'_>) -> Option<Scrip
 fn making_step(by: MutNo, name: &[u8], operands: &mut Operands<'_>) -> Option<Step>
     ensures { IsReadAs step_words mutator_forms (mutator by) name.now operands.old operands.new result }
 {
-    if name == b"new".as_slice() {
+    if is_name(name, b"new") {
         return Some(Step::Plain(PlainStep::New {
             mutator: by,
             slot: operands.slot(),
             fields: operands.number(),
         }));
     }
-    if name == b"soft".as_slice() {
+    if is_name(name, b"soft") {
         return Some(refer(by, Strength::Soft, operands));
     }
-    if name == b"weak".as_slice() {
+    if is_name(name, b"weak") {
         return Some(refer(by, Strength::Weak, operands));
     }
-    if name == b"phantom".as_slice() {
+    if is_name(name, b"phantom") {
         return Some(refer(by, Strength::Phantom, operands));
     }
     slot_step(by, name, operands)
@@ -126,7 +126,7 @@ fn slot_step(by: MutNo, name: &[u8], operands: &mut Operands<'_>) -> Option<Step
     ensures { IsReadAs step_words (slot_forms ++ reference_forms ++ notice_forms ++ batch_forms) (mutator by) name.now
         operands.old operands.new result }
 {
-    if name == b"store".as_slice() {
+    if is_name(name, b"store") {
         return Some(Step::Plain(PlainStep::Store {
             mutator: by,
             object: operands.slot(),
@@ -134,7 +134,7 @@ fn slot_step(by: MutNo, name: &[u8], operands: &mut Operands<'_>) -> Option<Step
             value: operands.slot(),
         }));
     }
-    if name == b"load".as_slice() {
+    if is_name(name, b"load") {
         return Some(Step::Plain(PlainStep::Load {
             mutator: by,
             slot: operands.slot(),
@@ -142,14 +142,14 @@ fn slot_step(by: MutNo, name: &[u8], operands: &mut Operands<'_>) -> Option<Step
             field: operands.number(),
         }));
     }
-    if name == b"copy".as_slice() {
+    if is_name(name, b"copy") {
         return Some(Step::Plain(PlainStep::Copy {
             mutator: by,
             slot: operands.slot(),
             source: operands.slot(),
         }));
     }
-    if name == b"drop".as_slice() {
+    if is_name(name, b"drop") {
         return Some(Step::Plain(PlainStep::Drop {
             mutator: by,
             slot: operands.slot(),
@@ -163,27 +163,27 @@ fn reference_step(by: MutNo, name: &[u8], operands: &mut Operands<'_>) -> Option
     ensures { IsReadAs step_words (reference_forms ++ notice_forms ++ batch_forms) (mutator by) name.now operands.old
         operands.new result }
 {
-    if name == b"get".as_slice() {
+    if is_name(name, b"get") {
         return Some(Step::Plain(PlainStep::Get {
             mutator: by,
             slot: operands.slot(),
             reference: operands.slot(),
         }));
     }
-    if name == b"clear".as_slice() {
+    if is_name(name, b"clear") {
         return Some(Step::Plain(PlainStep::Clear {
             mutator: by,
             reference: operands.slot(),
         }));
     }
-    if name == b"refers".as_slice() {
+    if is_name(name, b"refers") {
         return Some(Step::Plain(PlainStep::RefersTo {
             mutator: by,
             reference: operands.slot(),
             other: operands.slot(),
         }));
     }
-    if name == b"unhook".as_slice() {
+    if is_name(name, b"unhook") {
         return Some(Step::Unhook {
             mutator: by,
             reference: operands.slot(),
@@ -196,29 +196,29 @@ fn reference_step(by: MutNo, name: &[u8], operands: &mut Operands<'_>) -> Option
 fn notice_step(by: MutNo, name: &[u8], operands: &mut Operands<'_>) -> Option<Step>
     ensures { IsReadAs step_words (notice_forms ++ batch_forms) (mutator by) name.now operands.old operands.new result }
 {
-    if name == b"put".as_slice() {
+    if is_name(name, b"put") {
         return Some(Step::Put {
             actor: Actor::Mutator(by),
         });
     }
-    if name == b"poll".as_slice() {
+    if is_name(name, b"poll") {
         return Some(Step::Poll {
             mutator: by,
             queue: operands.queue(),
         });
     }
-    if name == b"adopt".as_slice() {
+    if is_name(name, b"adopt") {
         return Some(Step::Adopt {
             mutator: by,
             slot: operands.slot(),
         });
     }
-    if name == b"release".as_slice() {
+    if is_name(name, b"release") {
         return Some(Step::Release {
             actor: Actor::Mutator(by),
         });
     }
-    if name == b"close".as_slice() {
+    if is_name(name, b"close") {
         return Some(Step::Close {
             mutator: by,
             queue: operands.queue(),
@@ -231,12 +231,12 @@ fn notice_step(by: MutNo, name: &[u8], operands: &mut Operands<'_>) -> Option<St
 fn batch_step(by: MutNo, name: &[u8], operands: &mut Operands<'_>) -> Option<Step>
     ensures { IsReadAs step_words batch_forms (mutator by) name.now operands.old operands.new result }
 {
-    if name == b"puts".as_slice() {
+    if is_name(name, b"puts") {
         return Some(Step::Puts {
             actor: Actor::Mutator(by),
         });
     }
-    if name == b"polls".as_slice() {
+    if is_name(name, b"polls") {
         return Some(Step::Polls {
             mutator: by,
             queue: operands.queue(),
@@ -250,32 +250,32 @@ fn batch_step(by: MutNo, name: &[u8], operands: &mut Operands<'_>) -> Option<Ste
 fn worker_step(by: WorkerNo, name: &[u8], operands: &mut Operands<'_>) -> Option<Step>
     ensures { IsReadAs step_words worker_forms (worker by) name.now operands.old operands.new result }
 {
-    if name == b"scan".as_slice() {
+    if is_name(name, b"scan") {
         return Some(Step::Plain(PlainStep::Scan { worker: by }));
     }
-    if name == b"clearnext".as_slice() {
+    if is_name(name, b"clearnext") {
         return Some(Step::Plain(PlainStep::ClearNext { worker: by }));
     }
-    if name == b"hand".as_slice() {
+    if is_name(name, b"hand") {
         return Some(Step::Hand { worker: by });
     }
-    if name == b"sweep".as_slice() {
+    if is_name(name, b"sweep") {
         return Some(Step::Plain(PlainStep::Sweep { worker: by }));
     }
-    if name == b"move".as_slice() {
+    if is_name(name, b"move") {
         return Some(Step::Plain(PlainStep::MoveNext { worker: by }));
     }
-    if name == b"put".as_slice() {
+    if is_name(name, b"put") {
         return Some(Step::Put {
             actor: Actor::Worker(by),
         });
     }
-    if name == b"puts".as_slice() {
+    if is_name(name, b"puts") {
         return Some(Step::Puts {
             actor: Actor::Worker(by),
         });
     }
-    if name == b"release".as_slice() {
+    if is_name(name, b"release") {
         return Some(Step::Release {
             actor: Actor::Worker(by),
         });
@@ -287,7 +287,7 @@ fn worker_step(by: WorkerNo, name: &[u8], operands: &mut Operands<'_>) -> Option
 fn hands_step(by: WorkerNo, name: &[u8], operands: &mut Operands<'_>) -> Option<Step>
     ensures { IsReadAs step_words hands_forms (worker by) name.now operands.old operands.new result }
 {
-    if name == b"hands".as_slice() {
+    if is_name(name, b"hands") {
         return Some(Step::Hands {
             worker: by,
             max: operands.number(),
@@ -302,25 +302,25 @@ fn turn(name: &[u8], operands: &mut Operands<'_>) -> Option<Step>
         (λ step. IsReadNamed (operands_in turn_forms name.now) name.now (reading operands.old)
         (reading operands.new) (step_words step)) }
 {
-    if name == b"begin".as_slice() {
+    if is_name(name, b"begin") {
         return Some(Step::Plain(PlainStep::Begin {
             now: operands.clock(),
             urgency: operands.urgency(),
         }));
     }
-    if name == b"endmark".as_slice() {
+    if is_name(name, b"endmark") {
         return Some(Step::Plain(PlainStep::EndMark));
     }
-    if name == b"endclear".as_slice() {
+    if is_name(name, b"endclear") {
         return Some(Step::Plain(PlainStep::EndClear));
     }
-    if name == b"endsweep".as_slice() {
+    if is_name(name, b"endsweep") {
         return Some(Step::Plain(PlainStep::EndSweep));
     }
-    if name == b"select".as_slice() {
+    if is_name(name, b"select") {
         return Some(Step::Plain(PlainStep::Select));
     }
-    if name == b"endmove".as_slice() {
+    if is_name(name, b"endmove") {
         return Some(Step::Plain(PlainStep::EndMove));
     }
     None
