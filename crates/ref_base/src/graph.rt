@@ -15,9 +15,9 @@ use std::marker::Model;
 
 /// An object graph: objects, what they refer to, and roots, the numbers that a program reaches by itself (package
 /// `java.lang.ref` of Java SE 17). That objects have numbers and at most 8 fields is this project's profile. All its
-/// memory is of the allocator that it was made with: 28 bytes for each object, 8 for each field, and for the numbers of
-/// objects, and for those of roots, 4 bytes for each number up to their greatest below 2 ^ 20, and a place in a hash
-/// table for each one that is greater.
+/// memory is of the allocator that it was made with: 28 bytes for each object, 8 for each field, 4 for each root, and
+/// for the numbers of objects, and for those of roots, 4 bytes for each number up to their greatest below 2 ^ 20, and a
+/// place in a hash table for each from there on. A list that grows has room for up to twice as many.
 #[derive(Drop)]
 pub struct Graph<A: Allocator = Global> {
     // In the order in which they were added: a search looks each up by number, and only a listing sorts them.
@@ -63,7 +63,8 @@ impl<A: Allocator + Copy> Graph<A> {
     /// Tried in this order: `BadField` where there are more than 8 fields, false where the number is there, `NoMemory`
     /// where a growth is refused, or where the objects that are there have 2 ^ 32 fields or more. In each of these
     /// nothing has changed, though room that was made for the fields is kept where a further growth is refused. False
-    /// and `BadField` take no memory. In expected constant time, amortized.
+    /// and `BadField` take no memory. In expected constant time, amortized, and in time of how far its number, where it
+    /// is below 2 ^ 20, is above all of those before.
     pub fn add_object(&mut self, no: ObjNo, fields: &[Option<ObjNo>]) -> Result<bool, Fault>
         ensures answer { AnswersObject self.old (plain_object no fields.now) result }
         ensures after { self.new ≡ after_object self.old (plain_object no fields.now) result }
@@ -123,7 +124,7 @@ impl<A: Allocator + Copy> Graph<A> {
 
     /// Makes a number a root. True where it was none. It needn't be an object's: while there is no such object, no path
     /// begins there. The one error is `NoMemory`, where a growth is refused: then nothing has changed, and it was no
-    /// root. In expected constant time, amortized.
+    /// root. In the time of `add_object`.
     pub fn add_root(&mut self, no: ObjNo) -> Result<bool, Fault>
         ensures answer { AnswersRoot self.old no result }
         ensures after { self.new ≡ after_root self.old no result }
