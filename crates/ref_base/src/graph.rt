@@ -61,10 +61,10 @@ impl<A: Allocator + Copy> Graph<A> {
     /// later: while it isn't there, no path goes on to it.
     ///
     /// Tried in this order: `BadField` where there are more than 8 fields, false where the number is there, `NoMemory`
-    /// where a growth is refused, or where the objects that are there have 2 ^ 32 fields or more. In each of these
-    /// nothing has changed, though room that was made for the fields is kept where a further growth is refused. False
-    /// and `BadField` take no memory. In expected constant time, amortized, and in time of how far its number, where it
-    /// is below 2 ^ 20, is above all of those before.
+    /// where a growth is refused, or where there are 2 ^ 32 - 1 objects, or objects with 2 ^ 32 fields in all. In each
+    /// of these nothing has changed, though room that was made for the fields is kept where a further growth is
+    /// refused. False and `BadField` take no memory. In expected constant time, amortized, and in time of how far its
+    /// number, where it is below 2 ^ 20, is above all of those before.
     pub fn add_object(&mut self, no: ObjNo, fields: &[Option<ObjNo>]) -> Result<bool, Fault>
         ensures answer { AnswersObject self.old (plain_object no fields.now) result }
         ensures after { self.new ≡ after_object self.old (plain_object no fields.now) result }
@@ -123,8 +123,8 @@ impl<A: Allocator + Copy> Graph<A> {
     }
 
     /// Makes a number a root. True where it was none. It needn't be an object's: while there is no such object, no path
-    /// begins there. The one error is `NoMemory`, where a growth is refused: then nothing has changed, and it was no
-    /// root. In the time of `add_object`.
+    /// begins there. The one error is `NoMemory`, where a growth is refused or there are 2 ^ 32 - 1 roots: then nothing
+    /// has changed, and it was no root. In the time of `add_object`.
     pub fn add_root(&mut self, no: ObjNo) -> Result<bool, Fault>
         ensures answer { AnswersRoot self.old no result }
         ensures after { self.new ≡ after_root self.old no result }

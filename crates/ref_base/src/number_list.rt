@@ -107,8 +107,9 @@ impl<A: Allocator + Copy> NumberList<A> {
         self.place(no).is_some()
     }
 
-    /// A number comes, and is last then, unless it came before. Whether it is new. In constant time, amortized, of a
-    /// far one expected. Where memory is refused, or 2 ^ 32 - 1 of them came, nothing has changed.
+    /// A number comes, and is last then, unless it came before. Whether it is new. Where memory is refused, or
+    /// 2 ^ 32 - 1 of them came, nothing has changed. A far one takes expected constant time, amortized; a near one that
+    /// and the time of how far it is above all near ones before.
     #[inline(always)]
     pub(crate) fn insert(&mut self, no: ObjNo) -> Result<bool, AllocError>
         ensures is_new { IfOk result (λ is_new. has self.old no ≡ not is_new) }
