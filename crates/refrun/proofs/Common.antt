@@ -41,7 +41,7 @@ pub use Rattle.refrun.specs.Declarations.{Declared, NoneTwice, Plain, Reference,
 pub use Rattle.refrun.specs.Declarations.{SpellsObject, SpellsObjectOrNone, declared_no}
 pub use Rattle.refrun.specs.GraphTexts.{DeclaresGraph, SpellAll, SpellGraph}
 pub use Rattle.refrun.specs.JobViews.{job_number, note_of}
-pub use Rattle.refrun.specs.LineReading.{FailsFor, Finds, fault_from, in_front}
+pub use Rattle.refrun.specs.LineReading.{FailsFor, Finds, LinesLeft, ReadsAny, ReadsLine, fault_from, in_front}
 pub use Rattle.refrun.specs.Lines.{TextLine, content_of, lines_of, most_bytes, words_of}
 pub use Rattle.refrun.specs.Listings.{listing_text}
 pub use Rattle.refrun.specs.Numerals.{number_behind, number_below}
@@ -57,7 +57,7 @@ pub use Rattle.refrun.specs.StressChecks.{GivesEachOnce, IsFirstFailure, TookInO
 pub use Rattle.refrun.specs.StressSeats.{IsSeatedAt, StaysSeated}
 pub use Rattle.refrun.specs.TextFaults.{Declarations, Place, Steps, end_fault, fault_or, first_fault, graph_fault}
 pub use Rattle.refrun.specs.TextFaults.{place_after, place_fault, plain_fault, script_fault}
-pub use Rattle.refrun.specs.ToldLines.{is_plain_line, line_words, says_nothing, told}
+pub use Rattle.refrun.specs.ToldLines.{is_ascii_line, is_plain_line, line_words, says_nothing, told}
 pub use Rattle.refrun.specs.Traces.{TellsRun, trace_text}
 pub use Rattle.ref_text.specs.declared.fault.LineFault.{LineFault}
 pub use Rattle.ref_text.specs.declared.fault.LineFault.TheVariants.{BadWord, DoubleObject, ExtraWord, MissingWord}
@@ -67,4 +67,3 @@ pub use Rattle.refrun.specs.declared.script_step.ScriptReply.{ScriptReply}
 pub use Rattle.refrun.specs.declared.script_step.ScriptRow.{ScriptRow}
 pub use Rattle.refrun.specs.declared.script_step.ScriptStep.{ScriptStep}
 pub use Rattle.refrun.specs.declared.threads.Job.{Job}
-pub use Rattle.refrun.specs.declared.told.Told.{Told}

@@ -2,7 +2,10 @@
 use Rattle.refrun.proofs.Common.{◌≡◌, ℕ, suc, ◌+◌, ◌<◌, ◌≤◌, true, false, not, ◌==◌, List, [], ◌∷◌, ◌++◌, length, take}
 use Rattle.refrun.proofs.Common.{drop, refl, sym, ap, ◌∙◌, inl, inr, arith, cases_Bool, take_all, prefix_len, TextLine}
 use Rattle.refrun.proofs.Common.{lines_of, content_of, words_of}
+use Rattle.std.proofs.Common.{◌⊎◌, zero}
+use Rattle.std.specs.List.{list_all}
 use Rattle.std.proofs.lemmas.List.{nil_from_length, length-drop}
+use Rattle.std.specs.Char.{is_ascii_digit}
 use Rattle.refrun.specs.Lines.{onto_line, without_cr, goes_on, onto_word}
 
 -- no byte before the first LF
@@ -61,9 +64,6 @@ words_behind_spaces (b ∷ bs) =
       | inr isnt ↦ simp isnt refl
     ]
 
-no_space_first : (line : List ℕ) → drop (space_length line) line ≡ [] → words_of line ≡ []
-no_space_first line e = words_behind_spaces line ∙ ap words_of e
-
 goes_on_behind : (line : List ℕ) → 0 < length (drop (space_length line) line)
     → goes_on (drop (space_length line) line) ≡ true
 goes_on_behind [] h = absurd (omega arith)
@@ -97,17 +97,28 @@ first_word (b ∷ c ∷ bs) h =
           ]
     ]
 
--- the first word behind spaces, where the line doesn't end there
-pub word_cut : (line : List ℕ) (spaces n : ℕ) (behind word rest : List ℕ) → spaces ≡ space_length line
-    → behind ≡ drop spaces line → (length behind == 0) ≡ false
-    → n ≡ word_length behind → word ≡ take n behind → rest ≡ drop n behind → words_of line ≡ word ∷ words_of rest
-word_cut line spaces n behind word rest spaces_are behind_is some length_is word_is rest_is =
-    grind (arith, words_behind_spaces, goes_on_behind, first_word behind)
+-- behind its spaces a line has the same words
+pub same_words : (line behind : List ℕ) (spaces : ℕ) → spaces ≡ space_length line → behind ≡ drop spaces line
+    → words_of behind ≡ words_of line
+same_words line behind spaces spaces_are behind_is = grind (arith, words_behind_spaces)
 
--- a line of spaces has no word
-pub no_word_cut : (line : List ℕ) (spaces : ℕ) (behind : List ℕ) → spaces ≡ space_length line
-    → behind ≡ drop spaces line → (length behind == 0) ≡ true → words_of line ≡ []
-no_word_cut line spaces behind spaces_are behind_is none = grind (arith, no_space_first, nil_from_length)
+-- and a word begins there, or it ends
+pub word_begins : (line behind : List ℕ) (spaces : ℕ) → spaces ≡ space_length line → behind ≡ drop spaces line
+    → (behind ≡ []) ⊎ (goes_on behind ≡ true)
+word_begins line behind spaces spaces_are behind_is = grind (arith, goes_on_behind, nil_from_length)
+
+-- the first word, where the line begins with one
+pub word_cut : (line : List ℕ) (n : ℕ) (word rest : List ℕ) → goes_on line ≡ true
+    → n ≡ word_length line → word ≡ take n line → rest ≡ drop n line → words_of line ≡ word ∷ words_of rest
+word_cut line n word rest begins length_is word_is rest_is = grind (arith, first_word line)
+
+-- digits are a word up to where none goes on
+pub word_of_digits : (line : List ℕ) (n : ℕ) → list_all is_ascii_digit (take n line) ≡ true → n ≤ length line
+    → goes_on (drop n line) ≡ false → word_length line ≡ n
+word_of_digits [] zero digits within ends = refl
+word_of_digits [] (suc n) digits within ends = absurd (omega (arith, within))
+word_of_digits (b ∷ bs) zero digits within ends = grind arith
+word_of_digits (b ∷ bs) (suc n) digits within ends = grind (arith, word_of_digits bs n, one_more)
 
 -- the last byte of a line is a CR or it stays
 pub without_last_cr : (front : List ℕ) → without_cr (front ++ 13 ∷ []) ≡ front

@@ -2,8 +2,8 @@
 use Rattle.refrun.proofs.Common.{◌≡◌, ℕ, zero, suc, ◌≤◌, ◌<◌, true, false, List, [], ◌∷◌, ◌++◌, length, take, Option}
 use Rattle.refrun.proofs.Common.{Some, None, refl, ap, append_assoc, arith, list_all, lt-ltb, le-ltb, take-append_seam}
 use Rattle.refrun.proofs.Common.{append-nil, are_operands, words_fault, SpellsObject, SpellsObjectOrNone, SpellFields}
-use Rattle.refrun.proofs.Common.{ExtraWord}
-use Rattle.std.proofs.Common.{◌⊎◌}
+use Rattle.refrun.proofs.Common.{BadWord, ExtraWord, Bool, ◌&&◌, ◌+◌, ◌∙◌}
+use Rattle.std.proofs.Common.{◌⊎◌, nat_lt}
 use Rattle.std.proofs.lemmas.Bool.{or_right}
 use Rattle.std.proofs.lemmas.List.{length-append}
 use Rattle.refrun.specs.DeclarationFaults.{is_object, is_object_or_none}
@@ -73,6 +73,21 @@ pub has_bad_field : (words rest behind : List (List ℕ)) (fields : List (Option
     → list_all is_object_or_none (take 8 words) ≡ false
 has_bad_field words rest behind fields word h cut less bad =
     rw (h.parts, cut) (bad_among 8 h.read word behind (omega (arith, less, fields_length h.read fields h.spelt)) bad)
+
+-- so the words of a reference are faulty, whatever stands before
+none_of : (a b : Bool) → (a && (b && false)) ≡ false
+none_of true true = refl
+none_of true false = refl
+none_of false b = refl
+
+pub bad_reference : (word other : List ℕ) (words : List (List ℕ)) → list_all is_object_or_none (take 8 words) ≡ false
+    → words_fault 2 8 (word ∷ other ∷ words) ≡ Some BadWord
+bad_reference word other words bad =
+    let none : are_operands (take (2 + 8) (word ∷ other ∷ words)) ≡ false =
+    ap (λ b. is_object word && (is_object_or_none other && b)) bad ∙ none_of (is_object word) (is_object_or_none other) in
+    let enough : nat_lt (length (word ∷ other ∷ words)) 2 ≡ false =
+    le-ltb (length (word ∷ other ∷ words)) 2 (omega arith) in
+    rw (enough, none) refl
 
 -- where no word is left the words spell the fields
 pub all_fields : (words rest : List (List ℕ)) (fields : List (Option ℕ)) → ReadsFields words fields rest → rest ≡ []

@@ -1,15 +1,14 @@
 -- How the reading of a graph text goes on by one line.
-use Rattle.refrun.proofs.Common.{arith, ◌≡◌, ℕ, ◌+◌, ◌≤◌, ◌||◌, ◌==◌, Bool, true, false, List, [], ◌∷◌, ◌++◌, length}
-use Rattle.refrun.proofs.Common.{Option, Some, None, OnSome, IfNone, refl, sym, ap, ◌∙◌, append_assoc, Bor, list_all}
+use Rattle.refrun.proofs.Common.{arith, ◌≡◌, ℕ, ◌+◌, ◌||◌, ◌==◌, Bool, true, false, List, [], ◌∷◌, ◌++◌}
+use Rattle.refrun.proofs.Common.{Option, Some, None, refl, sym, ap, ◌∙◌, append_assoc, Bor, list_all}
 use Rattle.refrun.proofs.Common.{append-nil, Graph, plain_object, number_in, Declared, Root, Plain, Reference}
-use Rattle.refrun.proofs.Common.{SpellsDeclared, declared_no, NoneTwice, SpellAll, in_front, fault_from, Finds}
-use Rattle.refrun.proofs.Common.{lines_of, words_of, Place, Declarations, place_fault, fault_or, first_fault}
-use Rattle.refrun.proofs.Common.{is_plain_line, told, LineFault, DoubleObject, TextFault, Told, FailsFor, subst}
+use Rattle.refrun.proofs.Common.{SpellsDeclared, declared_no, NoneTwice, SpellAll, Finds}
+use Rattle.refrun.proofs.Common.{words_of, Place, Declarations, place_fault, fault_or, first_fault}
+use Rattle.refrun.proofs.Common.{is_plain_line, told, LineFault, DoubleObject, TextFault, LinesLeft}
 use Rattle.refrun.specs.Declarations.{with_declared_no, declared_graph, is_declared, with_declared, with_all}
 use Rattle.ref_base.specs.Graphs.{Object, empty_graph, is_there, with_object, reference_object}
 use Rattle.refrun.specs.GraphReading.{AreNumbersOf, has_object, AddsObject, AddsDeclared, AddsAll, FailsAfter}
 use Rattle.refrun.proofs.DeclaredSpelt.{declared_without_fault, number_of_words}
-use Rattle.refrun.proofs.LineLemmas.{onsome_before}
 use Rattle.ref_text.specs.declared.fault.TextFault.TheVariants as texts
 
 -- ---- the numbers of a graph's objects
@@ -49,43 +48,23 @@ with_all_push g [] d = refl
 with_all_push g (e ∷ ds) d = with_all_push (with_declared g e) ds d
 
 -- the graph so far, whatever spells what is left
-pub record HasDeclared (text : List ℕ) (number : ℕ) (found : Told) (g : Graph) : Type 0 where
+pub record HasDeclared (before now : LinesLeft) (g : Graph) : Type 0 where
   pub seen : List ℕ
   pub declared : List Declared
   pub graph_is : g ≡ declared_graph declared
   pub numbers : AreNumbersOf seen g
-  pub spelt : (more : List Declared) → SpellAll (in_front found.content (told (lines_of found.rest.now))) more
-      → SpellAll (told (lines_of text)) (declared ++ more)
+  pub spelt : (more : List Declared) → SpellAll (told now.lines) more
+      → SpellAll (told before.lines) (declared ++ more)
   pub none_twice : (more : List Declared) → NoneTwice seen more → NoneTwice [] (declared ++ more)
-  pub plain : list_all is_plain_line (lines_of text) ≡ list_all is_plain_line (lines_of found.rest.now)
-  pub fault : first_fault (Declarations []) (number + 1) (lines_of text) ≡ fault_from (Declarations seen)
-      found.content found.number (lines_of found.rest.now)
-  pub behind : OnSome found.content (found.number + length found.rest.now ≤ number + length text)
-  pub done : IfNone found.content (lines_of found.rest.now ≡ [])
-
-pub has_declared_none : (text : List ℕ) (number : ℕ) (found : Told) (g : Graph) → g ≡ empty_graph
-    → Finds text number found
-    → OnSome found.content (found.number + length found.rest.now ≤ number + length text)
-    → HasDeclared text number found g
-has_declared_none text number found g empty f behind = record {
-  seen = [];
-  declared = [];
-  graph_is = empty;
-  numbers = λ n. rw empty refl;
-  spelt = λ more spelt. rw f.told spelt;
-  none_twice = λ more twice. twice;
-  plain = f.plain;
-  fault = f.fault (Declarations []);
-  behind = behind;
-  done = f.done;
-}
+  pub plain : list_all is_plain_line before.lines ≡ list_all is_plain_line now.lines
+  pub fault : first_fault (Declarations []) (before.number + 1) before.lines
+      ≡ first_fault (Declarations seen) (now.number + 1) now.lines
 
 -- one line more
-pub has_declared_more : (text : List ℕ) (number : ℕ) (found next : Told) (g h : Graph) (c : Bor (List ℕ))
-    → HasDeclared text number found g → found.content ≡ Some c → AddsDeclared (words_of c.now) g h
-    → Finds found.rest.now found.number next → OnSome next.content
-    (next.number + length next.rest.now ≤ found.number + length found.rest.now) → HasDeclared text number next h
-has_declared_more text number found next g h c r found_is a f behind =
+pub has_declared_more : (before now after : LinesLeft) (g h : Graph) (c : Bor (List ℕ))
+    → HasDeclared before now g → Finds now (Some c) after → AddsDeclared (words_of c.now) g h
+    → HasDeclared before after h
+has_declared_more before now after g h c r f a =
     let words : List (List ℕ) = words_of c.now in
     let d : Declared = a.declared in
     let no : number_in words ≡ declared_no d = number_of_words d words a.spelt in
@@ -94,39 +73,30 @@ has_declared_more text number found next g h c r found_is a f behind =
     let new_words : is_declared r.seen (number_in words) ≡ false = ap (is_declared r.seen) no ∙ is_new in
     let sound : place_fault (Declarations r.seen) words ≡ None =
     rw (declared_without_fault d words a.spelt, new_words) refl in
-    let here : found.number + length found.rest.now ≤ number + length text = rw found_is at r.behind in
-    let far : (more : List Declared) → SpellAll (in_front (Some c) (told (lines_of found.rest.now))) more
-    → SpellAll (told (lines_of text)) (r.declared ++ more) = rw found_is at r.spelt in
-    let fault_is : first_fault (Declarations []) (number + 1) (lines_of text) ≡ fault_from (Declarations r.seen)
-    (Some c) found.number (lines_of found.rest.now) = r.fault ∙ rw found_is refl in
     let seen : List ℕ = with_declared_no r.seen (declared_no d) in
-    let later : first_fault (Declarations (with_declared_no r.seen (number_in words))) (found.number + 1)
-    (lines_of found.rest.now) ≡ first_fault (Declarations seen) (found.number + 1) (lines_of found.rest.now) =
-    ap (λ (no : Option ℕ). first_fault (Declarations (with_declared_no r.seen no)) (found.number + 1)
-    (lines_of found.rest.now)) no in
+    let later : first_fault (Declarations (with_declared_no r.seen (number_in words))) (after.number + 1) after.lines
+    ≡ first_fault (Declarations seen) (after.number + 1) after.lines =
+    ap (λ (no : Option ℕ). first_fault (Declarations (with_declared_no r.seen no)) (after.number + 1) after.lines)
+    no in
     record {
       seen = seen;
       declared = r.declared ++ d ∷ [];
       graph_is = a.after ∙ ap (λ (x : Graph). with_declared x d) r.graph_is
           ∙ sym (with_all_push empty_graph r.declared d);
       numbers = rw a.after (numbers_after r.seen g d r.numbers);
-      spelt = λ more spelt. rw append_assoc (far (d ∷ more) (a.spelt, rw f.told spelt));
+      spelt = λ more spelt. rw append_assoc (r.spelt (d ∷ more) (rw f.told (a.spelt, spelt)));
       none_twice = λ more twice. rw append_assoc (r.none_twice (d ∷ more) (is_new, twice));
       plain = r.plain ∙ f.plain;
-      fault = fault_is ∙ ap (λ (o : Option LineFault). fault_or found.number o (first_fault (Declarations
-          (with_declared_no r.seen (number_in words))) (found.number + 1) (lines_of found.rest.now))) sound
-          ∙ later ∙ f.fault (Declarations seen);
-      behind = onsome_before next.content _ _ _ behind here;
-      done = f.done;
+      fault = r.fault ∙ f.fault (Declarations r.seen)
+          ∙ ap (λ (o : Option LineFault). fault_or after.number o (first_fault (Declarations
+          (with_declared_no r.seen (number_in words))) (after.number + 1) after.lines)) sound ∙ later;
     }
 
 -- nothing is left
-pub has_declared_all : (text : List ℕ) (number : ℕ) (found : Told) (g : Graph)
-    → HasDeclared text number found g → found.content ≡ None
-    → AddsAll (told (lines_of text)) g × (list_all is_plain_line (lines_of text) ≡ true)
-has_declared_all text number found g r found_is =
-    let none : lines_of found.rest.now ≡ [] = rw found_is at r.done in
-    let whole : SpellAll (told (lines_of text)) (r.declared ++ []) = r.spelt [] (rw (found_is, none) tt) in
+pub has_declared_all : (before now after : LinesLeft) (g : Graph) → HasDeclared before now g → Finds now None after
+    → AddsAll (told before.lines) g × (list_all is_plain_line before.lines ≡ true)
+has_declared_all before now after g r f =
+    let whole : SpellAll (told before.lines) (r.declared ++ []) = r.spelt [] (rw (f.told, f.done) tt) in
     let twice : NoneTwice [] (r.declared ++ []) = r.none_twice [] tt in (
       record {
         declared = r.declared;
@@ -134,34 +104,11 @@ has_declared_all text number found g r found_is =
         none_twice = rw append-nil at twice;
         graph_is = r.graph_is;
       },
-      r.plain ∙ rw none refl,
+      r.plain ∙ f.plain ∙ rw f.done refl,
     )
 
--- a line's fault stands, whatever the faults behind it
-fails_further : (e : TextFault) (k : ℕ) (fault : Option LineFault) (later : Option TextFault)
-    → FailsFor e (fault_or k fault None) → FailsFor e (fault_or k fault later)
-fails_further e k (Some f) later fails = fails
-fails_further texts.NoMemory k None later fails = tt
-fails_further (texts.Line j f) k None later fails = let wrong = fails in absurd cc
-fails_further texts.TooLong k None later fails = let wrong = fails in absurd cc
-fails_further texts.CannotRead k None later fails = absurd fails
-fails_further texts.CannotWrite k None later fails = absurd fails
-
--- the fault of the line that was found is that of the text
-pub has_declared_fault : (text : List ℕ) (number : ℕ) (found : Told) (g : Graph) (c : Bor (List ℕ)) (e : TextFault)
-    → HasDeclared text number found g → found.content ≡ Some c → FailsAfter (words_of c.now) found.number g e
-    → FailsFor e (first_fault (Declarations []) (number + 1) (lines_of text))
-has_declared_fault text number found g c e r found_is fails =
-    let fault_is : first_fault (Declarations []) (number + 1) (lines_of text) ≡ fault_from (Declarations r.seen)
-    (Some c) found.number (lines_of found.rest.now) = r.fault ∙ rw found_is refl in
-    subst (FailsFor e) (sym fault_is)
-    (fails_further e found.number (place_fault (Declarations r.seen) (words_of c.now)) _ (fails r.seen r.numbers))
-
--- a fault behind it is that of the text too
-pub has_declared_later_fault : (text : List ℕ) (number : ℕ) (found : Told) (g h : Graph) (c : Bor (List ℕ))
-    (e : TextFault) → HasDeclared text number found g → found.content ≡ Some c → AddsDeclared (words_of c.now) g h
-    → ((place : Place) → first_fault place (found.number + 1) (lines_of found.rest.now) ≡ Some e)
-    → first_fault (Declarations []) (number + 1) (lines_of text) ≡ Some e
-has_declared_later_fault text number found g h c e r found_is a later = grind (arith, declared_without_fault)
-
--- ---- behind the header
+-- a fault of what is left is that of the text too
+pub has_declared_later_fault : (before now : LinesLeft) (g : Graph) (e : TextFault) → HasDeclared before now g
+    → ((place : Place) → first_fault place (now.number + 1) now.lines ≡ Some e)
+    → first_fault (Declarations []) (before.number + 1) before.lines ≡ Some e
+has_declared_later_fault before now g e r later = r.fault ∙ later (Declarations r.seen)

@@ -1,9 +1,11 @@
 -- How the reading of a text goes on by one line.
 use Rattle.refrun.proofs.Common.{◌≡◌, ℕ, suc, ◌+◌, ◌≤◌, Bool, true, false, List, [], ◌∷◌, length, Option, Some, None}
-use Rattle.refrun.proofs.Common.{OnSome, refl, sym, ap, ◌∙◌, inl, inr, arith, Bor, list_all, cases_Bool, TextLine}
+use Rattle.refrun.proofs.Common.{refl, sym, ap, ◌∙◌, inl, inr, arith, list_all, cases_Bool, TextLine}
 use Rattle.refrun.proofs.Common.{lines_of, Place, place_after, place_fault, fault_or, plain_fault, first_fault}
 use Rattle.refrun.proofs.Common.{is_plain_line, says_nothing, line_words, told, FailsFor, LineFault, TextFault}
-use Rattle.refrun.proofs.Common.{end_fault}
+use Rattle.refrun.proofs.Common.{end_fault, LinesLeft, is_ascii_line}
+use Rattle.std.specs.Char.{is_ascii}
+use Rattle.refrun.specs.Lines.{onto_line}
 use Rattle.std.proofs.lemmas.Bool.{false≢true}
 use Rattle.ref_text.specs.declared.fault.TextFault.TheVariants as texts
 
@@ -44,20 +46,29 @@ fails_for place k lines texts.CannotWrite h = let no_line : is_of_line (first_fa
     ap is_of_line h in absurd (false≢true (sym no_line ∙ of_line place k lines))
 
 -- the lines between say nothing, and nothing is wrong with them
-pub record Skips (text : List ℕ) (number : ℕ) (rest : List ℕ) (k : ℕ) : Type 0 where
-  pub told : told (lines_of text) ≡ told (lines_of rest)
-  pub plain : list_all is_plain_line (lines_of text) ≡ list_all is_plain_line (lines_of rest)
-  pub fault : (place : Place) → first_fault place (number + 1) (lines_of text) ≡ first_fault place (k + 1)
-      (lines_of rest)
-  pub behind : k + length rest ≤ number + length text
-  pub no_longer : length rest ≤ length text
+pub record Skips (before now : LinesLeft) : Type 0 where
+  pub told : told before.lines ≡ told now.lines
+  pub plain : list_all is_plain_line before.lines ≡ list_all is_plain_line now.lines
+  pub fault : (place : Place) → first_fault place (before.number + 1) before.lines ≡ first_fault place (now.number + 1)
+      now.lines
+  pub no_longer : length now.lines ≤ length before.lines
 
--- what is left is no more than before
-pub onsome_before : (o : Option (Bor (List ℕ))) (a b d : ℕ) → OnSome o (a ≤ b) → b ≤ d → OnSome o (a ≤ d)
-onsome_before None a b d h le = tt
-onsome_before (Some x) a b d h le = omega (arith, h)
+-- a byte more in front of the first line
+onto_line-length : (b : ℕ) (lines : List TextLine) → length (onto_line b lines) ≤ suc (length lines)
+onto_line-length b [] = omega arith
+onto_line-length b (line ∷ lines) = omega arith
 
--- how much there is to read, the line that was found too
-abbrev pub left_in : Option (Bor (List ℕ)) → List ℕ → ℕ
-left_in None rest = 0
-left_in (Some c) rest = suc (length rest)
+onto_line-ascii : (b : ℕ) (lines : List TextLine) → is_ascii b ≡ true → list_all is_ascii_line lines ≡ true
+    → list_all is_ascii_line (onto_line b lines) ≡ true
+onto_line-ascii b [] is all = grind arith
+onto_line-ascii b (line ∷ lines) is all = grind arith
+
+-- a text has no more lines than bytes
+pub lines-le-length : (text : List ℕ) → length (lines_of text) ≤ length text
+lines-le-length [] = omega arith
+lines-le-length (b ∷ bs) = grind (arith, lines-le-length bs, onto_line-length)
+
+-- its lines are ASCII where it is
+pub ascii_lines : (text : List ℕ) → list_all is_ascii text ≡ true → list_all is_ascii_line (lines_of text) ≡ true
+ascii_lines [] is = refl
+ascii_lines (b ∷ bs) is = grind (arith, ascii_lines bs, onto_line-ascii)

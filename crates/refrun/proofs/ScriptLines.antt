@@ -1,49 +1,52 @@
 -- How the reading of a script goes on by one line.
-use Rattle.refrun.proofs.Common.{arith, ◌≡◌, ℕ, ◌+◌, ◌≤◌, true, List, [], ◌∷◌, ◌++◌, length, Some, None, OnSome, IfNone}
-use Rattle.refrun.proofs.Common.{refl, ◌∙◌, append_assoc, Bor, list_all, append-nil, lines_of, words_of}
-use Rattle.refrun.proofs.Common.{SpellsScriptStep, Place, Steps, fault_or, first_fault, SpellSteps, is_plain_line, told}
-use Rattle.refrun.proofs.Common.{step_fault, FailsFor, in_front, fault_from, Finds, TextFault, Told, ScriptStep}
+use Rattle.refrun.proofs.Common.{arith, ◌≡◌, ℕ, ◌+◌, true, List, [], ◌∷◌, ◌++◌, Some, None, ◌∙◌, append_assoc, Bor}
+use Rattle.refrun.proofs.Common.{list_all, append-nil, words_of, SpellsScriptStep, Steps, first_fault}
+use Rattle.refrun.proofs.Common.{SpellSteps, is_plain_line, told, Finds, LinesLeft, TextFault}
+use Rattle.refrun.proofs.Common.{ScriptStep, Place, refl}
+use Rattle.refrun.proofs.Common.{config_of}
 use Rattle.refrun.proofs.Spelt.{spelt_without_fault}
+use Rattle.ref_base.specs.declared.config.Config.{Config}
+use Rattle.ref_base.specs.declared.span_rule.SpanRule.{SpanRule}
+use Rattle.refrun.specs.TextFaults.{Configuration, ScriptHeader}
+use Rattle.refrun.specs.Versions.{header_rule, is_in_version}
 
 -- the steps so far, whatever spells what is left
-pub record HasRead (text : List ℕ) (number : ℕ) (found : Told) (steps : List ScriptStep) : Type 0 where
-  pub spelt : (more : List ScriptStep) → SpellSteps (in_front found.content (told (lines_of found.rest.now))) more
-      → SpellSteps (told (lines_of text)) (steps ++ more)
-  pub plain : list_all is_plain_line (lines_of text) ≡ list_all is_plain_line (lines_of found.rest.now)
-  pub fault : first_fault Steps (number + 1) (lines_of text) ≡ fault_from Steps found.content found.number
-      (lines_of found.rest.now)
-  pub behind : OnSome found.content (found.number + length found.rest.now ≤ number + length text)
-  pub done : IfNone found.content (lines_of found.rest.now ≡ [])
+pub record HasRead (before now : LinesLeft) (steps : List ScriptStep) : Type 0 where
+  pub spelt : (more : List ScriptStep) → SpellSteps (told now.lines) more
+      → SpellSteps (told before.lines) (steps ++ more)
+  pub plain : list_all is_plain_line before.lines ≡ list_all is_plain_line now.lines
+  pub fault : first_fault Steps (before.number + 1) before.lines ≡ first_fault Steps (now.number + 1) now.lines
 
 -- one step more
-pub has_read_more : (text : List ℕ) (number : ℕ) (found next : Told) (steps items : List ScriptStep) (c : Bor (List ℕ))
+pub has_read_more : (before now after : LinesLeft) (steps items : List ScriptStep) (c : Bor (List ℕ))
     (step : ScriptStep)
-    → HasRead text number found steps → found.content ≡ Some c → SpellsScriptStep (words_of c.now) step
-    → items ≡ steps ++ step ∷ []
-    → Finds found.rest.now found.number next → OnSome next.content
-    (next.number + length next.rest.now ≤ found.number + length found.rest.now) → HasRead text number next items
-has_read_more text number found next steps items c step r found_is spells items_are f behind =
+    → HasRead before now steps → Finds now (Some c) after → SpellsScriptStep (words_of c.now) step
+    → items ≡ steps ++ step ∷ [] → HasRead before after items
+has_read_more before now after steps items c step r f spells items_are =
     grind (arith, spelt_without_fault, append_assoc)
 
 -- nothing is left
-pub has_read_all : (text : List ℕ) (number : ℕ) (found : Told) (steps : List ScriptStep)
-    → HasRead text number found steps → found.content ≡ None
-    → SpellSteps (told (lines_of text)) steps × (list_all is_plain_line (lines_of text) ≡ true)
-has_read_all text number found steps r found_is =
-    let none : lines_of found.rest.now ≡ [] = rw found_is at r.done in
-    let whole : SpellSteps (told (lines_of text)) (steps ++ []) = r.spelt [] (rw (found_is, none) tt) in
-    (rw append-nil at whole, r.plain ∙ rw none refl)
+pub has_read_all : (before now after : LinesLeft) (steps : List ScriptStep)
+    → HasRead before now steps → Finds now None after
+    → SpellSteps (told before.lines) steps × (list_all is_plain_line before.lines ≡ true)
+has_read_all before now after steps r f =
+    let whole : SpellSteps (told before.lines) (steps ++ []) = r.spelt [] (rw (f.told, f.done) tt) in
+    (rw append-nil at whole, r.plain ∙ f.plain ∙ rw f.done refl)
 
--- the fault of a line that spells no step is that of the text
-pub has_read_fault : (text : List ℕ) (number : ℕ) (found : Told) (steps : List ScriptStep) (c : Bor (List ℕ))
-    (e : TextFault) → HasRead text number found steps → found.content ≡ Some c
-    → FailsFor e (fault_or found.number (step_fault (words_of c.now)) None)
-    → FailsFor e (first_fault Steps (number + 1) (lines_of text))
-has_read_fault text number found steps c e r found_is fails = grind arith
+-- a fault of what is left is that of the text too
+pub has_read_later_fault : (before now : LinesLeft) (steps : List ScriptStep) (e : TextFault)
+    → HasRead before now steps
+    → ((place : Place) → first_fault place (now.number + 1) now.lines ≡ Some e)
+    → first_fault Steps (before.number + 1) before.lines ≡ Some e
+has_read_later_fault before now steps e r later = r.fault ∙ later Steps
 
--- a fault behind it is that of the text too
-pub has_read_later_fault : (text : List ℕ) (number : ℕ) (found : Told) (steps : List ScriptStep) (c : Bor (List ℕ))
-    (step : ScriptStep) (e : TextFault) → HasRead text number found steps → found.content ≡ Some c
-    → SpellsScriptStep (words_of c.now) step → ((place : Place) → first_fault place (found.number + 1)
-    (lines_of found.rest.now) ≡ Some e) → first_fault Steps (number + 1) (lines_of text) ≡ Some e
-has_read_later_fault text number found steps c step e r found_is spells later = grind (arith, spelt_without_fault)
+-- a fault behind the configuration is that of the text
+pub behind_configuration : (text header config : LinesLeft) (first second : Bor (List ℕ)) (rule : SpanRule)
+    (is : Config) → Finds text (Some first) header → header_rule (words_of first.now) ≡ Some rule
+    → Finds header (Some second) config → config_of rule (words_of second.now) ≡ Some is
+    → is_in_version is ≡ true
+    → first_fault ScriptHeader (text.number + 1) text.lines ≡ first_fault Steps (config.number + 1) config.lines
+behind_configuration text header config first second rule is f named g read fits =
+    let headed : first_fault ScriptHeader (text.number + 1) text.lines
+    ≡ first_fault (Configuration rule) (header.number + 1) header.lines = f.fault ScriptHeader ∙ rw named refl in
+    headed ∙ g.fault (Configuration rule) ∙ rw (read, fits) refl

@@ -8,11 +8,11 @@ use Rattle.refrun.specs.declared.declarations.Declaration.TheVariants as lines
 use Rattle.ref_text.specs.declared.fault.LineFault.{LineFault}
 use Rattle.ref_text.specs.declared.fault.LineFault.TheVariants.{BadWord}
 
--- what a line of the program says
-abbrev pub declared_by : Declaration → Declared
-declared_by (lines.Root n) = Root n
-declared_by (lines.Plain n fields) = Plain n fields.items
-declared_by (lines.Reference n strength referent fields) = Reference n strength referent fields.items
+-- what a line of the program says, with the fields that were read
+abbrev pub declared_by : Declaration → List (Option ℕ) → Declared
+declared_by (lines.Root n) fields = Root n
+declared_by (lines.Plain n) fields = Plain n fields
+declared_by (lines.Reference n strength referent) fields = Reference n strength referent fields
 
 -- the first words spell these fields, at most 8, and no word is left or 8 were read
 pub record ReadsFields (words : List (List ℕ)) (fields : List (Option ℕ)) (rest : List (List ℕ)) : Type 0 where

@@ -9,8 +9,11 @@ use Rattle.refrun.specs.Lines.{TextLine, content_of, words_of}
 abbrev pub is_short : TextLine → Bool
 is_short line = nat_le (length line.bytes) 200
 
+abbrev pub is_ascii_line : TextLine → Bool
+is_ascii_line line = list_all is_ascii line.bytes
+
 abbrev pub is_plain_line : TextLine → Bool
-is_plain_line line = is_short line && list_all is_ascii line.bytes
+is_plain_line line = is_short line && is_ascii_line line
 
 -- a blank line, or one whose first word begins with `#`, says nothing
 abbrev pub begins_remark : List ℕ → Bool

@@ -10,9 +10,9 @@ ghost use Rattle.refrun.specs.LineReading.{FailsFor};
 ghost use Rattle.refrun.specs.TextFaults.{GraphHeader, Declarations, first_fault};
 ghost use Rattle.refrun.specs.ToldLines.{is_plain_line, told};
 
-use crate::declarations::{Declaration, declaration_of};
-use crate::told::{is_titled, next_told};
-use ref_base::{Fault, Graph};
+use crate::declarations::{Declaration, Fields, declaration_of};
+use crate::told::{Lines, is_titled};
+use ref_base::{Fault, Graph, ObjNo};
 use ref_text::{LineFault, TextFault};
 use std::alloc::Allocator;
 
@@ -22,50 +22,46 @@ pub fn declared_graph<A: Allocator + Copy>(alloc: A, text: &[u8]) -> Result<Grap
     ensures found { IfOk result (λ graph. DeclareGraph (lines_of text.now) graph) }
     ensures fault { IfErr result (λ e. FailsFor e (first_fault GraphHeader 1 (lines_of text.now))) }
 {
-    let header = next_told(text, 0)?;
-    let Some(line) = header.content else {
-        return Err(TextFault::Line(header.number, LineFault::BadHeader));
+    let mut lines = Lines::of(text);
+    let Some(line) = lines.next_told()? else {
+        return Err(TextFault::Line(lines.number() + 1, LineFault::BadHeader));
     };
     if !is_header(line) {
-        return Err(TextFault::Line(header.number, LineFault::BadHeader));
+        return Err(TextFault::Line(lines.number(), LineFault::BadHeader));
     }
-    graph_behind(alloc, header.rest, header.number)
+    graph_behind(alloc, &mut lines)
 }
 
-/// The graph of the lines behind the line of this number.
-fn graph_behind<A: Allocator + Copy>(
-    alloc: A,
-    text: &[u8],
-    number: u64,
-) -> Result<Graph<A>, TextFault>
-    requires { number + length text.now ≤ most_bytes + 1 }
-    ensures spelt { IfOk result (λ graph. AddsAll (told (lines_of text.now)) graph) }
-    ensures plain { IfOk result (λ graph. list_all is_plain_line (lines_of text.now) ≡ true) }
-    ensures fault { IfErr result (λ e. FailsFor e (first_fault (Declarations []) (number + 1) (lines_of text.now))) }
+/// The graph of the lines behind the header.
+fn graph_behind<A: Allocator + Copy>(alloc: A, lines: &mut Lines<'_>) -> Result<Graph<A>, TextFault>
+    ensures spelt { IfOk result (λ graph. AddsAll (told lines.old.lines) graph) }
+    ensures plain { IfOk result (λ graph. list_all is_plain_line lines.old.lines ≡ true) }
+    ensures fault { IfErr result (λ e. FailsFor e
+        (first_fault (Declarations []) (lines.old.number + 1) lines.old.lines)) }
 {
     let mut graph = Graph::new(alloc);
-    let mut told = next_told(text, number)?;
-    while let Some(content) = told.content {
-        add_line(&mut graph, content, told.number)?;
-        told = next_told(told.rest, told.number)?;
+    let mut fields = Fields::new();
+    while let Some(content) = lines.next_told()? {
+        add_line(&mut graph, content, lines.number(), &mut fields)?;
     }
     Ok(graph)
 }
 
-/// Adds what the line of this number says.
+/// Adds what the line of this number says. Its fields are read into what those of the lines before were read into.
 fn add_line<A: Allocator + Copy>(
     graph: &mut Graph<A>,
     content: &[u8],
     number: u64,
+    fields: &mut Fields,
 ) -> Result<(), TextFault>
     ensures ok { OnOk result (AddsDeclared (words_of content.now) graph.old graph.new) }
     ensures fault { IfErr result (FailsAfter (words_of content.now) number graph.old) }
 {
-    let declaration = match declaration_of(content) {
+    let declaration = match declaration_of(content, fields) {
         Ok(declaration) => declaration,
         Err(fault) => return Err(TextFault::Line(number, fault)),
     };
-    if !add_declaration(graph, &declaration)? {
+    if !add_declaration(graph, declaration, fields.as_slice())? {
         return Err(TextFault::Line(number, LineFault::DoubleObject));
     }
     Ok(())
@@ -75,20 +71,20 @@ fn add_line<A: Allocator + Copy>(
 /// most 8 fields, so that the graph refuses it for want of memory alone.
 fn add_declaration<A: Allocator + Copy>(
     graph: &mut Graph<A>,
-    declaration: &Declaration,
+    declaration: Declaration,
+    fields: &[Option<ObjNo>],
 ) -> Result<bool, TextFault>
-    ensures ok { IfOk result (AddsObject graph.old graph.new (declared_by declaration.now)) }
+    ensures ok { IfOk result (AddsObject graph.old graph.new (declared_by declaration fields.now)) }
     ensures err { OnErr result (result ≡ Err TextFault.NoMemory) }
 {
     let added = match declaration {
-        Declaration::Root { no } => graph.add_root(*no).map(|_| true),
-        Declaration::Plain { no, fields } => graph.add_object(*no, fields.as_slice()),
+        Declaration::Root { no } => graph.add_root(no).map(|_| true),
+        Declaration::Plain { no } => graph.add_object(no, fields),
         Declaration::Reference {
             no,
             strength,
             referent,
-            fields,
-        } => graph.add_reference(*no, *strength, *referent, fields.as_slice()),
+        } => graph.add_reference(no, strength, referent, fields),
     };
     added.map_err(|_| TextFault::NoMemory)
 }

@@ -1,10 +1,10 @@
 //! Lines and words, as slices of the text.
 
-ghost use Rattle.std.specs.Prelude.{◌≡◌, ◌<◌, ◌≤◌, ◌==◌, not, nat_eq, [], ◌∷◌, length, IfSome, MatchOption};
+ghost use Rattle.std.specs.Prelude.{◌≡◌, ◌<◌, ◌≤◌, ◌==◌, ◌⊎◌, not, nat_eq, [], ◌∷◌, true, length, IfSome, MatchOption};
 ghost use Rattle.std.specs.Cmp.Lexicographic.{pointwise};
 ghost use Rattle.std.specs.List.{prefix_len};
 ghost use Rattle.refrun.specs.LineViews.{line_of};
-ghost use Rattle.refrun.specs.Lines.{lines_of, content_of, words_of};
+ghost use Rattle.refrun.specs.Lines.{lines_of, content_of, goes_on, words_of};
 
 use memchr::memchr;
 
@@ -103,22 +103,42 @@ pub fn next_line(text: &[u8]) -> Option<(Line<'_>, &[u8])>
     }
 }
 
+/// The line behind the spaces that it begins with.
+pub fn behind_spaces(line: &[u8]) -> &[u8]
+    ensures same { words_of result.now ≡ words_of line.now }
+    ensures begins { (result.now ≡ []) ⊎ (goes_on result.now ≡ true) }
+{
+    let (_, behind) = line.split_at(length_of_run(line, b' '));
+    behind
+}
+
 /// The first word of a line and the line behind it, or `None` where none is left.
 pub fn next_word(line: &[u8]) -> Option<(&[u8], &[u8])>
     ensures { MatchOption result (words_of line.now ≡ [])
         (λ r. words_of line.now ≡ r.0.now ∷ words_of r.1.now) }
 {
-    let (_, line) = line.split_at(length_of_run(line, b' '));
-    if line.is_empty() {
+    let behind = behind_spaces(line);
+    if behind.is_empty() {
         return None;
     }
-    Some(line.split_at(length_before(line, b' ')))
+    Some(behind.split_at(length_before(behind, b' ')))
 }
 
-/// Whether a word is this name. Most names are of another length, which is looked at where this is called.
+/// Whether a word is this name. Most names are of another length, which is looked at first. A name is known where this
+/// is called, so that its bytes are compared with no loop there.
 #[inline(always)]
 pub fn is_name(word: &[u8], name: &'static [u8]) -> bool
     ensures { result ≡ pointwise nat_eq word.now name.now }
 {
-    word.len() == name.len() && word == name
+    if word.len() != name.len() {
+        return false;
+    }
+    let mut at = 0;
+    for byte in name {
+        if word[at] != *byte {
+            return false;
+        }
+        at += 1;
+    }
+    true
 }

@@ -9,7 +9,7 @@ ghost use Rattle.refrun.specs.Numerals.{number_behind};
 ghost use Rattle.refrun.specs.OperandReading.{reading, unread, first_of, behind_first, is_over, fault_at_end, IsRead};
 ghost use Rattle.refrun.specs.StepForms.{Slot, Queue, QueueOrNone, Number, Clock, UrgencyName};
 
-use crate::lines::next_word;
+use crate::lines::{is_name, next_word};
 use crate::numerals::{long_number, short_number};
 use crate::script_step::ScriptStep;
 use ref_base::{QueueNo, SlotNo, Urgency};
@@ -87,7 +87,7 @@ impl<'a> Operands<'a> {
         ensures { IsRead (QueueOrNone ∷ []) (reading self.old) (reading self.new) (texts.queue_or_none result ∷ []) }
     {
         let word = self.word();
-        if word == b"-".as_slice() {
+        if is_name(word, b"-") {
             return None;
         }
         Some(QueueNo(self.or_bad(number_behind(b'q', word), 0)))
@@ -115,10 +115,10 @@ impl<'a> Operands<'a> {
             (texts.Letters (urgency_name result) ∷ []) }
     {
         let word = self.word();
-        if word == b"normal".as_slice() {
+        if is_name(word, b"normal") {
             return Urgency::Normal;
         }
-        self.is_bad = self.is_bad || word != b"urgent".as_slice();
+        self.is_bad = self.is_bad || !is_name(word, b"urgent");
         Urgency::Urgent
     }
 

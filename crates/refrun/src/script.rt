@@ -1,7 +1,6 @@
 //! A whole script: its header, its configuration and its steps.
 
-ghost use Rattle.std.specs.Prelude.{◌≡◌, ◌+◌, ◌≤◌, ◌^◌, true, [], ◌∷◌, ◌++◌, Some, None, OnOk, OnSome, length};
-ghost use Rattle.std.specs.Prelude.{IfOk, IfErr};
+ghost use Rattle.std.specs.Prelude.{◌≡◌, ◌+◌, ◌≤◌, ◌^◌, true, [], ◌∷◌, ◌++◌, Some, None, OnOk, length, IfOk, IfErr};
 ghost use Rattle.std.specs.List.{list_all};
 ghost use Rattle.refrun.specs.Lines.{lines_of, words_of, most_bytes};
 ghost use Rattle.refrun.specs.LineReading.{FailsFor};
@@ -17,7 +16,7 @@ use crate::lines::next_word;
 use crate::numerals::{long_number, short_number};
 use crate::script_step::ScriptStep;
 use crate::steps::step_of;
-use crate::told::next_told;
+use crate::told::Lines;
 use crate::version::{header_rule, is_in_version};
 use ref_base::{Config, SpanRule};
 use ref_text::{LineFault, TextFault};
@@ -36,43 +35,35 @@ pub fn script_of<A: Allocator>(alloc: A, text: &[u8]) -> Result<Script<A>, TextF
     ensures found { IfOk result (λ script. AreScript (lines_of text.now) script.config script.steps.items) }
     ensures fault { IfErr result (λ e. FailsFor e (first_fault ScriptHeader 1 (lines_of text.now))) }
 {
-    let header = next_told(text, 0)?;
-    let Some(line) = header.content else {
-        return Err(TextFault::Line(header.number, LineFault::BadHeader));
+    let mut lines = Lines::of(text);
+    let Some(line) = lines.next_told()? else {
+        return Err(TextFault::Line(lines.number() + 1, LineFault::BadHeader));
     };
     let Some(rule) = header_rule(line) else {
-        return Err(TextFault::Line(header.number, LineFault::BadHeader));
+        return Err(TextFault::Line(lines.number(), LineFault::BadHeader));
     };
-    let told = next_told(header.rest, header.number)?;
-    let Some(line) = told.content else {
-        return Err(TextFault::Line(told.number, LineFault::BadConfig));
+    let Some(line) = lines.next_told()? else {
+        return Err(TextFault::Line(lines.number() + 1, LineFault::BadConfig));
     };
     let Some(config) = config_of(line, rule) else {
-        return Err(TextFault::Line(told.number, LineFault::BadConfig));
+        return Err(TextFault::Line(lines.number(), LineFault::BadConfig));
     };
     if !is_in_version(&config) {
-        return Err(TextFault::Line(told.number, LineFault::BadConfig));
+        return Err(TextFault::Line(lines.number(), LineFault::BadConfig));
     }
-    let steps = steps_of(alloc, told.rest, told.number)?;
+    let steps = steps_of(alloc, &mut lines)?;
     Ok(Script { config, steps })
 }
 
-/// The steps of the lines behind the line of this number.
-fn steps_of<A: Allocator>(
-    alloc: A,
-    text: &[u8],
-    number: u64,
-) -> Result<Vec<ScriptStep, A>, TextFault>
-    requires { number + length text.now ≤ most_bytes + 1 }
-    ensures spelt { IfOk result (λ steps. SpellSteps (told (lines_of text.now)) steps.items) }
-    ensures plain { IfOk result (λ steps. list_all is_plain_line (lines_of text.now) ≡ true) }
-    ensures fault { IfErr result (λ e. FailsFor e (first_fault Steps (number + 1) (lines_of text.now))) }
+/// The steps of the lines behind the configuration.
+fn steps_of<A: Allocator>(alloc: A, lines: &mut Lines<'_>) -> Result<Vec<ScriptStep, A>, TextFault>
+    ensures spelt { IfOk result (λ steps. SpellSteps (told lines.old.lines) steps.items) }
+    ensures plain { IfOk result (λ steps. list_all is_plain_line lines.old.lines ≡ true) }
+    ensures fault { IfErr result (λ e. FailsFor e (first_fault Steps (lines.old.number + 1) lines.old.lines)) }
 {
     let mut steps = Vec::new(alloc);
-    let mut told = next_told(text, number)?;
-    while let Some(content) = told.content {
-        add_step(&mut steps, content, told.number)?;
-        told = next_told(told.rest, told.number)?;
+    while let Some(content) = lines.next_told()? {
+        add_step(&mut steps, content, lines.number())?;
     }
     Ok(steps)
 }

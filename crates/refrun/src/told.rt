@@ -1,59 +1,101 @@
 //! The lines of a text that say something, and its header.
 
-ghost use Rattle.std.specs.Prelude.{◌≡◌, ◌+◌, ◌≤◌, ◌<◌, Some, None, OnSome, length, IfOk, IfErr, MatchResult};
+ghost use Rattle.std.specs.Prelude.{◌≡◌, ◌+◌, ◌≤◌, ◌<◌, true, Some, None, OnSome, length, IfOk, IfErr, MatchResult};
 ghost use Rattle.std.specs.Char.{is_ascii};
 ghost use Rattle.std.specs.List.{list_all};
 ghost use Rattle.refrun.specs.Lines.{lines_of, content_of, words_of, most_bytes};
-ghost use Rattle.refrun.specs.LineReading.{Finds};
+ghost use Rattle.refrun.specs.LineReading.{Finds, ReadsAny};
 ghost use Rattle.refrun.specs.LineViews.{line_of};
 ghost use Rattle.refrun.specs.TextFaults.{Place, plain_fault, first_fault};
 ghost use Rattle.refrun.specs.ToldLines.{says_nothing, is_titled};
 
 use crate::lines::{Line, next_line, next_word};
 use ref_text::{LineFault, TextFault};
+use std::marker::Model;
 
-/// A line that says something, where one is left, its number, and the text behind it.
-#[derive(Clone, Copy)]
-pub struct Told<'a> {
-    pub content: Option<&'a [u8]>,
-    pub number: u64,
-    pub rest: &'a [u8],
+/// The lines of a text that are still to read, one after the other.
+#[derive(Drop)]
+pub struct Lines<'a> {
+    rest: &'a [u8],
+    // Of the line that was read last.
+    number: u64,
+    // Whether the whole text was found to be ASCII, as most are, so that no line has to be looked at for that.
+    has_only_ascii: bool,
 }
 
-/// The first line behind the line of this number that says something. Each line up to it is short enough and ASCII.
-pub fn next_told(text: &[u8], number: u64) -> Result<Told<'_>, TextFault>
-    requires { number + length text.now ≤ most_bytes + 1 }
-    ensures found { IfOk result (Finds text.now number) }
-    ensures behind { IfOk result (λ t. OnSome t.content (t.number + length t.rest.now ≤ number + length text.now)) }
-    ensures shorter { IfOk result (λ t. OnSome t.content (length t.rest.now < length text.now)) }
-    ensures fault { IfErr result (λ e. (place : Place) → first_fault place (number + 1) (lines_of text.now) ≡ Some e) }
-{
-    let mut rest = text;
-    let mut number = number;
-    while let Some((line, behind)) = next_line(rest) {
-        number += 1;
-        rest = behind;
-        let content = match plain(line) {
-            Ok(content) => content,
-            Err(fault) => return Err(TextFault::Line(number, fault)),
-        };
-        if !says_nothing(content) {
-            return Ok(Told {
-                content: Some(content),
-                number,
-                rest,
-            });
+impl<'a> Model for Lines<'a> {
+    ghost use Rattle.std.specs.Prelude.{◌≡◌, ◌+◌, ◌≤◌, true, length};
+    ghost use Rattle.std.specs.List.{list_all};
+    ghost use Rattle.refrun.specs.Lines.{lines_of, most_bytes};
+    ghost use Rattle.refrun.specs.LineReading.{LinesLeft};
+    ghost use Rattle.refrun.specs.ToldLines.{is_ascii_line};
+
+    ghost Value = { LinesLeft };
+
+    ghost view = { λ l. record { lines = lines_of l.rest.now; number = l.number } };
+
+    ghost invariant = { λ l. (l.number + length (lines_of l.rest.now) ≤ most_bytes)
+        × (l.has_only_ascii ≡ true → list_all is_ascii_line (lines_of l.rest.now) ≡ true) };
+}
+
+impl<'a> Lines<'a> {
+    /// All lines of a text.
+    pub fn of(text: &'a [u8]) -> Lines<'a>
+        requires { length text.now ≤ most_bytes }
+        ensures { result ≡ record { lines = lines_of text.now; number = 0 } }
+    {
+        Lines {
+            rest: text,
+            number: 0,
+            has_only_ascii: are_ascii(text),
         }
     }
-    Ok(Told {
-        content: None,
-        number: number + 1,
-        rest,
-    })
+
+    /// The number of the line that was read last, from 1 on, and 0 where none was.
+    pub fn number(&self) -> u64
+        ensures number { result ≡ self.now.number }
+        ensures within { result ≤ most_bytes }
+    {
+        self.number
+    }
+
+    /// Reads up to the next line that says something, and answers what its words stand in, or `None` where none is
+    /// left. Each line up to it is short enough and ASCII, or else the answer is the fault of the first that isn't.
+    pub fn next_told(&mut self) -> Result<Option<&'a [u8]>, TextFault>
+        ensures found { IfOk result (λ content. Finds self.old content self.new) }
+        ensures shorter { IfOk result (λ content. OnSome content (length self.new.lines < length self.old.lines)) }
+        ensures fault { IfErr result (λ e. (place : Place) → first_fault place (self.old.number + 1) self.old.lines
+            ≡ Some e) }
+    {
+        while let Some(content) = self.next()? {
+            if !says_nothing(content) {
+                return Ok(Some(content));
+            }
+        }
+        Ok(None)
+    }
+
+    /// Reads the next line, if one is left, whatever it says.
+    fn next(&mut self) -> Result<Option<&'a [u8]>, TextFault>
+        ensures found { IfOk result (λ content. ReadsAny self.old content self.new) }
+        ensures fault { IfErr result (λ e. (place : Place) → first_fault place (self.old.number + 1) self.old.lines
+            ≡ Some e) }
+    {
+        let Some((line, behind)) = next_line(self.rest) else {
+            return Ok(None);
+        };
+        self.rest = behind;
+        self.number += 1;
+        match plain(line, self.has_only_ascii) {
+            Ok(content) => Ok(Some(content)),
+            Err(fault) => Err(TextFault::Line(self.number, fault)),
+        }
+    }
 }
 
-/// What a line's words stand in, where the line isn't too long and is ASCII.
-fn plain(line: Line<'_>) -> Result<&[u8], LineFault>
+/// What a line's words stand in, where the line isn't too long and is ASCII, as may be known.
+fn plain(line: Line<'_>, is_known_ascii: bool) -> Result<&[u8], LineFault>
+    requires { is_known_ascii ≡ true → list_all is_ascii line.bytes.now ≡ true }
     ensures { MatchResult result (λ content. (plain_fault (line_of line.entry) ≡ None) × (content.now ≡ content_of
         (line_of line.entry)))
         (λ fault. plain_fault (line_of line.entry) ≡ Some fault) }
@@ -61,13 +103,15 @@ fn plain(line: Line<'_>) -> Result<&[u8], LineFault>
     if line.bytes.len() > 200 {
         return Err(LineFault::LineTooLong);
     }
-    if !are_ascii(line.bytes) {
+    if !is_known_ascii && !are_ascii(line.bytes) {
         return Err(LineFault::NotAscii);
     }
     Ok(line.content())
 }
 
-/// Whether each byte is ASCII. The loop has no early end, so that the compiler takes many bytes at once.
+/// Whether each byte is ASCII. The loop has no early end, so that the compiler takes many bytes at once. It is kept out
+/// of its callers.
+#[inline(never)]
 fn are_ascii(bytes: &[u8]) -> bool
     ensures { result ≡ list_all is_ascii bytes.now }
 {

@@ -6,5 +6,6 @@ use Rattle.refrun.proofs.graph_text.add_line.Goals as goal
 pub returns-then-not-branch-clause-fault : goal.returns-then-not-branch-clause-fault
 returns-then-not-branch-clause-fault g c =
     fails_by_double (words_of c.args.content.now) c.args.number c.args.graph.now
-    c.add_declaration.new.graph (declared_by c.in-Ok.declaration) c.in_ok-add_declaration.field-0
-    c.in-Ok.ensures.found c.in_ok-add_declaration.ensures.ok c.if-not-branch.true
+    c.add_declaration.new.graph (declared_by c.in-Ok.declaration c.declaration_of.new.fields.items)
+    c.in_ok-add_declaration.field-0
+    c.in-Ok.ensures.found (rw c.as_slice.ensures.value at c.in_ok-add_declaration.ensures.ok) c.if-not-branch.true

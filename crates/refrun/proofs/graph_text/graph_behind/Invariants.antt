@@ -1,9 +1,9 @@
+use Rattle.refrun.proofs.Common.{length}
 use Rattle.refrun.proofs.GraphLines.{HasDeclared}
-use Rattle.refrun.proofs.LineLemmas.{left_in}
 use Rattle.refrun.proofs.graph_text.graph_behind.Given as goal
 
-abbrev pub invariant-loop-told : goal.invariant-loop-told
-invariant-loop-told g l = HasDeclared l.fn.text l.fn.number l.told l.graph
+abbrev pub invariant-loop-graph : goal.invariant-loop-graph
+invariant-loop-graph g l = HasDeclared l.initial.lines l.lines l.graph
 
-abbrev pub decreases-loop-told : goal.decreases-loop-told
-decreases-loop-told g l = left_in l.told.content l.told.rest.now
+abbrev pub decreases-loop-graph : goal.decreases-loop-graph
+decreases-loop-graph g l = length l.lines.lines

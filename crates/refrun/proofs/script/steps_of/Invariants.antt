@@ -1,9 +1,9 @@
-use Rattle.refrun.proofs.LineLemmas.{left_in}
+use Rattle.refrun.proofs.Common.{length}
 use Rattle.refrun.proofs.ScriptLines.{HasRead}
 use Rattle.refrun.proofs.script.steps_of.Given as goal
 
-abbrev pub invariant-loop-told : goal.invariant-loop-told
-invariant-loop-told g l = HasRead l.fn.text l.fn.number l.told l.steps.items
+abbrev pub invariant-loop-steps : goal.invariant-loop-steps
+invariant-loop-steps g l = HasRead l.initial.lines l.lines l.steps.items
 
-abbrev pub decreases-loop-told : goal.decreases-loop-told
-decreases-loop-told g l = left_in l.told.content l.told.rest.now
+abbrev pub decreases-loop-steps : goal.decreases-loop-steps
+decreases-loop-steps g l = length l.lines.lines

@@ -1,7 +1,7 @@
 use Rattle.refrun.proofs.Common.{◌-◌, words_of}
 use Rattle.arrayvec.specs.ArrayVec.{array_vec_len}
 use Rattle.refrun.proofs.Fields.{HasFields}
-use Rattle.refrun.proofs.declarations.fields_of.Given as goal
+use Rattle.refrun.proofs.declarations.read_fields.Given as goal
 
 abbrev pub invariant-loop-rest : goal.invariant-loop-rest
 invariant-loop-rest l = HasFields (words_of l.operands) l.fields.items (words_of l.rest)

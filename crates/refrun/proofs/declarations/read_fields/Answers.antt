@@ -1,6 +1,6 @@
 use Rattle.refrun.proofs.Common.{arith, err_from_is_err_and, words_of}
 use Rattle.refrun.proofs.Fields.{has_bad_field, has_field_more, reads_fields}
-use Rattle.refrun.proofs.declarations.fields_of.Goals as goal
+use Rattle.refrun.proofs.declarations.read_fields.Goals as goal
 
 pub returns-in_err-object_or_none_of-clause-fault : goal.returns-in_err-object_or_none_of-clause-fault
 returns-in_err-object_or_none_of-clause-fault c =
