@@ -1,10 +1,11 @@
 //! The shapes of `ref_bench` in plain Rust, to compare the compilers' code: nanoseconds, the least of nine runs. With
 //! the word `script` it runs a script instead, as `refrun run` does, and with `strength` it prints how strongly each
-//! object of a graph text is reachable, as `refrun strength` does. With `long` it prints a long script, or with
-//! `long 65536` one of a larger heap.
+//! object of a graph text is reachable, as `refrun strength` does; with `ordinary` it does so as plain Rust is written
+//! first. With `long` it prints a long script, or with `long 65536` one of a larger heap.
 
 mod graph;
 mod long_script;
+mod ordinary;
 mod script;
 mod word_runs;
 mod words;
@@ -142,6 +143,7 @@ fn main() {
         [] => measure(),
         ["script"] => end(script::run()),
         ["strength"] => end(graph::run()),
+        ["ordinary"] => ordinary::run().unwrap(),
         ["long"] => long_script::print(1, 4_096),
         ["long", "65536"] => long_script::print(2, 65_536),
         _ => std::process::exit(3),
