@@ -47,7 +47,7 @@ fn graph_behind<A: Allocator + Copy>(alloc: A, lines: &mut Lines<'_>) -> Result<
     Ok(graph)
 }
 
-/// Adds what the line of this number says. Its fields are read into what those of the lines before were read into.
+/// Adds what the line of this number says. Its fields are read into `fields`, in the place of another line's.
 fn add_line<A: Allocator + Copy>(
     graph: &mut Graph<A>,
     content: &[u8],

@@ -15,14 +15,6 @@ use crate::script_step::ScriptStep;
 use ref_base::{QueueNo, SlotNo, Urgency};
 use ref_text::LineFault;
 
-/// The next operand, and the line behind it.
-pub fn operand(line: &[u8]) -> Result<(&[u8], &[u8]), LineFault>
-    ensures { MatchResult result (λ r. words_of line.now ≡ r.0.now ∷ words_of r.1.now)
-        (λ fault. (words_of line.now ≡ []) × (fault ≡ LineFault.MissingWord)) }
-{
-    next_word(line).ok_or(LineFault::MissingWord)
-}
-
 /// Whether no word is left.
 pub fn ends(line: &[u8]) -> Result<(), LineFault>
     ensures { MatchResult result (λ _. words_of line.now ≡ [])
