@@ -14,7 +14,7 @@ use ref_share::{
     Delivery, HeapSeat, Polled, QueueSeat, ShareFault, SharedHeap, SharedQueue, deliver_batch,
     deliver_one, end_queue,
 };
-use std::alloc::{AllocError, Global};
+use std::alloc::Global;
 use std::slice;
 use std::sync::Wait;
 use std::time::Clock;
@@ -72,15 +72,6 @@ const DEATH: [PlainStep; 2] = [
 pub enum By {
     One,
     Batch,
-}
-
-impl By {
-    pub fn name(self, alloc: Global) -> Result<String, AllocError> {
-        match self {
-            By::One => format!(in alloc; "a notice delivered and polled, one by one"),
-            By::Batch => format!(in alloc; "a notice delivered and polled, {MOST} at once"),
-        }
-    }
 }
 
 /// Deliveries of all notices, and the polls that take them.

@@ -23,54 +23,52 @@ pub const WORKER: WorkerNo = WorkerNo(0);
 const DEAD: u32 = CONFIG.cells - 1;
 
 /// Scans, each of which finds a reference to the dead object.
-pub fn scans<R: Clock>(rt: &R, alloc: Global) -> Result<Sample, Fault> {
-    let mut heap = begun(alloc)?;
+pub fn scans<R: Clock>(rt: &R, heap: &mut Heap) -> Result<Sample, Fault> {
+    begin(heap)?;
     let timer = Timer::start(rt);
-    scan_all(&mut heap)?;
+    scan_all(heap)?;
     Ok(timer.stop(rt, u64::from(DEAD)))
 }
 
 /// Looks, each of which clears a reference and lists it as pending.
-pub fn looks<R: Clock>(rt: &R, alloc: Global) -> Result<Sample, Fault> {
-    let mut heap = begun(alloc)?;
-    scan_all(&mut heap)?;
+pub fn looks<R: Clock>(rt: &R, heap: &mut Heap) -> Result<Sample, Fault> {
+    begin(heap)?;
+    scan_all(heap)?;
     let timer = Timer::start(rt);
-    clear_all(&mut heap)?;
+    clear_all(heap)?;
     Ok(timer.stop(rt, u64::from(DEAD)))
 }
 
 /// Hands, each with the release of the hold that it gave.
-pub fn hands<R: Clock>(rt: &R, alloc: Global) -> Result<Sample, Fault> {
-    let mut heap = begun(alloc)?;
-    scan_all(&mut heap)?;
-    clear_all(&mut heap)?;
+pub fn hands<R: Clock>(rt: &R, heap: &mut Heap) -> Result<Sample, Fault> {
+    begin(heap)?;
+    scan_all(heap)?;
+    clear_all(heap)?;
     let timer = Timer::start(rt);
     for _ in 0..DEAD {
         if let Some(notice) = heap.hand(WORKER)? {
-            give_back(&mut heap, notice);
+            give_back(heap, notice);
         }
     }
     Ok(timer.stop(rt, u64::from(DEAD)))
 }
 
 /// All of it, from the mark's end until the notice of each reference was polled and given back.
-pub fn dead_references<R: Clock>(rt: &R, alloc: Global) -> Result<Sample, Fault> {
-    let mut heap = begun(alloc)?;
+pub fn dead_references<R: Clock>(rt: &R, alloc: Global, heap: &mut Heap) -> Result<Sample, Fault> {
+    begin(heap)?;
+    scan_all(heap)?;
     let mut queue = Queue::new(alloc, QUEUE);
-    scan_all(&mut heap)?;
     let timer = Timer::start(rt);
-    clear_all(&mut heap)?;
-    deliver_all(&mut heap, &mut queue)?;
-    take_all(&mut heap, &mut queue);
+    clear_and_deliver(heap, &mut queue)?;
+    take_all(heap, &mut queue);
     Ok(timer.stop(rt, u64::from(DEAD)))
 }
 
-/// A heap in a mark, in which nothing is scanned yet.
-fn begun(alloc: Global) -> Result<Heap, Fault> {
-    let mut heap = Heap::new(alloc, CONFIG, 0)?;
-    fill(&mut heap)?;
+/// Begins a mark of what is made for it, in which nothing is scanned yet.
+fn begin(heap: &mut Heap) -> Result<(), Fault> {
+    fill(heap)?;
     heap.begin(0, Urgency::Normal)?;
-    Ok(heap)
+    Ok(())
 }
 
 /// An object that is dead, and weak references to it, each of which has the one before in a field.
@@ -100,7 +98,8 @@ fn clear_all(heap: &mut Heap) -> Result<(), Fault> {
     heap.end_clear()
 }
 
-fn deliver_all(heap: &mut Heap, queue: &mut Queue<Letter>) -> Result<(), Fault> {
+fn clear_and_deliver(heap: &mut Heap, queue: &mut Queue<Letter>) -> Result<(), Fault> {
+    clear_all(heap)?;
     for _ in 0..DEAD {
         if let Some(notice) = heap.hand(WORKER)? {
             if let Err((fault, _)) = queue.put(Letter::new(notice)) {

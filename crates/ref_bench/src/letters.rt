@@ -81,16 +81,26 @@ fn add_letters(
     count: u32,
     letters: &mut Vec<Letter>,
 ) -> Result<(), Fault> {
-    let (mutator, target, slot) = (MutNo(0), SlotNo(0), SlotNo(1));
     let mut heap = Heap::starting(alloc, CONFIG, 0, start)?;
+    unhook_all(&mut heap, count, letters)
+}
+
+/// Makes so many weak references to one object, and adds the notice of each.
+fn unhook_all(heap: &mut Heap, count: u32, letters: &mut Vec<Letter>) -> Result<(), Fault> {
+    let (mutator, target, slot) = (MutNo(0), SlotNo(0), SlotNo(1));
     heap.alloc_obj(mutator, target, 0)?;
     for _ in 0..count {
         heap.alloc_ref(mutator, slot, Strength::Weak, target, Some(QUEUE), 0)?;
         if let Some(notice) = heap.unhook(mutator, slot)? {
-            if letters.push(Letter(notice)).is_err() {
-                return Err(Fault::NoMemory);
-            }
+            add(letters, notice)?;
         }
     }
     Ok(())
+}
+
+fn add(letters: &mut Vec<Letter>, notice: Notice) -> Result<(), Fault> {
+    match letters.push(Letter(notice)) {
+        Ok(()) => Ok(()),
+        Err(_) => Err(Fault::NoMemory),
+    }
 }

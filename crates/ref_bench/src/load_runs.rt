@@ -5,7 +5,6 @@ use crate::letters::CONFIG;
 use crate::timing::{Sample, Timer};
 use ref_base::{Fault, SlotNo, Strength, Urgency};
 use ref_clear::Heap;
-use std::alloc::Global;
 use std::time::Clock;
 
 /// The slot of the last of the chain.
@@ -26,15 +25,6 @@ pub enum Read {
     Get,
 }
 
-impl Read {
-    pub fn word(self) -> &'static str {
-        match self {
-            Read::Load => "load",
-            Read::Get => "get",
-        }
-    }
-}
-
 /// Which objects are read.
 #[derive(Clone, Copy)]
 pub enum Route {
@@ -44,16 +34,6 @@ pub enum Route {
     Along,
     /// One after the other, each for the first time in a mark.
     AlongInMark,
-}
-
-impl Route {
-    pub fn words(self) -> &'static str {
-        match self {
-            Route::Same => " of one object",
-            Route::Along => ", one after the other",
-            Route::AlongInMark => ", one after the other, first in a mark",
-        }
-    }
 }
 
 /// Which of the objects that are made die before they are read.
@@ -66,15 +46,6 @@ pub enum Dead {
 }
 
 impl Dead {
-    pub fn words(self) -> &'static str {
-        match self {
-            Dead::None => "",
-            Dead::Third => ", a third dead",
-            Dead::Half => ", half dead",
-            Dead::ThreeQuarters => ", three quarters dead",
-        }
-    }
-
     /// Whether the object that was made at this place, from 0 on, is to die.
     fn takes(self, place: u32) -> bool {
         match self {
@@ -89,14 +60,13 @@ impl Dead {
 /// So many times as many reads as there are objects to read, or once as many in a mark.
 pub fn reads<R: Clock>(
     rt: &R,
-    alloc: Global,
+    heap: &mut Heap,
     (read, route, dead): (Read, Route, Dead),
     times: u32,
 ) -> Result<Sample, Fault> {
-    let mut heap = Heap::new(alloc, CONFIG, 0)?;
-    fill(&mut heap, CONFIG.cells, dead)?;
-    cycle(rt, &mut heap)?;
-    timed_reads(rt, &mut heap, (read, route), times)
+    fill(heap, CONFIG.cells, dead)?;
+    cycle(rt, heap)?;
+    timed_reads(rt, heap, (read, route), times)
 }
 
 pub fn timed_reads<R: Clock>(
@@ -165,21 +135,10 @@ pub enum Part {
     Sweep,
 }
 
-impl Part {
-    pub fn words(self) -> &'static str {
-        match self {
-            Part::Begin => "a begin, of 4,096 objects",
-            Part::EndClear => "an end of clearing, half of 4,096 dead",
-            Part::Sweep => "a sweep, half of 4,096 dead, an object",
-        }
-    }
-}
-
 /// What a part of a cycle of a full heap takes, half of whose objects are dead.
-pub fn cycle_part<R: Clock>(rt: &R, alloc: Global, part: Part) -> Result<Sample, Fault> {
-    let mut heap = Heap::new(alloc, CONFIG, 0)?;
-    fill(&mut heap, CONFIG.cells, Dead::Half)?;
-    let samples = cycle(rt, &mut heap)?;
+pub fn cycle_part<R: Clock>(rt: &R, heap: &mut Heap, part: Part) -> Result<Sample, Fault> {
+    fill(heap, CONFIG.cells, Dead::Half)?;
+    let samples = cycle(rt, heap)?;
     Ok(match part {
         Part::Begin => samples.begin,
         Part::EndClear => samples.end_clear,

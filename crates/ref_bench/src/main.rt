@@ -5,6 +5,7 @@
 mod cleaner_runs;
 mod crowds;
 mod delivery_runs;
+mod heap_parts;
 mod heap_runs;
 mod letters;
 mod load_runs;
@@ -29,8 +30,7 @@ const SIZE: u32 = 100;
 fn main(rt: HostRuntime) -> anyhow::Result<()> {
     let words: Vec<String> = env::args(&rt)?.collect(rt.alloc())?;
     let is_once = words.iter().any(|word| word.as_str() == "--once");
-    for measure in ALL {
-        let name = measure.name(rt.alloc())?;
+    for (name, measure) in &ALL {
         if is_once {
             measure.least(&rt, rt.alloc(), 1, 1)?;
             println!(rt; "{name}")?;

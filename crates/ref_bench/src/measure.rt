@@ -3,21 +3,21 @@
 use crate::cleaner_runs::jobs_registered_and_run;
 use crate::crowds::{plain_queue, shared_queue};
 use crate::delivery_runs::{By, deliveries};
-use crate::heap_runs::{dead_references, hands, heap_calls, looks, scans};
-use crate::load_runs::{Dead, Part, Read, Route, cycle_part, reads};
-use crate::move_runs::{Moves, move_part};
+use crate::heap_parts::{HeapPart, heap_part};
+use crate::heap_runs::heap_calls;
+use crate::load_runs::{Dead, Part, Read, Route};
+use crate::move_runs::Moves;
 use crate::queue_runs::{plain_queue_alone, queue_alone, shared_queue_alone};
-use crate::scale_runs::{Scale, Size, scale_part};
+use crate::scale_runs::{Scale, Size};
 use crate::script_run::script_steps;
 use crate::timing::Sample;
 use ref_base::Fault;
-use std::alloc::{AllocError, Global};
+use std::alloc::Global;
 use std::sync::Wait;
 use std::thread::Threads;
 use std::time::Clock;
 
 /// One measure.
-#[derive(Clone, Copy)]
 pub enum Measure {
     /// Puts and polls of a queue.
     Queue,
@@ -29,24 +29,10 @@ pub enum Measure {
     SharedQueueAmong(u32),
     /// The same of a deque and a set under a lock.
     PlainQueueAmong(u32),
-    /// The scan of a reference to a dead object, which a worker finds so.
-    Scan,
-    /// The look at it: it is cleared, and pending then.
-    Look,
-    /// The hand of its notice, and the release of its hold.
-    Hand,
-    /// What one reference to a dead object costs, from the mark's end until its notice was polled and given back.
-    DeadReference,
+    /// Of a heap that one thread has alone.
+    Heap(HeapPart),
     /// A notice's way from a shared heap through its queue.
     Delivery(By),
-    /// Loads or gets by one mutator.
-    Read(Read, Route, Dead),
-    /// A part of a cycle.
-    Cycle(Part),
-    /// Moves of a quarter of the objects.
-    Move(Moves),
-    /// Of a heap of this size.
-    Scale(Scale, Size),
     /// Calls of a shared heap by so many threads.
     HeapCallAmong(u32),
     /// A job that is registered and run by hand, while so many others are registered.
@@ -55,116 +41,194 @@ pub enum Measure {
     ScriptStep,
 }
 
-/// All measures, in the order in which they are printed.
-pub const ALL: [Measure; 47] = [
-    Measure::Queue,
-    Measure::SharedQueue,
-    Measure::PlainQueue,
-    Measure::SharedQueueAmong(1),
-    Measure::PlainQueueAmong(1),
-    Measure::SharedQueueAmong(2),
-    Measure::PlainQueueAmong(2),
-    Measure::SharedQueueAmong(4),
-    Measure::PlainQueueAmong(4),
-    Measure::Scan,
-    Measure::Look,
-    Measure::Hand,
-    Measure::DeadReference,
-    Measure::Delivery(By::One),
-    Measure::Delivery(By::Batch),
-    Measure::Read(Read::Load, Route::Same, Dead::None),
-    Measure::Read(Read::Load, Route::Along, Dead::None),
-    Measure::Read(Read::Load, Route::AlongInMark, Dead::None),
-    Measure::Read(Read::Load, Route::Same, Dead::Third),
-    Measure::Read(Read::Load, Route::Along, Dead::Third),
-    Measure::Read(Read::Get, Route::Same, Dead::None),
-    Measure::Read(Read::Get, Route::Along, Dead::None),
-    Measure::Read(Read::Get, Route::AlongInMark, Dead::None),
-    Measure::Read(Read::Get, Route::Same, Dead::Third),
-    Measure::Read(Read::Get, Route::Along, Dead::Third),
-    Measure::Cycle(Part::Begin),
-    Measure::Cycle(Part::EndClear),
-    Measure::Cycle(Part::Sweep),
-    Measure::Move(Moves::Select),
-    Measure::Move(Moves::Move),
-    Measure::Move(Moves::Load),
-    Measure::Move(Moves::Cycles),
-    Measure::Scale(Scale::Cycle, Size::Usual),
-    Measure::Scale(Scale::Cycle, Size::Largest),
-    Measure::Scale(Scale::Load, Size::Usual),
-    Measure::Scale(Scale::Load, Size::Largest),
-    Measure::Scale(Scale::Get, Size::Usual),
-    Measure::Scale(Scale::Get, Size::Largest),
-    Measure::Scale(Scale::Store, Size::Usual),
-    Measure::Scale(Scale::Store, Size::Largest),
-    Measure::HeapCallAmong(1),
-    Measure::HeapCallAmong(2),
-    Measure::HeapCallAmong(4),
-    Measure::HeapCallAmong(8),
-    Measure::CleanedJob(0),
-    Measure::CleanedJob(3_000),
-    Measure::ScriptStep,
+/// All measures, in the order in which they are printed, each behind what its line says.
+pub const ALL: [(&str, Measure); 47] = [
+    ("queue, a put or poll", Measure::Queue),
+    (
+        "shared queue, one thread, a put or poll",
+        Measure::SharedQueue,
+    ),
+    (
+        "lock, deque and set, one thread, a put or poll",
+        Measure::PlainQueue,
+    ),
+    (
+        "shared queue, 1 putting, 1 taking, a notice",
+        Measure::SharedQueueAmong(1),
+    ),
+    (
+        "lock, deque and set, 1 putting, 1 taking, a notice",
+        Measure::PlainQueueAmong(1),
+    ),
+    (
+        "shared queue, 2 putting, 2 taking, a notice",
+        Measure::SharedQueueAmong(2),
+    ),
+    (
+        "lock, deque and set, 2 putting, 2 taking, a notice",
+        Measure::PlainQueueAmong(2),
+    ),
+    (
+        "shared queue, 4 putting, 4 taking, a notice",
+        Measure::SharedQueueAmong(4),
+    ),
+    (
+        "lock, deque and set, 4 putting, 4 taking, a notice",
+        Measure::PlainQueueAmong(4),
+    ),
+    (
+        "a scan that finds a reference",
+        Measure::Heap(HeapPart::Scan),
+    ),
+    ("a look that clears it", Measure::Heap(HeapPart::Look)),
+    (
+        "a hand of its notice, and its hold released",
+        Measure::Heap(HeapPart::Hand),
+    ),
+    (
+        "a dead reference, mark's end to notice polled",
+        Measure::Heap(HeapPart::DeadReference),
+    ),
+    (
+        "a notice delivered and polled, one by one",
+        Measure::Delivery(By::One),
+    ),
+    (
+        "a notice delivered and polled, 32 at once",
+        Measure::Delivery(By::Batch),
+    ),
+    (
+        "a load of one object",
+        Measure::Heap(HeapPart::Read(Read::Load, Route::Same, Dead::None)),
+    ),
+    (
+        "a load, one after the other",
+        Measure::Heap(HeapPart::Read(Read::Load, Route::Along, Dead::None)),
+    ),
+    (
+        "a load, one after the other, first in a mark",
+        Measure::Heap(HeapPart::Read(Read::Load, Route::AlongInMark, Dead::None)),
+    ),
+    (
+        "a load of one object, a third dead",
+        Measure::Heap(HeapPart::Read(Read::Load, Route::Same, Dead::Third)),
+    ),
+    (
+        "a load, one after the other, a third dead",
+        Measure::Heap(HeapPart::Read(Read::Load, Route::Along, Dead::Third)),
+    ),
+    (
+        "a get of one object",
+        Measure::Heap(HeapPart::Read(Read::Get, Route::Same, Dead::None)),
+    ),
+    (
+        "a get, one after the other",
+        Measure::Heap(HeapPart::Read(Read::Get, Route::Along, Dead::None)),
+    ),
+    (
+        "a get, one after the other, first in a mark",
+        Measure::Heap(HeapPart::Read(Read::Get, Route::AlongInMark, Dead::None)),
+    ),
+    (
+        "a get of one object, a third dead",
+        Measure::Heap(HeapPart::Read(Read::Get, Route::Same, Dead::Third)),
+    ),
+    (
+        "a get, one after the other, a third dead",
+        Measure::Heap(HeapPart::Read(Read::Get, Route::Along, Dead::Third)),
+    ),
+    (
+        "a begin, of 4,096 objects",
+        Measure::Heap(HeapPart::Cycle(Part::Begin)),
+    ),
+    (
+        "an end of clearing, half of 4,096 dead",
+        Measure::Heap(HeapPart::Cycle(Part::EndClear)),
+    ),
+    (
+        "a sweep, half of 4,096 dead, an object",
+        Measure::Heap(HeapPart::Cycle(Part::Sweep)),
+    ),
+    (
+        "a select, of 1,024 objects in 64 pages",
+        Measure::Heap(HeapPart::Move(Moves::Select)),
+    ),
+    (
+        "a move, of 1,024 objects",
+        Measure::Heap(HeapPart::Move(Moves::Move)),
+    ),
+    (
+        "a load, one after the other, each moves",
+        Measure::Heap(HeapPart::Move(Moves::Load)),
+    ),
+    (
+        "two cycles and moves between, of 4,096 objects",
+        Measure::Heap(HeapPart::Move(Moves::Cycles)),
+    ),
+    (
+        "a whole cycle of 4,096 cells, an object",
+        Measure::Heap(HeapPart::Scale(Scale::Cycle, Size::Usual)),
+    ),
+    (
+        "a whole cycle of 65,536 cells, an object",
+        Measure::Heap(HeapPart::Scale(Scale::Cycle, Size::Largest)),
+    ),
+    (
+        "a load of 4,096 cells, one after the other",
+        Measure::Heap(HeapPart::Scale(Scale::Load, Size::Usual)),
+    ),
+    (
+        "a load of 65,536 cells, one after the other",
+        Measure::Heap(HeapPart::Scale(Scale::Load, Size::Largest)),
+    ),
+    (
+        "a get of 4,096 cells, one after the other",
+        Measure::Heap(HeapPart::Scale(Scale::Get, Size::Usual)),
+    ),
+    (
+        "a get of 65,536 cells, one after the other",
+        Measure::Heap(HeapPart::Scale(Scale::Get, Size::Largest)),
+    ),
+    (
+        "a load and a store along 4,096 cells",
+        Measure::Heap(HeapPart::Scale(Scale::Store, Size::Usual)),
+    ),
+    (
+        "a load and a store along 65,536 cells",
+        Measure::Heap(HeapPart::Scale(Scale::Store, Size::Largest)),
+    ),
+    ("shared heap, 1 calling, a call", Measure::HeapCallAmong(1)),
+    ("shared heap, 2 calling, a call", Measure::HeapCallAmong(2)),
+    ("shared heap, 4 calling, a call", Measure::HeapCallAmong(4)),
+    ("shared heap, 8 calling, a call", Measure::HeapCallAmong(8)),
+    (
+        "a job registered and run, 0 others registered",
+        Measure::CleanedJob(0),
+    ),
+    (
+        "a job registered and run, 3000 others registered",
+        Measure::CleanedJob(3_000),
+    ),
+    ("a script, a step", Measure::ScriptStep),
 ];
 
 impl Measure {
-    /// What a line says.
-    pub fn name(self, alloc: Global) -> Result<String, AllocError> {
-        match self {
-            Measure::Queue => format!(in alloc; "queue, a put or poll"),
-            Measure::SharedQueue => format!(in alloc; "shared queue, one thread, a put or poll"),
-            Measure::PlainQueue => format!(in alloc;
-                "lock, deque and set, one thread, a put or poll"
-            ),
-            Measure::SharedQueueAmong(n) => {
-                format!(in alloc; "shared queue, {n} putting, {n} taking, a notice")
-            }
-            Measure::PlainQueueAmong(n) => {
-                format!(in alloc; "lock, deque and set, {n} putting, {n} taking, a notice")
-            }
-            Measure::Scan => format!(in alloc; "a scan that finds a reference"),
-            Measure::Look => format!(in alloc; "a look that clears it"),
-            Measure::Hand => format!(in alloc; "a hand of its notice, and its hold released"),
-            Measure::DeadReference => {
-                format!(in alloc; "a dead reference, mark's end to notice polled")
-            }
-            Measure::Delivery(by) => by.name(alloc),
-            Measure::Read(read, route, dead) => {
-                format!(in alloc; "a {}{}{}", read.word(), route.words(), dead.words())
-            }
-            Measure::Cycle(part) => format!(in alloc; "{}", part.words()),
-            Measure::Move(part) => format!(in alloc; "{}", part.words()),
-            Measure::Scale(part, size) => part.name(alloc, size),
-            Measure::HeapCallAmong(n) => format!(in alloc; "shared heap, {n} calling, a call"),
-            Measure::CleanedJob(n) => {
-                format!(in alloc; "a job registered and run, {n} others registered")
-            }
-            Measure::ScriptStep => format!(in alloc; "a script, a step"),
-        }
-    }
-
     /// One run, in hundredths of the full size.
     pub fn run<R: Threads + Wait + Clock + Sync>(
-        self,
+        &self,
         rt: &R,
         alloc: Global,
         size: u32,
     ) -> Result<Sample, Fault> {
         let notices = size.saturating_mul(1_000);
-        match self {
+        match *self {
             Measure::Queue => queue_alone(rt, alloc, notices),
             Measure::SharedQueue => shared_queue_alone(rt, alloc, notices),
             Measure::PlainQueue => plain_queue_alone(rt, alloc, notices),
             Measure::SharedQueueAmong(n) => shared_queue(rt, alloc, n, notices),
             Measure::PlainQueueAmong(n) => plain_queue(rt, alloc, n, notices),
-            Measure::Scan => scans(rt, alloc),
-            Measure::Look => looks(rt, alloc),
-            Measure::Hand => hands(rt, alloc),
-            Measure::DeadReference => dead_references(rt, alloc),
+            Measure::Heap(part) => heap_part(rt, alloc, part, size),
             Measure::Delivery(by) => deliveries(rt, alloc, by),
-            Measure::Read(read, route, dead) => reads(rt, alloc, (read, route, dead), size),
-            Measure::Cycle(part) => cycle_part(rt, alloc, part),
-            Measure::Move(part) => move_part(rt, alloc, part),
-            Measure::Scale(part, size) => scale_part(rt, alloc, part, size),
             Measure::HeapCallAmong(n) => heap_calls(rt, alloc, n, size.saturating_mul(2_000)),
             Measure::CleanedJob(n) => jobs_registered_and_run(rt, alloc, n),
             Measure::ScriptStep => script_steps(rt, alloc, size.saturating_mul(500)),
@@ -173,7 +237,7 @@ impl Measure {
 
     /// The least of so many runs, in tenths of a nanosecond a call.
     pub fn least<R: Threads + Wait + Clock + Sync>(
-        self,
+        &self,
         rt: &R,
         alloc: Global,
         size: u32,

@@ -6,7 +6,6 @@ use crate::load_runs::{Dead, Read, Route, cycle, fill, timed_reads};
 use crate::timing::{Sample, Timer};
 use ref_base::Fault;
 use ref_clear::Heap;
-use std::alloc::Global;
 use std::time::Clock;
 
 /// What is measured of moves.
@@ -22,25 +21,13 @@ pub enum Moves {
     Cycles,
 }
 
-impl Moves {
-    pub fn words(self) -> &'static str {
-        match self {
-            Moves::Select => "a select, of 1,024 objects in 64 pages",
-            Moves::Move => "a move, of 1,024 objects",
-            Moves::Load => "a load, one after the other, each moves",
-            Moves::Cycles => "two cycles and moves between, of 4,096 objects",
-        }
-    }
-}
-
-pub fn move_part<R: Clock>(rt: &R, alloc: Global, part: Moves) -> Result<Sample, Fault> {
-    let mut heap = Heap::new(alloc, CONFIG, 0)?;
-    fill(&mut heap, CONFIG.cells, Dead::ThreeQuarters)?;
+pub fn move_part<R: Clock>(rt: &R, heap: &mut Heap, part: Moves) -> Result<Sample, Fault> {
+    fill(heap, CONFIG.cells, Dead::ThreeQuarters)?;
     match part {
-        Moves::Select => timed_select(rt, &mut heap),
-        Moves::Move => timed_moves(rt, &mut heap),
-        Moves::Load => loads_that_move(rt, &mut heap),
-        Moves::Cycles => cycles_with_moves(rt, &mut heap),
+        Moves::Select => timed_select(rt, heap),
+        Moves::Move => timed_moves(rt, heap),
+        Moves::Load => loads_that_move(rt, heap),
+        Moves::Cycles => cycles_with_moves(rt, heap),
     }
 }
 

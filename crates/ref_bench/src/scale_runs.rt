@@ -6,9 +6,8 @@ use crate::load_runs::{
     Dead, HERE, LAST, NEWEST, Read, Route, cycle, fill, sweep_all, timed_reads,
 };
 use crate::timing::{Sample, Timer};
-use ref_base::{Config, Fault, SlotNo, Strength, Urgency};
+use ref_base::{Fault, SlotNo, Strength, Urgency};
 use ref_clear::Heap;
-use std::alloc::{AllocError, Global};
 use std::time::Clock;
 
 /// How many reads along the chain are timed.
@@ -27,17 +26,10 @@ pub enum Size {
 }
 
 impl Size {
-    fn cells(self) -> u32 {
+    pub fn cells(self) -> u32 {
         match self {
             Size::Usual => CONFIG.cells,
             Size::Largest => 65_536,
-        }
-    }
-
-    fn words(self) -> &'static str {
-        match self {
-            Size::Usual => "4,096",
-            Size::Largest => "65,536",
         }
     }
 }
@@ -55,32 +47,19 @@ pub enum Scale {
     Store,
 }
 
-impl Scale {
-    pub fn name(self, alloc: Global, size: Size) -> Result<String, AllocError> {
-        let cells = size.words();
-        match self {
-            Scale::Cycle => format!(in alloc; "a whole cycle of {cells} cells, an object"),
-            Scale::Load => format!(in alloc; "a load of {cells} cells, one after the other"),
-            Scale::Get => format!(in alloc; "a get of {cells} cells, one after the other"),
-            Scale::Store => format!(in alloc; "a load and a store along {cells} cells"),
-        }
-    }
-}
-
+/// Of a heap of so many cells, where nothing was made yet.
 pub fn scale_part<R: Clock>(
     rt: &R,
-    alloc: Global,
+    heap: &mut Heap,
     part: Scale,
-    size: Size,
+    cells: u32,
 ) -> Result<Sample, Fault> {
-    let cells = size.cells();
-    let mut heap = Heap::new(alloc, Config { cells, ..CONFIG }, 0)?;
     let times = READS / cells.max(1);
     match part {
-        Scale::Cycle => whole_cycle(rt, &mut heap, cells),
-        Scale::Load => reads_along(rt, &mut heap, cells, Read::Load, times),
-        Scale::Get => reads_along(rt, &mut heap, cells, Read::Get, times),
-        Scale::Store => stores_along(rt, &mut heap, cells, times),
+        Scale::Cycle => whole_cycle(rt, heap, cells),
+        Scale::Load => reads_along(rt, heap, cells, Read::Load, times),
+        Scale::Get => reads_along(rt, heap, cells, Read::Get, times),
+        Scale::Store => stores_along(rt, heap, cells, times),
     }
 }
 
@@ -88,24 +67,9 @@ pub fn scale_part<R: Clock>(
 /// which dies.
 fn whole_cycle<R: Clock>(rt: &R, heap: &mut Heap, cells: u32) -> Result<Sample, Fault> {
     let pairs = cells / 2;
-    for _ in 0..pairs {
-        heap.alloc_obj(MUTATOR, TARGET, 0)?;
-        heap.alloc_ref(MUTATOR, NEWEST, Strength::Weak, TARGET, Some(QUEUE), 1)?;
-        heap.store(MUTATOR, NEWEST, 0, LAST)?;
-        heap.copy(MUTATOR, LAST, NEWEST)?;
-    }
-    heap.drop_slot(MUTATOR, TARGET)?;
-    heap.drop_slot(MUTATOR, NEWEST)?;
+    make_pairs(heap, pairs)?;
     let timer = Timer::start(rt);
-    heap.begin(0, Urgency::Normal)?;
-    for _ in 0..pairs {
-        heap.scan(WORKER)?;
-    }
-    heap.end_mark()?;
-    for _ in 0..pairs {
-        heap.clear_next(WORKER)?;
-    }
-    heap.end_clear()?;
+    clear_pairs(heap, pairs)?;
     for _ in 0..pairs {
         if let Some(notice) = heap.hand(WORKER)? {
             give_back(heap, notice);
@@ -114,6 +78,30 @@ fn whole_cycle<R: Clock>(rt: &R, heap: &mut Heap, cells: u32) -> Result<Sample, 
     sweep_all(heap)?;
     heap.end_sweep()?;
     Ok(timer.stop(rt, u64::from(cells)))
+}
+
+fn make_pairs(heap: &mut Heap, pairs: u32) -> Result<(), Fault> {
+    for _ in 0..pairs {
+        heap.alloc_obj(MUTATOR, TARGET, 0)?;
+        heap.alloc_ref(MUTATOR, NEWEST, Strength::Weak, TARGET, Some(QUEUE), 1)?;
+        heap.store(MUTATOR, NEWEST, 0, LAST)?;
+        heap.copy(MUTATOR, LAST, NEWEST)?;
+    }
+    heap.drop_slot(MUTATOR, TARGET)?;
+    heap.drop_slot(MUTATOR, NEWEST)
+}
+
+/// The cycle until all references are cleared.
+fn clear_pairs(heap: &mut Heap, pairs: u32) -> Result<(), Fault> {
+    heap.begin(0, Urgency::Normal)?;
+    for _ in 0..pairs {
+        heap.scan(WORKER)?;
+    }
+    heap.end_mark()?;
+    for _ in 0..pairs {
+        heap.clear_next(WORKER)?;
+    }
+    heap.end_clear()
 }
 
 fn reads_along<R: Clock>(
