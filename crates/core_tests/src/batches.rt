@@ -2,7 +2,6 @@
 
 use ref_base::{Batch, Done, Fault, MOST_IN_BATCH, Nos, ObjNo, Out, Outs};
 use std::alloc::Global;
-use std::process::Abort;
 use std::test::Fail;
 
 /// Puts these numbers in from 0 on, as far as there is room.
@@ -14,30 +13,37 @@ fn fill(batch: &mut Batch<u32>, count: u32) {
     }
 }
 
-/// The numbers from `first` on come out, so many, and then nothing.
-fn come_out(rt: &impl Abort, batch: &mut Batch<u32>, first: u32, count: u32) {
-    for place in 0..count {
-        let item = first.saturating_add(place);
-        assert_eq!(rt; batch.take_first(), Some(item), "item {place}");
+/// How many come out, from 0 on in order, until nothing is left.
+fn come_out(batch: &mut Batch<u32>) -> u32 {
+    for place in 0..MOST_IN_BATCH as u32 {
+        if batch.is_empty() || batch.take_first() != Some(place) {
+            return place;
+        }
     }
-    assert_eq!(rt; batch.take_first(), None);
-    assert!(rt; batch.is_empty(), "it is empty");
+    MOST_IN_BATCH as u32
+}
+
+/// What comes out where two are put in, one is taken, and one more is put in behind the other: the room goes round.
+fn go_round(batch: &mut Batch<u32>) -> [Option<u32>; 4] {
+    fill(batch, 2);
+    let first = batch.take_first();
+    fill(batch, 1);
+    [
+        first,
+        batch.take_first(),
+        batch.take_first(),
+        batch.take_first(),
+    ]
 }
 
 #[test]
 fn a_batch_has_room_for_32_and_gives_them_in_order(rt: HostRuntime) -> Result<(), Fail> {
     let mut batch = Batch::new(rt.alloc())?;
-    assert!(rt; batch.is_empty(), "it is empty");
     fill(&mut batch, 40);
-    assert_eq!(rt; batch.len(), 32);
-    come_out(&rt, &mut batch, 0, 32);
-    // Its room goes round: two more are put in behind one that stands.
-    fill(&mut batch, 2);
-    assert_eq!(rt; batch.take_first(), Some(0));
-    fill(&mut batch, 1);
-    assert_eq!(rt; batch.len(), 2);
-    assert_eq!(rt; batch.take_first(), Some(1));
-    assert_eq!(rt; batch.take_first(), Some(0));
+    let count = batch.len();
+    let came_out = come_out(&mut batch);
+    assert!(rt; count == 32 && came_out == 32 && batch.is_empty());
+    assert!(rt; go_round(&mut batch) == [Some(0), Some(1), Some(0), None]);
     Ok(())
 }
 
@@ -62,10 +68,10 @@ fn numbers(count: u32) -> Nos {
 #[test]
 fn numbers_stand_in_order(rt: HostRuntime) {
     assert!(rt; numbers(0).as_slice().is_empty());
-    assert_eq!(rt; numbers(2).as_slice(), [ObjNo(1), ObjNo(2)].as_slice());
-    assert_eq!(rt; numbers(40).as_slice().len(), 32);
-    assert_eq!(rt; numbers(40).as_slice().last(), Some(&ObjNo(32)));
-    assert_eq!(rt; numbers(2), numbers(2));
+    assert!(rt; numbers(2).as_slice() == [ObjNo(1), ObjNo(2)].as_slice());
+    assert!(rt; numbers(40).as_slice().len() == 32);
+    assert!(rt; numbers(40).as_slice().last() == Some(&ObjNo(32)));
+    assert!(rt; numbers(2) == numbers(2));
     assert!(rt; numbers(2) != numbers(3), "one more is another list");
     assert!(rt; numbers(0) != numbers(1), "one is not none");
 }
@@ -84,7 +90,7 @@ fn outs() -> Outs {
 #[test]
 fn what_was_added_has_positions_in_a_row(rt: HostRuntime) {
     assert!(rt; Outs::new(7).is_empty(), "nothing was tried");
-    assert_eq!(rt; Outs::new(7).get(0), None);
+    assert!(rt; Outs::new(7).get(0) == None);
     let told = [
         Some(Out::Added(7)),
         Some(Out::Already),
@@ -92,13 +98,13 @@ fn what_was_added_has_positions_in_a_row(rt: HostRuntime) {
         Some(Out::Refused(Fault::NoMemory)),
         None,
     ];
-    assert_eq!(rt; outs().len(), 4);
+    assert!(rt; outs().len() == 4);
     for (place, out) in told.iter().enumerate() {
-        assert_eq!(rt; outs().get(place), *out, "item {place}");
+        assert!(rt; outs().get(place) == *out, "item {place}");
     }
-    assert_eq!(rt; outs(), outs());
+    assert!(rt; outs() == outs());
     assert!(rt; outs() != Outs::new(7), "they tell apart what was tried");
     let mut closed = Outs::new(0);
     closed.push(Done::Closed);
-    assert_eq!(rt; closed.get(0), Some(Out::Closed));
+    assert!(rt; closed.get(0) == Some(Out::Closed));
 }

@@ -54,7 +54,7 @@ fn agree(rt: &impl Abort, alloc: Global, story: &[(Call, Told)], left: u64) {
     while let Some((_, _kept, _job)) = table.take_any() {
         count = u64::saturating_add(count, 1);
     }
-    assert_eq!(rt; count, left, "jobs left");
+    assert!(rt; count == left, "jobs left");
     match table.end() {
         Ok(()) => {}
         Err(_table) => unreachable!(),

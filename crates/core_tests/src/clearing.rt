@@ -1,7 +1,6 @@
 //! A whole heap, call by call.
 
 mod chains;
-mod cycles;
 mod deaths;
 mod memory;
 mod refusals;
@@ -33,8 +32,6 @@ enum Call {
     Give(Give),
     Ask(Ask),
     Keep(Keep),
-    /// From here on the calls are the other heap's.
-    TurnToOther,
 }
 
 /// A call that a mutator makes.
@@ -103,8 +100,8 @@ enum Ask {
     PendingOf(u32, usize),
 }
 
-/// A call that takes a hold or gives one back. A story has a hand, which has one hold at most, and two pockets, which
-/// have one each: what is to be given back later waits there.
+/// A call that takes a hold or gives one back. A story has a hand and a pocket, which have one hold at most each: what is
+/// to be given back later waits in the pocket.
 #[derive(Clone, Copy)]
 enum Keep {
     /// Takes a hold of what this slot holds into the hand.
@@ -114,9 +111,8 @@ enum Keep {
     Release,
     /// What the hand has.
     InHand,
-    /// What the hand has goes into this pocket, and what that had into the hand, which is told.
-    FirstPocket,
-    SecondPocket,
+    /// What the hand has goes into the pocket, and what that had into the hand, which is told.
+    Pocket,
 }
 
 fn done_with(looked: Looked) -> Told {
@@ -248,8 +244,7 @@ fn asked<A: Allocator + Copy>(heap: &Heap<A>, call: Ask) -> Told {
 /// What a story keeps of holds.
 struct Hands {
     hand: Option<Hold>,
-    first_pocket: Option<Hold>,
-    second_pocket: Option<Hold>,
+    pocket: Option<Hold>,
 }
 
 fn kept<A: Allocator + Copy>(heap: &mut Heap<A>, hands: &mut Hands, call: Keep) -> Told {
@@ -268,21 +263,16 @@ fn kept<A: Allocator + Copy>(heap: &mut Heap<A>, hands: &mut Hands, call: Keep) 
             released(&mut hands.hand, heap.release(hold))
         }
         Keep::InHand => shown(&hands.hand),
-        Keep::FirstPocket => {
-            mem::swap(&mut hands.hand, &mut hands.first_pocket);
-            shown(&hands.hand)
-        }
-        Keep::SecondPocket => {
-            mem::swap(&mut hands.hand, &mut hands.second_pocket);
+        Keep::Pocket => {
+            mem::swap(&mut hands.hand, &mut hands.pocket);
             shown(&hands.hand)
         }
     }
 }
 
-/// The two heaps of a story, and what it keeps of their holds.
+/// The heap of a story, and what it keeps of holds.
 struct Bench<A: Allocator> {
     heap: Heap<A>,
-    other: Heap<A>,
     hands: Hands,
 }
 
@@ -293,10 +283,6 @@ fn answer<A: Allocator + Copy>(bench: &mut Bench<A>, call: Call) -> Told {
         Call::Give(call) => given(&mut bench.heap, &mut bench.hands.hand, call),
         Call::Ask(call) => asked(&bench.heap, call),
         Call::Keep(call) => kept(&mut bench.heap, &mut bench.hands, call),
-        Call::TurnToOther => {
-            mem::swap(&mut bench.heap, &mut bench.other);
-            Told::Done
-        }
     }
 }
 
@@ -316,42 +302,31 @@ const TWO_WORKERS: Config = Config {
     ..CONFIG
 };
 
-/// Makes a story's calls in turn, each of which has its answer. They go to the first heap, where they don't turn. Both
-/// heaps end with the story.
+/// Makes a story's calls in turn, each of which has its answer, with this in the pocket. The heap ends with the story.
 fn make_calls<A: Allocator + Copy>(
     rt: &impl Abort,
     heap: Heap<A>,
-    other: Heap<A>,
+    pocket: Option<Hold>,
     story: &[(Call, Told)],
 ) {
-    let hands = Hands {
-        hand: None,
-        first_pocket: None,
-        second_pocket: None,
-    };
-    let mut bench = Bench { heap, other, hands };
+    let hands = Hands { hand: None, pocket };
+    let mut bench = Bench { heap, hands };
     for (row, &(call, want)) in story.iter().enumerate() {
         expect(rt, row, answer(&mut bench, call), want);
     }
     finish(bench);
 }
 
-/// Both heaps end, and what is still held is leaked.
+/// The heap ends, and what is still held is leaked.
 fn finish<A: Allocator + Copy>(bench: Bench<A>) {
-    let Bench { heap, other, hands } = bench;
+    let Bench { heap, hands } = bench;
     heap.end();
-    other.end();
-    let Hands {
-        hand,
-        first_pocket,
-        second_pocket,
-    } = hands;
+    let Hands { hand, pocket } = hands;
     leak(hand);
-    leak(first_pocket);
-    leak(second_pocket);
+    leak(pocket);
 }
 
-/// The same, on heap 1, which is so large and begins so; the other heap is number 2.
+/// The same, on heap 1, which is so large and begins so, and with nothing in the pocket.
 fn agree_from(
     rt: &impl Abort,
     alloc: Global,
@@ -360,8 +335,7 @@ fn agree_from(
     story: &[(Call, Told)],
 ) -> Result<(), Fail> {
     let heap = Heap::starting(alloc, config, 1, start)?;
-    let other = Heap::new(alloc, config, 2)?;
-    make_calls(rt, heap, other, story);
+    make_calls(rt, heap, None, story);
     Ok(())
 }
 

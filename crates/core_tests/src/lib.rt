@@ -3,13 +3,11 @@
 //! the world of them.
 //!
 //! A story is a table, whose rows are calls, each with its answer, and each subject has one runner, which makes a
-//! story's calls in turn. A failure prints the row, counted from 0. Where memory runs out, a call is made with each of
-//! its requests refused in turn (`scarce`). Callers whose contracts say what they see, each proved and run once, stand
-//! in `uses`.
+//! story's calls in turn. A failure prints the row, counted from 0. What a script can say stands in the program
+//! `refrun_cases`. Where memory runs out, a call is made with each of its requests refused in turn (`scarce`). Callers
+//! whose contracts say what they see, each proved and run once, stand in `uses`.
 #![tactic(auto)]
 
-#[cfg(test)]
-mod arena;
 #[cfg(test)]
 mod batches;
 #[cfg(test)]

@@ -6,7 +6,7 @@ use std::process::Abort;
 /// Each of these is checked with this answer.
 fn agree(rt: &impl Abort, table: &[Config], want: Result<(), Fault>) {
     for config in table {
-        assert_eq!(rt; config.check(), want, "{config:?}");
+        assert!(rt; config.check() == want, "{config:?}");
     }
 }
 
@@ -69,7 +69,7 @@ fn a_soft_reference_is_kept_within_the_span(rt: HostRuntime) {
     for (row, &(clock, stamp, span, want)) in table.iter().enumerate() {
         // Which `keeps` asks of its callers.
         assert!(rt; stamp <= clock, "row {row}");
-        assert_eq!(rt; keeps(clock, stamp, span), want, "row {row}");
+        assert!(rt; keeps(clock, stamp, span) == want, "row {row}");
     }
 }
 
@@ -90,7 +90,7 @@ fn a_scaled_span_is_rounded_down(rt: HostRuntime) {
     for (row, &(span, free, cells, want)) in table.iter().enumerate() {
         // Which `scaled` asks of its callers.
         assert!(rt; cells >= 1 && free <= cells, "row {row}");
-        assert_eq!(rt; scaled(span, free, cells), want, "row {row}");
+        assert!(rt; scaled(span, free, cells) == want, "row {row}");
     }
 }
 
@@ -109,7 +109,7 @@ fn the_rule_settles_the_span_of_a_cycle(rt: HostRuntime) {
             urgency: Urgency::Urgent,
             span: want,
         };
-        assert_eq!(rt; policy, wanted, "{rule:?}");
-        assert_eq!(rt; Policy::first(config).span, 10, "{rule:?}");
+        assert!(rt; policy == wanted, "{rule:?}");
+        assert!(rt; Policy::first(config).span == 10, "{rule:?}");
     }
 }

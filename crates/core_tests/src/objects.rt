@@ -12,7 +12,6 @@ use crate::told::{
 use ref_base::{Config, Fault, MutNo, ObjNo, QueueNo, SlotNo, SpanRule, Strength};
 use ref_objects::{Colour, Entry, Hold, Objects, Reference, Stage, Start, Worklist};
 use std::alloc::{Allocator, Global};
-use std::mem;
 use std::process::Abort;
 use std::test::Fail;
 
@@ -26,8 +25,6 @@ enum Call {
     Set(Set),
     Ask(Ask),
     Keep(Keep),
-    /// From here on the calls are the other heap's.
-    TurnToOther,
 }
 
 /// A call that changes a heap, and has an answer.
@@ -348,10 +345,9 @@ fn kept<A: Allocator + Copy>(heap: &mut Objects<A>, hand: &mut Option<Hold>, cal
     }
 }
 
-/// The two heaps of a story, what was condemned last, and its hand.
+/// The heap of a story, what was condemned last, and its hand.
 struct Bench<A: Allocator> {
     heap: Objects<A>,
-    other: Objects<A>,
     condemned: Worklist<A>,
     hand: Option<Hold>,
 }
@@ -362,10 +358,6 @@ fn answer<A: Allocator + Copy>(bench: &mut Bench<A>, call: Call) -> Told {
         Call::Set(call) => after_setting(&mut bench.heap, &mut bench.condemned, call),
         Call::Ask(call) => asked(&bench.heap, call),
         Call::Keep(call) => kept(&mut bench.heap, &mut bench.hand, call),
-        Call::TurnToOther => {
-            mem::swap(&mut bench.heap, &mut bench.other);
-            Told::Done
-        }
     }
 }
 
@@ -381,33 +373,31 @@ const fn config(cells: u32) -> Config {
     }
 }
 
-/// Makes a story's calls in turn, each of which has its answer. They go to the first heap, where they don't turn.
+/// Makes a story's calls in turn, each of which has its answer, with this in the hand.
 fn make_calls<A: Allocator + Copy>(
     rt: &impl Abort,
     heap: Objects<A>,
-    other: Objects<A>,
     condemned: Worklist<A>,
+    hand: Option<Hold>,
     story: &[(Call, Told)],
 ) {
     let mut bench = Bench {
         heap,
-        other,
         condemned,
-        hand: None,
+        hand,
     };
     for (row, &(call, want)) in story.iter().enumerate() {
         expect(rt, row, answer(&mut bench, call), want);
     }
     let Bench {
         heap: _heap,
-        other: _other,
         condemned: _condemned,
         hand,
     } = bench;
     leak(hand);
 }
 
-/// The same, on heap 1, which is so large and begins so; the other heap is number 2.
+/// The same, on heap 1, which is so large and begins so, and with nothing in the hand.
 fn agree_from(
     rt: &impl Abort,
     alloc: Global,
@@ -416,9 +406,8 @@ fn agree_from(
     story: &[(Call, Told)],
 ) -> Result<(), Fail> {
     let heap = Objects::starting(alloc, config, 1, start)?;
-    let other = Objects::new(alloc, config, 2)?;
     let condemned = Worklist::new(alloc, config.cells as usize)?;
-    make_calls(rt, heap, other, condemned, story);
+    make_calls(rt, heap, condemned, None, story);
     Ok(())
 }
 

@@ -117,8 +117,8 @@ fn agree(rt: &impl Abort, alloc: Global, story: &[(Call, Told)], left: &[Slip]) 
     let mut queue = Queue::new(alloc, QueueNo(0));
     make_calls(rt, alloc, &mut queue, story);
     let given = queue.end();
-    assert_eq!(rt; given.len(), left.len(), "so many are left");
+    assert!(rt; given.len() == left.len(), "so many are left");
     for (place, want) in left.iter().enumerate() {
-        assert_eq!(rt; given.get(place), Some(want), "place {place}");
+        assert!(rt; given.get(place) == Some(want), "place {place}");
     }
 }

@@ -29,7 +29,7 @@ const NO_WORDS: [u64; 8] = [
 #[test]
 fn colours_have_numbers(rt: HostRuntime) {
     for (colour, want) in [(Colour::A, 1), (Colour::B, 2), (Colour::R, 3)] {
-        assert_eq!(rt; colour.number(), want, "{colour:?}");
+        assert!(rt; colour.number() == want, "{colour:?}");
     }
 }
 
@@ -38,8 +38,8 @@ fn a_word_is_of_its_parts(rt: HostRuntime) {
     for (row, &(colour, page, cell, word)) in WORDS.iter().enumerate() {
         // Which `word_of` asks of its callers.
         assert!(rt; page >= 1 && cell < 64, "row {row}");
-        assert_eq!(rt; word_of(colour, page, cell), word, "row {row}");
-        assert_eq!(rt; parts_of(word), Some((colour, page, cell)), "row {row}");
+        assert!(rt; word_of(colour, page, cell) == word, "row {row}");
+        assert!(rt; parts_of(word) == Some((colour, page, cell)), "row {row}");
     }
 }
 
@@ -47,7 +47,7 @@ fn a_word_is_of_its_parts(rt: HostRuntime) {
 fn a_word_has_its_own_colour_alone(rt: HostRuntime) {
     for (row, &(own, _, _, word)) in WORDS.iter().enumerate() {
         for colour in [Colour::A, Colour::B, Colour::R] {
-            assert_eq!(rt; has_colour(word, colour), colour == own, "row {row}");
+            assert!(rt; has_colour(word, colour) == (colour == own), "row {row}");
         }
     }
 }
@@ -60,7 +60,7 @@ fn null_has_no_colour(rt: HostRuntime) {
 }
 
 fn is_no_word(rt: &impl Abort, number: u64) {
-    assert_eq!(rt; parts_of(number), None, "{number}");
+    assert!(rt; parts_of(number) == None, "{number}");
 }
 
 #[test]
@@ -95,8 +95,8 @@ fn a_word_leads_to_a_place(rt: HostRuntime) {
         assert!(rt; place < (1 << 30) - 64, "row {row}");
         for colour in [Colour::A, Colour::B, Colour::R] {
             let word = Word::of_place(colour, place);
-            assert_eq!(rt; word.place(), Some(u64::from(place)), "row {row}");
-            assert_eq!(rt; word.index(), place as usize, "row {row}");
+            assert!(rt; word.place() == Some(u64::from(place)), "row {row}");
+            assert!(rt; word.index() == place as usize, "row {row}");
             assert!(rt; word.has_colour(colour) && !word.is_null(), "row {row}");
         }
     }
@@ -107,17 +107,17 @@ fn its_bits_tell_the_address_of_its_page(rt: HostRuntime) {
     for (row, &(place, address, want)) in PLACES.iter().enumerate() {
         assert!(rt; place < (1 << 30) - 64, "row {row}");
         let word = Word::of_place(Colour::R, place);
-        assert_eq!(rt; word.bits_at(address), want, "row {row}");
+        assert!(rt; word.bits_at(address) == want, "row {row}");
         let in_a = word.in_colour(Colour::A);
-        assert_eq!(rt; in_a.bits_at(address), want - (2 << 62), "row {row}");
+        assert!(rt; in_a.bits_at(address) == want - (2 << 62), "row {row}");
     }
 }
 
 #[test]
 fn null_leads_nowhere(rt: HostRuntime) {
-    assert_eq!(rt; Word::null().place(), None);
+    assert!(rt; Word::null().place() == None);
     assert!(rt; Word::null().index() >= 1 << 63);
     for address in [0, 1, 2, u32::MAX] {
-        assert_eq!(rt; Word::null().bits_at(address), 0, "{address}");
+        assert!(rt; Word::null().bits_at(address) == 0, "{address}");
     }
 }

@@ -5,7 +5,7 @@ ghost use Rattle.ref_share.specs.QueueSeats.{IsQueueSeat};
 ghost use Rattle.std.specs.Mem.{FitsInMemory};
 ghost use Rattle.thread_tests.specs.QueueRows.{queue_row};
 
-use calls::{Call, Do, Seats, Told, answer};
+use calls::{Call, Do, Seats, Told, answer, expect};
 use ref_base::{Config, Fault, MutNo, ObjNo, QueueNo, Reply, SpanRule, WorkerNo};
 use ref_clear::Notice;
 use ref_queue::Queue;
@@ -92,7 +92,7 @@ pub fn make_calls<R: Wait + Abort, A: Allocator + Copy>(
     ensures { IsHeapSeat heap.now seats.new.heap × IsQueueSeat queue.now seats.new.queue }
 {
     for (row, &(call, want)) in story.iter().enumerate() {
-        assert_eq!(rt; answer(rt, heap, queue, seats, call), want, "row {row}");
+        expect(rt, row, answer(rt, heap, queue, seats, call), want);
     }
 }
 
@@ -126,7 +126,23 @@ fn quiet<'a>() -> Story<'a> {
     }
 }
 
-/// The story's calls in turn, each of which has its answer, and what is left then.
+/// The story's calls in turn, each of which has its answer.
+fn tell<R: Wait + Abort>(
+    rt: &R,
+    heap: &SharedHeap,
+    queue: &SharedQueue,
+    seats: &mut Seats,
+    story: &Story,
+)
+    requires { IsHeapSeat heap.now seats.old.heap × IsQueueSeat queue.now seats.old.queue }
+    ensures { IsHeapSeat heap.now seats.new.heap × IsQueueSeat queue.now seats.new.queue }
+{
+    make_calls(rt, heap, queue, seats, story.calls);
+    make_calls(rt, heap, queue, seats, story.then);
+    assert!(rt; heap.config() == CONFIG && queue.number() == story.queue);
+}
+
+/// The same on a new heap and a new queue, and what is left then.
 fn agree<R: Wait + Abort>(rt: &R, alloc: Global, story: &Story) -> Result<(), Fail> {
     let (heap, heap_seat) = SharedHeap::starting(alloc, CONFIG, 0, story.heap_first)?;
     let (queue, queue_seat) = SharedQueue::starting(alloc, story.queue, story.first)?;
@@ -134,10 +150,7 @@ fn agree<R: Wait + Abort>(rt: &R, alloc: Global, story: &Story) -> Result<(), Fa
         heap: heap_seat,
         queue: queue_seat,
     };
-    make_calls(rt, &heap, &queue, &mut seats, story.calls);
-    make_calls(rt, &heap, &queue, &mut seats, story.then);
-    assert_eq!(rt; heap.config(), CONFIG);
-    assert_eq!(rt; queue.number(), story.queue);
+    tell(rt, &heap, &queue, &mut seats, story);
     let Seats {
         heap: heap_seat,
         queue: queue_seat,
@@ -173,8 +186,8 @@ fn end_finished(
 }
 
 fn have_numbers(rt: &impl Abort, found: &[ObjNo], want: &[u32]) {
-    assert_eq!(rt; found.len(), want.len());
+    assert!(rt; found.len() == want.len());
     for (place, &no) in want.iter().enumerate() {
-        assert_eq!(rt; found.get(place), Some(&ObjNo(no)), "place {place}");
+        assert!(rt; found.get(place) == Some(&ObjNo(no)), "place {place}");
     }
 }

@@ -98,13 +98,11 @@ fn hand_all<A: Allocator + Copy>(rt: &impl Abort, bench: &mut Bench<A>, worker: 
 #[test]
 fn eight_workers_hand_on_in_the_order_of_their_scans(rt: HostRuntime) -> Result<(), Fail> {
     let heap = Heap::new(rt.alloc(), EIGHT_WORKERS, 1)?;
-    let other = Heap::new(rt.alloc(), CONFIG, 2)?;
     let hands = Hands {
         hand: None,
-        first_pocket: None,
-        second_pocket: None,
+        pocket: None,
     };
-    let mut bench = Bench { heap, other, hands };
+    let mut bench = Bench { heap, hands };
     refer_to_one(&rt, &mut bench);
     let begin = Collect(Begin(1, Urgency::Normal));
     expect(&rt, 0, answer(&mut bench, begin), Told::Began(1));

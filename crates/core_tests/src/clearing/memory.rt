@@ -12,9 +12,9 @@ use super::Give::{Hand, Unhook};
 use super::Keep::{Adopt, Hold, Release};
 use super::Mutate::{Clear, CopySlot, DropSlot, Get, Load, New, NewMany, Refer, RefersTo, Store};
 use super::{Call, make_calls};
-use crate::arena::{all_that_is_left, limited};
 use crate::told::Told;
 use bumpalo::Bump;
+use rationed::Rationed;
 use ref_base::Cause::{Cycle, Own};
 use ref_base::{Config, Fault, Phase, SpanRule, Strength, Urgency, WorkerNo};
 use ref_clear::Heap;
@@ -33,18 +33,11 @@ const SMALL: Config = Config {
     rule: SpanRule::Fixed,
 };
 
-/// How many bytes a heap of this size takes: 5,920 for each of its two pages, 16 for each cell of its size and for
-/// each worker, and 64 for the slots of its mutator.
-const SMALL_HEAP: usize = 2 * 5_920 + 4 * 16 + 2 * 16 + 64;
-
 /// The same, with cells that fill two pages: so there are four.
 const TWO_PAGES: Config = Config {
     cells: 128,
     ..SMALL
 };
-
-/// How many bytes a heap of this size takes.
-const TWO_PAGES_HEAP: usize = 4 * 5_920 + 128 * 16 + 2 * 16 + 64;
 
 /// Each call once, but for those of moves.
 const EACH_CALL: [(Call, Told); 41] = [
@@ -128,36 +121,35 @@ const EACH_MOVE: [(Call, Told); 23] = [
     (Ask(ObjectCount), Told::Count(2)),
 ];
 
-/// Makes these calls, where nothing is left of the arena behind the two heaps.
+/// Makes these calls of a new heap, none of which asks for memory.
 fn make_without_memory(
     rt: &impl Abort,
-    memory: &Bump,
+    alloc: Global,
     config: Config,
     calls: &[(Call, Told)],
 ) -> Result<(), Fail> {
-    let heap = Heap::new(memory, config, 1)?;
-    let other = Heap::new(memory, config, 2)?;
-    let _rest = all_that_is_left(rt, memory)?;
-    make_calls(rt, heap, other, calls);
+    let memory = Rationed::new(alloc);
+    let heap = Heap::new(&memory, config, 1)?;
+    memory.ration(0);
+    make_calls(rt, heap, None, calls);
+    assert!(rt; !memory.lift(), "no request is refused");
     Ok(())
 }
 
 #[test]
 fn after_new_no_call_takes_memory(rt: HostRuntime) -> Result<(), Fail> {
-    let memory = limited(rt.alloc(), 2 * SMALL_HEAP)?;
-    make_without_memory(&rt, &memory, SMALL, &EACH_CALL)
+    make_without_memory(&rt, rt.alloc(), SMALL, &EACH_CALL)
 }
 
 #[test]
 fn no_call_of_moves_takes_memory(rt: HostRuntime) -> Result<(), Fail> {
-    let memory = limited(rt.alloc(), 2 * TWO_PAGES_HEAP)?;
-    make_without_memory(&rt, &memory, TWO_PAGES, &EACH_MOVE)
+    make_without_memory(&rt, rt.alloc(), TWO_PAGES, &EACH_MOVE)
 }
 
 #[test]
-fn a_heap_out_of_limits_is_refused_before_memory_is_taken(rt: HostRuntime) -> Result<(), Fail> {
-    let none = limited(rt.alloc(), 0)?;
-    let _rest = all_that_is_left(&rt, &none)?;
+fn a_heap_out_of_limits_is_refused_before_memory_is_taken(rt: HostRuntime) {
+    let none = Rationed::new(rt.alloc());
+    none.ration(0);
     let refused = [
         (SMALL, Fault::NoMemory),
         (
@@ -176,14 +168,16 @@ fn a_heap_out_of_limits_is_refused_before_memory_is_taken(rt: HostRuntime) -> Re
         ),
     ];
     for (row, &(config, want)) in refused.iter().enumerate() {
-        assert_eq!(rt; Heap::new(&none, config, 1).err(), Some(want), "row {row}");
+        assert!(rt;
+            Heap::new(&none, config, 1).err() == Some(want),
+            "row {row}"
+        );
     }
-    Ok(())
 }
 
 /// How many bytes a heap of 4,096 cells and of so many workers takes.
 fn taken_by(alloc: Global, workers: u32) -> Result<usize, Fail> {
-    let memory = limited(alloc, 2_097_152)?;
+    let memory = Bump::try_with_capacity(alloc, 2_097_152)?;
     let before = memory.chunk_capacity();
     let config = Config {
         workers,
@@ -205,15 +199,12 @@ fn a_heap_takes_5_920_bytes_a_page_16_a_cell_and_16_a_worker(rt: HostRuntime) ->
     // Beside them are the 16 slots of one mutator.
     let slots = 64;
     let without_workers = pages + lists + slots;
-    assert_eq!(rt;
-        taken_by(rt.alloc(), 1)?,
-        without_workers + 16,
-        "one worker"
-    );
-    assert_eq!(rt;
-        taken_by(rt.alloc(), 8)?,
-        without_workers + 8 * 16,
-        "eight workers"
-    );
+    for (workers, of_workers) in [(1, 16), (8, 8 * 16)] {
+        let taken = taken_by(rt.alloc(), workers)?;
+        assert!(rt;
+            taken == without_workers + of_workers,
+            "{workers} workers: {taken}"
+        );
+    }
     Ok(())
 }

@@ -1,18 +1,18 @@
 //! What is refused, in which order, and that nothing is changed then.
 
-use super::Ask::{
-    Clock, CycleNo, HoldCount, InPhase, KindOf, ObjectCount, PendingOf, QueueOf, SlotOf,
-};
-use super::Call::{Ask, Collect, Give, Keep, Mutate, TurnToOther};
+use super::Ask::{Clock, CycleNo, HoldCount, InPhase, PendingOf, QueueOf, SlotOf};
+use super::Call::{Ask, Collect, Give, Keep, Mutate};
 use super::Collect::{Begin, ClearNext, EndClear, EndMark, EndSweep, Scan, Sweep};
 use super::Give::{Hand, Unhook, UnhookOf};
-use super::Keep::{Adopt, FirstPocket, Hold, InHand, Release};
+use super::Keep::{Adopt, InHand, Pocket, Release};
 use super::Mutate::{DropSlot, New, Refer, RefersTo};
-use super::{CONFIG, agree, agree_from};
+use super::{CONFIG, agree, agree_from, make_calls};
+use crate::hand::foreign;
 use crate::told::Told;
 use ref_base::Cause::{Cycle, Own};
 use ref_base::{Fault, Phase, Strength, Urgency, WorkerNo};
-use ref_objects::{Kind, Start};
+use ref_clear::Heap;
+use ref_objects::Start;
 use std::test::Fail;
 
 const NORMAL: Urgency = Urgency::Normal;
@@ -30,100 +30,6 @@ const CLOCK_BACK: Told = Told::Refused(Fault::ClockBack);
 const FOREIGN: Told = Told::Refused(Fault::ForeignHold);
 
 const SPENT: Told = Told::Refused(Fault::NumbersSpent);
-
-#[test]
-fn each_step_has_its_phase(rt: HostRuntime) -> Result<(), Fail> {
-    let story = [
-        (Collect(EndMark), WRONG_PHASE),
-        (Collect(ClearNext(0)), WRONG_PHASE),
-        (Collect(EndClear), WRONG_PHASE),
-        (Collect(Sweep(0)), WRONG_PHASE),
-        (Collect(EndSweep), WRONG_PHASE),
-        (Ask(InPhase), Told::In(Phase::Idle)),
-        (Collect(Begin(3, NORMAL)), Told::Began(1)),
-        (Collect(Begin(0, NORMAL)), WRONG_PHASE),
-        (Collect(ClearNext(0)), WRONG_PHASE),
-        (Collect(EndClear), WRONG_PHASE),
-        (Collect(Sweep(0)), WRONG_PHASE),
-        (Collect(EndSweep), WRONG_PHASE),
-        (Ask(InPhase), Told::In(Phase::Marking)),
-        (Collect(EndMark), Told::Doomed(0)),
-        (Collect(Begin(4, NORMAL)), WRONG_PHASE),
-        (Collect(Scan(0)), WRONG_PHASE),
-        (Collect(EndMark), WRONG_PHASE),
-        (Collect(Sweep(0)), WRONG_PHASE),
-        (Collect(EndSweep), WRONG_PHASE),
-        (Ask(InPhase), Told::In(Phase::Clearing)),
-        (Collect(EndClear), Told::Done),
-        (Collect(Begin(4, NORMAL)), WRONG_PHASE),
-        (Collect(Scan(0)), WRONG_PHASE),
-        (Collect(ClearNext(0)), WRONG_PHASE),
-        (Collect(EndClear), WRONG_PHASE),
-        (Ask(InPhase), Told::In(Phase::Sweeping)),
-        (Collect(EndSweep), Told::Done),
-        (Collect(EndSweep), WRONG_PHASE),
-        (Collect(Begin(2, NORMAL)), CLOCK_BACK),
-        (Ask(InPhase), Told::In(Phase::Idle)),
-        (Ask(CycleNo), Told::Count(1)),
-        (Ask(Clock), Told::Time(3)),
-        (Collect(Begin(3, NORMAL)), Told::Began(2)),
-    ];
-    agree(&rt, rt.alloc(), CONFIG, &story)
-}
-
-#[test]
-fn no_cycle_goes_on_while_work_is_left(rt: HostRuntime) -> Result<(), Fail> {
-    let story = [
-        (Mutate(New(0, 0)), Told::Object(1)),
-        (Mutate(Refer(WEAK, 1, 0, Some(0), 0)), Told::Object(2)),
-        (Mutate(DropSlot(0)), Told::Done),
-        (Collect(Begin(5, NORMAL)), Told::Began(1)),
-        (Collect(Scan(0)), Told::Scanned(2)),
-        (Collect(Scan(0)), Told::Nothing),
-        (Collect(EndMark), Told::Doomed(1)),
-        (Collect(EndClear), Told::Refused(Fault::ClearingLeft)),
-        (Ask(InPhase), Told::In(Phase::Clearing)),
-        (Collect(ClearNext(0)), Told::Cleared(2)),
-        (Collect(EndClear), Told::Done),
-        (Collect(EndSweep), Told::Refused(Fault::SweepLeft)),
-        (Ask(InPhase), Told::In(Phase::Sweeping)),
-        (Ask(KindOf(1)), Told::Kind(Kind::Plain)),
-        (Collect(Sweep(0)), Told::Swept(1)),
-        (Collect(EndSweep), Told::Done),
-        (Give(Hand(0)), Told::Notice(2, 0, Cycle(1, FIRST_WORKER))),
-    ];
-    agree(&rt, rt.alloc(), CONFIG, &story)
-}
-
-#[test]
-fn a_worker_that_is_not_there_does_nothing(rt: HostRuntime) -> Result<(), Fail> {
-    let story = [
-        (Mutate(New(0, 0)), Told::Object(1)),
-        (Mutate(Refer(WEAK, 1, 0, Some(0), 0)), Told::Object(2)),
-        (Mutate(DropSlot(0)), Told::Done),
-        (Collect(Scan(1)), NO_ACTOR),
-        (Collect(ClearNext(1)), NO_ACTOR),
-        (Collect(Sweep(1)), NO_ACTOR),
-        (Give(Hand(1)), NO_ACTOR),
-        (Collect(Begin(5, NORMAL)), Told::Began(1)),
-        (Collect(Scan(1)), NO_ACTOR),
-        (Collect(Scan(0)), Told::Scanned(2)),
-        (Collect(EndMark), Told::Doomed(1)),
-        (Collect(ClearNext(1)), NO_ACTOR),
-        (Ask(PendingOf(0, 0)), Told::Nothing),
-        (Collect(ClearNext(0)), Told::Cleared(2)),
-        (Collect(EndClear), Told::Done),
-        (Collect(Sweep(1)), NO_ACTOR),
-        (Ask(ObjectCount), Told::Count(2)),
-        (Collect(Sweep(0)), Told::Swept(1)),
-        (Collect(EndSweep), Told::Done),
-        (Give(Hand(1)), NO_ACTOR),
-        (Ask(HoldCount), Told::Count(0)),
-        (Ask(PendingOf(0, 0)), Told::Pending(2, 0, 1)),
-        (Give(Hand(0)), Told::Notice(2, 0, Cycle(1, FIRST_WORKER))),
-    ];
-    agree(&rt, rt.alloc(), CONFIG, &story)
-}
 
 #[test]
 fn an_unhook_is_refused_in_order(rt: HostRuntime) -> Result<(), Fail> {
@@ -151,35 +57,29 @@ fn an_unhook_is_refused_in_order(rt: HostRuntime) -> Result<(), Fail> {
 
 #[test]
 fn a_notice_goes_back_to_its_own_heap(rt: HostRuntime) -> Result<(), Fail> {
+    // The pocket has a hold of another heap, which comes back each time.
     let story = [
         (Mutate(New(0, 0)), Told::Object(1)),
         (Mutate(Refer(WEAK, 1, 0, Some(0), 0)), Told::Object(2)),
-        (Give(Unhook(1)), Told::Notice(2, 0, Own)),
-        (Keep(FirstPocket), Told::EmptyHand),
-        // The other heap counts a hold of an object 2 of its own.
-        (TurnToOther, Told::Done),
-        (Mutate(New(0, 0)), Told::Object(1)),
-        (Mutate(Refer(WEAK, 1, 0, Some(0), 0)), Told::Object(2)),
-        (Keep(Hold(1)), Told::Held(2, 2)),
-        (Keep(FirstPocket), Told::Held(2, 1)),
+        (Keep(Pocket), Told::Held(1, 2)),
         (Keep(Adopt(3)), FOREIGN),
-        (Keep(InHand), Told::Held(2, 1)),
+        (Keep(InHand), Told::Held(1, 2)),
         (Keep(Release), FOREIGN),
-        (Keep(InHand), Told::Held(2, 1)),
+        (Keep(Pocket), Told::EmptyHand),
         (Ask(SlotOf(3)), Told::Null),
-        (Ask(HoldCount), Told::Count(1)),
-        (TurnToOther, Told::Done),
+        (Give(Unhook(1)), Told::Notice(2, 0, Own)),
         (Keep(Adopt(16)), NO_ACTOR),
         (Keep(InHand), Told::Held(2, 1)),
         (Ask(HoldCount), Told::Count(1)),
         (Keep(Adopt(3)), Told::Object(2)),
         (Ask(SlotOf(3)), Told::Object(2)),
         (Ask(HoldCount), Told::Count(0)),
-        (Keep(FirstPocket), Told::Held(2, 2)),
-        (Keep(Release), FOREIGN),
-        (Keep(InHand), Told::Held(2, 2)),
+        (Keep(Pocket), Told::Held(1, 2)),
     ];
-    agree(&rt, rt.alloc(), CONFIG, &story)
+    let heap = Heap::new(rt.alloc(), CONFIG, 1)?;
+    let hold = foreign(rt.alloc())?;
+    make_calls(&rt, heap, Some(hold), &story);
+    Ok(())
 }
 
 #[test]

@@ -49,37 +49,57 @@ fn added(no: u32) -> (&'static str, Call) {
     }
 }
 
-#[test]
-fn an_add_without_memory_changes_nothing(rt: HostRuntime) -> Result<(), Fail> {
-    let memory = Rationed::new(rt.alloc());
-    let mut graph = Graph::new(&memory);
+/// Adds objects, each with each request refused in turn. Answers how many requests that makes.
+fn add_each<'a>(
+    rt: &impl Abort,
+    alloc: Global,
+    memory: &'a Rationed<Global>,
+    graph: &mut Graph<&'a Rationed<Global>>,
+) -> u64 {
     let mut requests = 0u64;
     for no in 0..60 {
         let stays = [
             (Count, Told::Count(u64::from(no))),
             (StrengthOf(no), Told::Refused(Fault::NoSuchObject)),
         ];
-        let made = refuse_each(&rt, rt.alloc(), &memory, &mut graph, added(no), &stays);
+        let made = refuse_each(rt, alloc, memory, graph, added(no), &stays);
         requests = requests.saturating_add(made);
     }
-    assert!(rt; 1 < requests && requests < MOST, "{requests} requests");
-    Ok(())
+    requests
 }
 
 #[test]
-fn a_root_without_memory_changes_nothing(rt: HostRuntime) -> Result<(), Fail> {
+fn an_add_without_memory_changes_nothing(rt: HostRuntime) {
     let memory = Rationed::new(rt.alloc());
     let mut graph = Graph::new(&memory);
+    let requests = add_each(&rt, rt.alloc(), &memory, &mut graph);
+    assert!(rt; 1 < requests && requests < MOST, "{requests} requests");
+}
+
+/// The same of roots, each of which is an object.
+fn root_each<'a>(
+    rt: &impl Abort,
+    alloc: Global,
+    memory: &'a Rationed<Global>,
+    graph: &mut Graph<&'a Rationed<Global>>,
+) -> u64 {
     let mut requests = 0u64;
     for no in 0..60 {
-        graph.add_object(ObjNo(no), &[])?;
+        make_calls(rt, alloc, graph, &[(Plain(no, &[]), Told::New)]);
         let stays = [(StrengthOf(no), Told::Strength(Reach::Unreachable))];
         let root = ("Graph::add_root", Root(no));
-        let made = refuse_each(&rt, rt.alloc(), &memory, &mut graph, root, &stays);
+        let made = refuse_each(rt, alloc, memory, graph, root, &stays);
         requests = requests.saturating_add(made);
     }
+    requests
+}
+
+#[test]
+fn a_root_without_memory_changes_nothing(rt: HostRuntime) {
+    let memory = Rationed::new(rt.alloc());
+    let mut graph = Graph::new(&memory);
+    let requests = root_each(&rt, rt.alloc(), &memory, &mut graph);
     assert!(rt; 1 < requests && requests < MOST, "{requests} requests");
-    Ok(())
 }
 
 const NINE: [Option<u32>; 9] = [None; 9];
@@ -101,7 +121,7 @@ fn told_last(count: u32) -> [(Call, Told); 3] {
 fn fill<A: Allocator + Copy>(rt: &impl Abort, graph: &mut Graph<A>) -> u32 {
     for no in 0..1_000 {
         if let Err(fault) = graph.add_object(ObjNo(no), &[]) {
-            assert_eq!(rt; fault, Fault::NoMemory);
+            assert!(rt; fault == Fault::NoMemory);
             return no;
         }
     }
@@ -109,31 +129,29 @@ fn fill<A: Allocator + Copy>(rt: &impl Abort, graph: &mut Graph<A>) -> u32 {
 }
 
 #[test]
-fn want_of_memory_is_told_last(rt: HostRuntime) -> Result<(), Fail> {
+fn want_of_memory_is_told_last(rt: HostRuntime) {
     let memory = Rationed::new(rt.alloc());
     let mut graph = Graph::new(&memory);
     memory.ration(8);
-    let count = fill(&rt, &mut graph);
+    fill_and_ask(&rt, rt.alloc(), &mut graph);
+}
+
+/// Fills a graph whose memory is rationed, and asks for more.
+fn fill_and_ask<A: Allocator + Copy>(rt: &impl Abort, alloc: Global, graph: &mut Graph<A>) {
+    let count = fill(rt, graph);
     assert!(rt; 0 < count && count < 1_000, "{count} were added");
-    make_calls(&rt, rt.alloc(), &mut graph, &told_last(count));
+    make_calls(rt, alloc, graph, &told_last(count));
     // That the number is there is told first.
-    make_calls(
-        &rt,
-        rt.alloc(),
-        &mut graph,
-        &[(Plain(0, &[]), Told::Before)],
-    );
-    Ok(())
+    make_calls(rt, alloc, graph, &[(Plain(0, &[]), Told::Before)]);
 }
 
 /// Two hundred objects, each with a field that leads to the next, from a root on.
-fn chain(alloc: Global) -> Result<Graph<Global>, Fault> {
-    let mut graph = Graph::new(alloc);
+fn add_chain(graph: &mut Graph<Global>) -> Result<(), Fault> {
     graph.add_root(ObjNo(0))?;
     for no in 0..200 {
         graph.add_object(ObjNo(no), &[Some(ObjNo(no + 1))])?;
     }
-    Ok(graph)
+    Ok(())
 }
 
 /// A search of a graph.
@@ -164,10 +182,8 @@ fn refuse_search(
     MOST
 }
 
-#[test]
-fn a_search_without_memory_is_refused(rt: HostRuntime) -> Result<(), Fail> {
-    let memory = Rationed::new(rt.alloc());
-    let graph = chain(rt.alloc())?;
+/// Makes each search with each of its requests refused in turn.
+fn refuse_searches(rt: &impl Abort, memory: &Rationed<Global>, graph: &Graph<Global>) {
     let searches = [
         ("strength_of", Search::Last, Told::Strength(Reach::Strong)),
         ("strengths", Search::All, Told::Count(200)),
@@ -178,7 +194,7 @@ fn a_search_without_memory_is_refused(rt: HostRuntime) -> Result<(), Fail> {
             refused: Told::Refused(Fault::NoMemory),
             done,
         };
-        let requests = refuse_search(&rt, &memory, &graph, search, &trial);
+        let requests = refuse_search(rt, memory, graph, search, &trial);
         assert!(rt;
             1 < requests && requests < MOST,
             "{call} makes {requests} requests"
@@ -186,7 +202,14 @@ fn a_search_without_memory_is_refused(rt: HostRuntime) -> Result<(), Fail> {
     }
     // That there is no such object takes no memory to tell.
     memory.ration(0);
-    let told = strength(&memory, &graph, 200);
+    let told = strength(memory, graph, 200);
     assert!(rt; told.is(Told::Refused(Fault::NoSuchObject)));
+}
+
+#[test]
+fn a_search_without_memory_is_refused(rt: HostRuntime) -> Result<(), Fail> {
+    let mut graph = Graph::new(rt.alloc());
+    add_chain(&mut graph)?;
+    refuse_searches(&rt, &Rationed::new(rt.alloc()), &graph);
     Ok(())
 }

@@ -36,26 +36,31 @@ fn expect_links(rt: &impl Abort, heap: &Marker) {
     }
 }
 
-#[test]
-fn what_a_worker_finds_links_to_what_it_finds_next(rt: HostRuntime) -> Result<(), Fail> {
-    let mut heap = Marker::new(rt.alloc(), EIGHT_WORKERS, 1)?;
+/// Object 1 dies, and eight workers find the references to it in turn.
+fn find_all(rt: &impl Abort, heap: &mut Marker) {
     expect(
-        &rt,
+        rt,
         1,
         made(heap.alloc_obj(M, SlotNo(0), 0)),
         Told::Object(1),
     );
     for no in 2..4_097_u32 {
-        expect(&rt, no as usize, refer_to_one(&mut heap), Told::Object(no));
+        expect(rt, no as usize, refer_to_one(heap), Told::Object(no));
     }
-    heap.drop_slot(M, SlotNo(0))?;
-    heap.drop_slot(M, SlotNo(2))?;
-    let _cycle = heap.begin(1, Urgency::Normal)?;
+    let _dropped = heap.drop_slot(M, SlotNo(0));
+    let _dropped = heap.drop_slot(M, SlotNo(2));
+    let _cycle = heap.begin(1, Urgency::Normal);
     for turn in 0..4_095_u32 {
         let told = scanned(heap.scan(WorkerNo(turn % 8)));
-        expect(&rt, turn as usize, told, Told::Scanned(4_096 - turn));
+        expect(rt, turn as usize, told, Told::Scanned(4_096 - turn));
     }
-    expect(&rt, 0, doomed(heap.end_mark()), Told::Doomed(1));
+    expect(rt, 0, doomed(heap.end_mark()), Told::Doomed(1));
+}
+
+#[test]
+fn what_a_worker_finds_links_to_what_it_finds_next(rt: HostRuntime) -> Result<(), Fail> {
+    let mut heap = Marker::new(rt.alloc(), EIGHT_WORKERS, 1)?;
+    find_all(&rt, &mut heap);
     expect_links(&rt, &heap);
     Ok(())
 }

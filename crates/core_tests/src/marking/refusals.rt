@@ -61,10 +61,7 @@ fn cycles_are_spent_after_the_last(rt: HostRuntime) -> Result<(), Fail> {
 #[test]
 fn a_heap_has_a_cell_at_least(rt: HostRuntime) {
     let none = Config { cells: 0, ..CONFIG };
-    assert_eq!(rt;
-        Marker::new(rt.alloc(), none, 1).err(),
-        Some(Fault::BadConfig)
-    );
+    assert!(rt; Marker::new(rt.alloc(), none, 1).err() == Some(Fault::BadConfig));
 }
 
 #[test]

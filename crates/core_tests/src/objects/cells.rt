@@ -1,8 +1,8 @@
 //! What lies in the cells of a heap: objects found by number, their fields and references, gaps, cells used again.
 
 use super::Ask::{
-    ClearedIn, FieldCount, FieldOf, FirstFrom, HasObject, IsCondemned, IsHeld, IsMarked, KindOf,
-    LinkOf, NextNo, ObjectCount, ReferenceOf, ReferentOf, UnmarkedCount, WordAt,
+    ClearedIn, FieldOf, HasObject, IsCondemned, IsMarked, KindOf, LinkOf, NextNo, ObjectCount,
+    ReferenceOf, ReferentOf, UnmarkedCount, WordAt,
 };
 use super::Call::{Ask, Do, Set};
 use super::Do::{DropSlot, Free, FreeNext, Load, LookAt, Mark, New, Refer, Store, Sweep};
@@ -32,19 +32,6 @@ fn what_is_made_is_found_by_its_number(rt: HostRuntime) -> Result<(), Fail> {
         (Ask(NextNo), Told::Next(5)),
     ];
     agree(&rt, rt.alloc(), 3, &story)
-}
-
-#[test]
-fn a_new_object_has_null_fields_and_no_hold(rt: HostRuntime) -> Result<(), Fail> {
-    let story = [
-        (Ask(FieldCount(1)), Told::Count(0)),
-        (Do(New(0, 2)), Told::Object(1)),
-        (Ask(FieldCount(1)), Told::Count(2)),
-        (Ask(FieldOf(1, 1)), Told::Null),
-        (Ask(IsHeld(1)), Told::No),
-        (Ask(ReferenceOf(1)), Told::Nothing),
-    ];
-    agree(&rt, rt.alloc(), 1, &story)
 }
 
 #[test]
@@ -142,33 +129,6 @@ fn referent_and_stamp_are_those_of_a_reference(rt: HostRuntime) -> Result<(), Fa
 }
 
 #[test]
-fn gaps_are_passed_over_and_closed(rt: HostRuntime) -> Result<(), Fail> {
-    let story = [
-        (Do(New(0, 2)), Told::Object(1)),
-        (Do(New(0, 2)), Told::Object(2)),
-        (Do(New(0, 2)), Told::Object(3)),
-        (Do(New(0, 2)), Told::Object(4)),
-        (Do(New(0, 2)), Told::Object(5)),
-        (Do(Sweep(3)), Told::Yes),
-        (Do(Sweep(4)), Told::Yes),
-        (Do(Sweep(4)), Told::No),
-        (Ask(FirstFrom(3)), Told::Found(5)),
-        // Fewer gaps than objects stay, and more are closed.
-        (Set(EndCycle), Told::Done),
-        (Ask(FirstFrom(3)), Told::Found(5)),
-        (Ask(FirstFrom(6)), Told::Nothing),
-        (Ask(ObjectCount), Told::Count(3)),
-        (Do(Sweep(1)), Told::Yes),
-        (Do(Sweep(2)), Told::Yes),
-        (Set(EndCycle), Told::Done),
-        (Ask(FirstFrom(1)), Told::Found(5)),
-        (Ask(FirstFrom(6)), Told::Nothing),
-        (Ask(ObjectCount), Told::Count(1)),
-    ];
-    agree(&rt, rt.alloc(), 5, &story)
-}
-
-#[test]
 fn a_cell_is_used_again_and_holds_nothing_of_before(rt: HostRuntime) -> Result<(), Fail> {
     let story = [
         (Do(New(0, 2)), Told::Object(1)),
@@ -180,28 +140,6 @@ fn a_cell_is_used_again_and_holds_nothing_of_before(rt: HostRuntime) -> Result<(
         (Ask(FieldOf(2, 0)), Told::Null),
     ];
     agree(&rt, rt.alloc(), 1, &story)
-}
-
-#[test]
-fn what_is_marked_is_counted(rt: HostRuntime) -> Result<(), Fail> {
-    let story = [
-        (Do(New(0, 2)), Told::Object(1)),
-        (Do(New(0, 2)), Told::Object(2)),
-        (Do(New(0, 2)), Told::Object(3)),
-        (Do(New(0, 2)), Told::Object(4)),
-        (Do(New(0, 2)), Told::Object(5)),
-        (Do(Mark(2)), Told::Yes),
-        (Do(Mark(3)), Told::Yes),
-        // It is marked already, and there is none.
-        (Do(Mark(3)), Told::No),
-        (Do(Mark(6)), Told::No),
-        (Ask(IsMarked(3)), Told::Yes),
-        (Ask(IsMarked(1)), Told::No),
-        (Ask(IsMarked(6)), Told::No),
-        // Two of five are marked.
-        (Ask(UnmarkedCount), Told::Count(3)),
-    ];
-    agree(&rt, rt.alloc(), 5, &story)
 }
 
 #[test]
@@ -258,25 +196,6 @@ fn what_is_not_marked_is_condemned_and_may_be_freed(rt: HostRuntime) -> Result<(
         (Do(Free(3)), Told::No),
     ];
     agree(&rt, rt.alloc(), 2, &story)
-}
-
-#[test]
-fn every_mark_is_taken_away(rt: HostRuntime) -> Result<(), Fail> {
-    let story = [
-        (Do(New(0, 2)), Told::Object(1)),
-        (Do(New(0, 2)), Told::Object(2)),
-        (Do(New(0, 2)), Told::Object(3)),
-        (Do(New(0, 2)), Told::Object(4)),
-        (Do(Mark(1)), Told::Yes),
-        (Do(Mark(4)), Told::Yes),
-        (Set(BeginMarks), Told::Done),
-        // None of four is marked.
-        (Ask(UnmarkedCount), Told::Count(4)),
-        (Ask(IsMarked(1)), Told::No),
-        (Ask(IsMarked(4)), Told::No),
-        (Ask(ObjectCount), Told::Count(4)),
-    ];
-    agree(&rt, rt.alloc(), 4, &story)
 }
 
 #[test]

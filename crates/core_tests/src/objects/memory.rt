@@ -9,19 +9,14 @@ use super::Do::{
 use super::Keep::{Adopt, Hold, Mint, Release};
 use super::Set::{BeginMarks, Cleared, ClockTo, Condemn, Cut, EndCycle, Link, Stamp};
 use super::{Call, M, begun, config, freed_at, make_calls};
-use crate::arena::{all_that_is_left, limited};
 use crate::closed::condemn_if_closed;
 use crate::told::Told;
-use bumpalo::Bump;
+use rationed::Rationed;
 use ref_base::{Fault, ObjNo, SlotNo, Strength};
 use ref_objects::{Objects, Worklist};
-use std::alloc::Allocator;
+use std::alloc::{Allocator, Global};
 use std::process::Abort;
 use std::test::Fail;
-
-/// How many bytes the objects of a heap of three cells take: 5,920 for each of its two pages, and 64 for the slots of
-/// its mutator.
-const OF_THREE_CELLS: usize = 2 * 5_920 + 64;
 
 /// Each call once.
 const EACH_CALL: [(Call, Told); 29] = [
@@ -56,34 +51,22 @@ const EACH_CALL: [(Call, Told); 29] = [
     (Ask(ObjectCount), Told::Count(2)),
 ];
 
-/// There is no memory for a heap of so many cells.
-fn no_memory_for<A: Allocator + Copy>(rt: &impl Abort, memory: A, cells: u32) {
-    let refused = Objects::new(memory, config(cells), 1).err();
-    assert_eq!(rt; refused, Some(Fault::NoMemory));
-}
-
-/// Makes these calls, where nothing is left of the arena behind the two heaps.
-fn make_without_memory(rt: &impl Abort, memory: &Bump, calls: &[(Call, Told)]) -> Result<(), Fail> {
-    let heap = Objects::new(memory, config(3), 1)?;
-    let other = Objects::new(memory, config(3), 2)?;
-    let condemned = Worklist::new(memory, 3)?;
-    let _rest = all_that_is_left(rt, memory)?;
-    make_calls(rt, heap, other, condemned, calls);
-    no_memory_for(rt, memory, 3);
-    Ok(())
-}
-
 #[test]
 fn after_new_no_call_takes_memory(rt: HostRuntime) -> Result<(), Fail> {
-    let memory = limited(rt.alloc(), 2 * OF_THREE_CELLS + 3 * 8)?;
-    make_without_memory(&rt, &memory, &EACH_CALL)
+    let memory = Rationed::new(rt.alloc());
+    let heap = Objects::new(&memory, config(3), 1)?;
+    let condemned = Worklist::new(&memory, 3)?;
+    memory.ration(0);
+    make_calls(&rt, heap, condemned, None, &EACH_CALL);
+    assert!(rt; !memory.lift(), "no request is refused");
+    Ok(())
 }
 
 /// Makes plain objects in slot 0 until no cell is free.
 fn fill<A: Allocator + Copy>(rt: &impl Abort, heap: &mut Objects<A>, cells: u32) {
     for _object in 0..=cells {
         if let Err(fault) = heap.alloc_obj(M, SlotNo(0), 2) {
-            assert_eq!(rt; fault, Fault::NoCell);
+            assert!(rt; fault == Fault::NoCell, "{fault}");
             return;
         }
     }
@@ -117,22 +100,25 @@ fn fill_again_and_again<A: Allocator + Copy>(
     for _round in 0..20 {
         free_all_but_one(heap, condemned);
         fill(rt, heap, cells);
-        assert_eq!(rt; heap.object_count(), cells as usize);
-        assert!(rt; heap.has_object(ObjNo(1)));
+        assert!(rt; heap.object_count() == cells as usize && heap.has_object(ObjNo(1)));
     }
+}
+
+/// Fills a heap of so many cells again and again, without a request for memory.
+fn fill_without_memory(rt: &impl Abort, alloc: Global, cells: u32) -> Result<(), Fail> {
+    let memory = Rationed::new(alloc);
+    let mut heap = Objects::new(&memory, config(cells), 1)?;
+    let mut condemned = Worklist::new(&memory, cells as usize)?;
+    memory.ration(0);
+    fill_again_and_again(rt, &mut heap, &mut condemned, cells);
+    assert!(rt; !memory.lift(), "no request is refused, with {cells} cells");
+    Ok(())
 }
 
 #[test]
 fn after_new_no_memory_is_taken(rt: HostRuntime) -> Result<(), Fail> {
     for cells in 1..70 {
-        // Twice as many as the cells fill.
-        let pages = 2 * (cells as usize).div_ceil(64);
-        // The list of the condemned has 8 bytes a cell.
-        let memory = limited(rt.alloc(), 11_040 * pages + 128 + 8 * cells as usize)?;
-        let mut heap = Objects::new(&memory, config(cells), 1)?;
-        let mut condemned = Worklist::new(&memory, cells as usize)?;
-        let _rest = all_that_is_left(&rt, &memory)?;
-        fill_again_and_again(&rt, &mut heap, &mut condemned, cells);
+        fill_without_memory(&rt, rt.alloc(), cells)?;
     }
     Ok(())
 }

@@ -5,17 +5,18 @@ use super::Ask::{
     IsCondemned, IsHeld, IsMarked, IsUnmarked, KindOf, NextNo, ObjectCount, QueueOf, ReferenceIn,
     ReferenceOf, ReferentIn, ReferentOf, Size, SlotAt, SlotCount, SlotOf, StampOf, UnmarkedCount,
 };
-use super::Call::{Ask, Do, Keep, Set, TurnToOther};
+use super::Call::{Ask, Do, Keep, Set};
 use super::Do::{
     CopySlot, CutIn, DropSlot, Free, Get, Load, Mark, MarkSlot, MarkSlotAt, New, NewOf, Refer,
     SetSlot, Store, Sweep,
 };
 use super::Keep::{Adopt, Hand, Hold, Leak, Mint, Release};
-use super::Set::{BeginMarks, ClockTo, Condemn, Cut, EndCycle, Stamp};
-use super::{agree, agree_from, config};
+use super::Set::{BeginMarks, ClockTo, Condemn, Cut, EndCycle};
+use super::{agree, agree_from, config, make_calls};
+use crate::hand::foreign;
 use crate::told::Told;
 use ref_base::{Fault, Strength};
-use ref_objects::{Kind, Objects, Start};
+use ref_objects::{Kind, Objects, Start, Worklist};
 use std::test::Fail;
 
 /// A start at this object and this page.
@@ -65,7 +66,7 @@ fn numbers_begin_at_one_and_pages_end_below_two_to_the_32nd(rt: HostRuntime) {
     ];
     for (row, &(cells, start, want)) in table.iter().enumerate() {
         let made = Objects::starting(rt.alloc(), config(cells), 1, start);
-        assert_eq!(rt; made.err(), want, "row {row}");
+        assert!(rt; made.err() == want, "row {row}");
     }
 }
 
@@ -105,23 +106,6 @@ fn a_reference_is_made_as_it_is_told(rt: HostRuntime) -> Result<(), Fail> {
         (Ask(StampOf(2)), Told::Time(7)),
         (Ask(QueueOf(2)), Told::Queue(0)),
         (Ask(FieldCount(2)), Told::Count(1)),
-    ];
-    agree(&rt, rt.alloc(), 8, &story)
-}
-
-#[test]
-fn a_reference_is_stamped_and_cut(rt: HostRuntime) -> Result<(), Fail> {
-    let story = [
-        (Do(New(0, 0)), Told::Object(1)),
-        (Do(Refer(Strength::Weak, 1, 0, None, 0)), Told::Object(2)),
-        (Ask(StampOf(2)), Told::Time(0)),
-        (Set(Stamp(2, 9)), Told::Done),
-        (Set(Cut(2)), Told::Done),
-        (Set(Cut(1)), Told::Done),
-        (Ask(StampOf(2)), Told::Time(9)),
-        (Ask(ReferentOf(2)), Told::Null),
-        (Ask(KindOf(1)), Told::Kind(Kind::Plain)),
-        (Ask(KindOf(3)), Told::Nothing),
     ];
     agree(&rt, rt.alloc(), 8, &story)
 }
@@ -262,21 +246,25 @@ fn a_heap_tells_what_it_is(rt: HostRuntime) -> Result<(), Fail> {
 
 #[test]
 fn a_hold_goes_back_to_its_own_heap(rt: HostRuntime) -> Result<(), Fail> {
+    // The hand has a hold of another heap, which comes back each time.
     let story = [
         (Do(New(0, 0)), Told::Object(1)),
-        (TurnToOther, Told::Done),
-        (Do(New(0, 0)), Told::Object(1)),
-        (Keep(Hold(0)), Told::Held(1, 2)),
-        (TurnToOther, Told::Done),
         (Keep(Release), Told::Refused(Fault::ForeignHold)),
-        // It came back.
         (Keep(Hand), Told::Held(1, 2)),
-        (TurnToOther, Told::Done),
+        (Keep(Adopt(1)), Told::Refused(Fault::ForeignHold)),
+        (Keep(Hand), Told::Held(1, 2)),
+        (Ask(SlotOf(1)), Told::Null),
+        (Keep(Leak), Told::Done),
+        (Keep(Hold(0)), Told::Held(1, 1)),
         (Keep(Adopt(1)), Told::Object(1)),
         (Ask(SlotOf(1)), Told::Object(1)),
         (Ask(HoldCount), Told::Count(0)),
     ];
-    agree(&rt, rt.alloc(), 8, &story)
+    let heap = Objects::new(rt.alloc(), config(8), 1)?;
+    let condemned = Worklist::new(rt.alloc(), 8)?;
+    let hold = foreign(rt.alloc())?;
+    make_calls(&rt, heap, condemned, Some(hold), &story);
+    Ok(())
 }
 
 #[test]

@@ -23,17 +23,17 @@ fn batch_of(alloc: Global, slips: &[Slip]) -> Result<Batch<Slip>, Fault> {
 /// The batch has just these slips, in order: they are taken out.
 fn holds(rt: &impl Abort, batch: &mut Batch<Slip>, slips: &[Slip]) {
     for (place, slip) in slips.iter().enumerate() {
-        assert_eq!(rt; batch.take_first(), Some(*slip), "item {place}");
+        assert!(rt; batch.take_first() == Some(*slip), "item {place}");
     }
-    assert_eq!(rt; batch.take_first(), None);
+    assert!(rt; batch.take_first() == None);
 }
 
 /// These became of the items, and of no more.
 fn tell(rt: &impl Abort, outs: Outs, want: &[Out]) {
     for (place, out) in want.iter().enumerate() {
-        assert_eq!(rt; outs.get(place), Some(*out), "item {place}");
+        assert!(rt; outs.get(place) == Some(*out), "item {place}");
     }
-    assert_eq!(rt; outs.len(), want.len());
+    assert!(rt; outs.len() == want.len());
 }
 
 /// A poll of at most so many takes these, and no more.
@@ -48,9 +48,9 @@ fn takes<A: Allocator + Copy>(
     if 1 <= most && most <= MOST_IN_BATCH {
         match queue.poll_batch(most, &mut batch) {
             PolledBatch::Took(numbers) => {
-                assert_eq!(rt; numbers.as_slice().len(), slips.len());
+                assert!(rt; numbers.as_slice().len() == slips.len());
                 for (place, slip) in slips.iter().enumerate() {
-                    assert_eq!(rt; numbers.as_slice().get(place), Some(&ObjNo(slip.object)));
+                    assert!(rt; numbers.as_slice().get(place) == Some(&ObjNo(slip.object)));
                 }
             }
             PolledBatch::Empty | PolledBatch::Closed => assert!(rt; slips.is_empty(), "it takes"),
@@ -95,20 +95,14 @@ fn polled_items_stand_behind_those_of_the_batch(rt: HostRuntime) -> Result<(), F
 fn a_closed_queue_takes_no_batch_and_gives_what_stands(rt: HostRuntime) -> Result<(), Fail> {
     let mut queue = Queue::new(rt.alloc(), QueueNo(0));
     let _first = queue.put(of(7));
-    assert_eq!(rt; queue.poll_batch(1, &mut Batch::new(rt.alloc())?), took(7));
-    assert_eq!(rt;
-        queue.poll_batch(1, &mut Batch::new(rt.alloc())?),
-        PolledBatch::Empty
-    );
+    assert!(rt; queue.poll_batch(1, &mut Batch::new(rt.alloc())?) == took(7));
+    assert!(rt; queue.poll_batch(1, &mut Batch::new(rt.alloc())?) == PolledBatch::Empty);
     queue.close();
     let mut batch = batch_of(rt.alloc(), &[of(4), of(7), of(5)])?;
     let outs = queue.put_batch(&mut batch)?;
     tell(&rt, outs, &[Out::Closed, Out::Already, Out::Closed]);
     holds(&rt, &mut batch, &[of(4), of(7), of(5)]);
-    assert_eq!(rt;
-        queue.poll_batch(1, &mut Batch::new(rt.alloc())?),
-        PolledBatch::Closed
-    );
+    assert!(rt; queue.poll_batch(1, &mut Batch::new(rt.alloc())?) == PolledBatch::Closed);
     Ok(())
 }
 
@@ -127,7 +121,7 @@ fn a_batch_with_an_item_for_another_queue_comes_back_whole(rt: HostRuntime) -> R
     };
     let mut queue = Queue::new(rt.alloc(), QueueNo(0));
     let mut batch = batch_of(rt.alloc(), &[of(3), stray, of(9)])?;
-    assert_eq!(rt; queue.put_batch(&mut batch), Err(Fault::WrongQueue));
+    assert!(rt; queue.put_batch(&mut batch) == Err(Fault::WrongQueue));
     holds(&rt, &mut batch, &[of(3), stray, of(9)]);
     takes(&rt, rt.alloc(), &mut queue, 32, &[])
 }
@@ -149,15 +143,18 @@ fn one_old_and_new(alloc: Global) -> Result<Batch<Slip>, Fault> {
 /// The old item is told as such, and each that was added behind those of before, from this position on, but the last
 /// where it was refused. How many were added.
 fn added(rt: &impl Abort, outs: Outs, before: usize, is_refused: bool) -> usize {
-    assert_eq!(rt; outs.get(0), Some(Out::Already));
+    assert!(rt; outs.get(0) == Some(Out::Already));
     let count = outs.len().saturating_sub(1 + usize::from(is_refused));
     for place in 1..count.saturating_add(1) {
         let position = before.saturating_add(place).saturating_sub(1) as u64;
-        assert_eq!(rt; outs.get(place), Some(Out::Added(position)), "item {place}");
+        assert!(rt;
+            outs.get(place) == Some(Out::Added(position)),
+            "item {place}"
+        );
     }
     if is_refused {
         let last = outs.get(count.saturating_add(1));
-        assert_eq!(rt; last, Some(Out::Refused(Fault::NoMemory)));
+        assert!(rt; last == Some(Out::Refused(Fault::NoMemory)));
     }
     count
 }
@@ -179,7 +176,7 @@ fn put_with(rt: &impl Abort, alloc: Global, met: u64) -> Result<bool, Fail> {
         first.saturating_add(1),
         false,
     );
-    assert_eq!(rt; first.saturating_add(again), NEW, "all are added");
+    assert!(rt; first.saturating_add(again) == NEW, "all are added");
     holds(rt, &mut batch, &[of(0)]);
     for object in 0..NEW + 1 {
         takes(rt, alloc, &mut queue, 1, &[of(object as u32)])?;

@@ -9,7 +9,6 @@ use ref_base::{Fault, QueueNo};
 use ref_queue::Queue;
 use std::alloc::{Allocator, Global};
 use std::process::Abort;
-use std::test::Fail;
 
 /// Puts slips in, numbered from 0, until there is no memory for one more. Answers how many were added.
 fn fill<A: Allocator + Copy>(rt: &impl Abort, alloc: Global, queue: &mut Queue<Slip, A>) -> u32 {
@@ -95,17 +94,27 @@ fn put_last<'a>(
     refuse_each(rt, memory, queue, &trial, Put(slip), &stays)
 }
 
-#[test]
-fn a_put_without_memory_changes_nothing(rt: HostRuntime) -> Result<(), Fail> {
-    let memory = Rationed::new(rt.alloc());
-    let mut queue = Queue::new(&memory, QueueNo(0));
+/// Puts a hundred slips in, and takes them out. Answers how many requests that makes.
+fn put_and_drain<'a>(
+    rt: &impl Abort,
+    alloc: Global,
+    memory: &'a Rationed<Global>,
+    queue: &mut Queue<Slip, &'a Rationed<Global>>,
+) -> u64 {
     let mut requests = 0u64;
     for object in 0..100 {
-        requests = requests.saturating_add(put_last(&rt, &memory, &mut queue, object));
+        requests = requests.saturating_add(put_last(rt, memory, queue, object));
     }
+    drain(rt, alloc, queue, 100);
+    requests
+}
+
+#[test]
+fn a_put_without_memory_changes_nothing(rt: HostRuntime) {
+    let memory = Rationed::new(rt.alloc());
+    let mut queue = Queue::new(&memory, QueueNo(0));
+    let requests = put_and_drain(&rt, rt.alloc(), &memory, &mut queue);
     assert!(rt; 1 < requests && requests < MOST, "{requests} requests");
-    drain(&rt, rt.alloc(), &mut queue, 100);
-    Ok(())
 }
 
 /// What the queue answers once there is no memory for the next slip, which is this.
@@ -121,14 +130,18 @@ fn told_last(next: Slip) -> [(Call, Told); 5] {
 }
 
 #[test]
-fn want_of_memory_is_told_last(rt: HostRuntime) -> Result<(), Fail> {
+fn want_of_memory_is_told_last(rt: HostRuntime) {
     let memory = Rationed::new(rt.alloc());
     let mut queue = Queue::new(&memory, QueueNo(0));
     memory.ration(8);
-    let count = fill(&rt, rt.alloc(), &mut queue);
+    fill_and_ask(&rt, rt.alloc(), &mut queue);
+}
+
+/// Fills a queue whose memory is rationed, and asks for more.
+fn fill_and_ask<A: Allocator + Copy>(rt: &impl Abort, alloc: Global, queue: &mut Queue<Slip, A>) {
+    let count = fill(rt, alloc, queue);
     assert!(rt; count > 0, "some were added");
-    make_calls(&rt, rt.alloc(), &mut queue, &told_last(of(count)));
-    Ok(())
+    make_calls(rt, alloc, queue, &told_last(of(count)));
 }
 
 /// What is listed, which each list but the last has at its first place.
@@ -138,16 +151,23 @@ const LISTS: [(&str, Call, u32); 3] = [
     ("Queue::stands", StandsAt(0), 5),
 ];
 
-#[test]
-fn a_list_without_memory_is_refused(rt: HostRuntime) -> Result<(), Fail> {
-    let memory = Rationed::new(rt.alloc());
-    let mut queue = Queue::new(&memory, QueueNo(0));
+/// Puts ten slips in, and takes five out.
+fn put_and_poll<A: Allocator + Copy>(rt: &impl Abort, alloc: Global, queue: &mut Queue<Slip, A>) {
     for object in 0..10 {
-        queue.put(of(object))?;
+        let added = Told::Added(u64::from(object));
+        make_calls(rt, alloc, queue, &[(Put(of(object)), added)]);
     }
-    for _object in 0..5 {
-        queue.poll();
+    for object in 0..5 {
+        make_calls(rt, alloc, queue, &[(Poll, Told::Took(of(object)))]);
     }
+}
+
+/// Asks for each list with its one request refused, and then met.
+fn refuse_lists<'a>(
+    rt: &impl Abort,
+    memory: &'a Rationed<Global>,
+    queue: &mut Queue<Slip, &'a Rationed<Global>>,
+) {
     let stays = [
         (EnqueuedAt(10), Told::PastTheEnd),
         (TakenAt(5), Told::PastTheEnd),
@@ -159,8 +179,15 @@ fn a_list_without_memory_is_refused(rt: HostRuntime) -> Result<(), Fail> {
             refused: Told::Refused(Fault::NoMemory),
             done: Told::Object(first),
         };
-        let requests = refuse_each(&rt, &memory, &mut queue, &trial, list, &stays);
-        assert_eq!(rt; requests, 1, "{call}");
+        let requests = refuse_each(rt, memory, queue, &trial, list, &stays);
+        assert!(rt; requests == 1, "{call}");
     }
-    Ok(())
+}
+
+#[test]
+fn a_list_without_memory_is_refused(rt: HostRuntime) {
+    let memory = Rationed::new(rt.alloc());
+    let mut queue = Queue::new(&memory, QueueNo(0));
+    put_and_poll(&rt, rt.alloc(), &mut queue);
+    refuse_lists(&rt, &memory, &mut queue);
 }

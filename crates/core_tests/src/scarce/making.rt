@@ -93,12 +93,11 @@ fn refuse_each(rt: &impl Abort, memory: &Rationed<Global>, name: &str, made: Mad
         memory.ration(met);
         let answer = make(memory, made);
         if !memory.lift() {
-            assert_eq!(rt; answer, Ok(()), "{name} with {met} requests met");
+            assert!(rt; answer == Ok(()), "{name} with {met} requests met");
             return met;
         }
-        assert_eq!(rt;
-            answer,
-            Err(Fault::NoMemory),
+        assert!(rt;
+            answer == Err(Fault::NoMemory),
             "{name} with {met} requests met"
         );
     }

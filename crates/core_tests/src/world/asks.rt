@@ -36,9 +36,9 @@ fn standing_in<A: Allocator + Copy>(
 
 /// Just these numbers, in this order.
 fn are(rt: &impl Abort, list: &[ObjNo], want: &[u32]) {
-    assert_eq!(rt; list.len(), want.len(), "so many");
+    assert!(rt; list.len() == want.len(), "so many");
     for (place, &no) in want.iter().enumerate() {
-        assert_eq!(rt; list.get(place), Some(&ObjNo(no)), "place {place}");
+        assert!(rt; list.get(place) == Some(&ObjNo(no)), "place {place}");
     }
 }
 
@@ -52,14 +52,14 @@ pub fn have_lists<A: Allocator + Copy>(
     let mut number = QueueNo(0);
     for want in queues {
         let count = standing_in(alloc, world, number)?;
-        assert_eq!(rt; count, want.stands.len(), "so many stand");
+        assert!(rt; count == want.stands.len(), "so many stand");
         let queue = world.queue(number)?;
         are(rt, &queue.enqueued(alloc)?, want.enqueued);
         are(rt, &queue.taken(alloc)?, want.taken);
         are(rt, &queue.stands(alloc)?, want.stands);
         number = QueueNo(number.0.saturating_add(1));
     }
-    assert_eq!(rt; world.queue(number).err(), Some(Fault::BadQueue));
+    assert!(rt; world.queue(number).err() == Some(Fault::BadQueue));
     Ok(())
 }
 
@@ -77,7 +77,7 @@ fn a_slot_tells_its_reference(rt: HostRuntime) -> Result<(), Fail> {
         (MutNo(1), 1, Err(Fault::NoSuchActor)),
     ];
     for (row, &(mutator, slot, want)) in table.iter().enumerate() {
-        assert_eq!(rt; world.ref_in(mutator, SlotNo(slot)), want, "row {row}");
+        assert!(rt; world.ref_in(mutator, SlotNo(slot)) == want, "row {row}");
     }
     world.end();
     Ok(())

@@ -2,7 +2,7 @@
 
 use super::CONFIG;
 use super::rows::{nos, of_one_cycle};
-use crate::hand::{keep, leak};
+use crate::hand::{foreign, keep, leak};
 use ref_base::Cause::{Cycle, Own};
 use ref_base::{
     Batch, Cause, Fault, HeapStep, MOST_IN_BATCH, MutNo, Nos, ObjNo, Parcel, PlainStep, QueueNo,
@@ -12,7 +12,6 @@ use ref_clear::Notice;
 use ref_objects::{Hold, Start};
 use ref_world::{HeapCall, HeapReply, WorldHeap, apply_heap};
 use std::alloc::Allocator;
-use std::mem;
 use std::process::Abort;
 use std::test::Fail;
 
@@ -38,8 +37,6 @@ enum Ask {
     Scan,
     EndMark,
     ClearNext,
-    /// From here on the steps are the other heap's.
-    TurnToOther,
 }
 
 /// What a step is answered.
@@ -56,13 +53,11 @@ enum Told {
     /// A fault. The hold of this object, of the heap of this number, is in the hand again.
     Back(Fault, u32, u64),
     EmptyHand,
-    Turned,
 }
 
-/// The two heaps of a story, and its hand, which has one hold at most.
+/// The heap of a story, and its hand, which has one hold at most.
 struct Bench<A: Allocator> {
     heap: WorldHeap<A>,
-    other: WorldHeap<A>,
     hand: Option<Hold>,
     alloc: A,
 }
@@ -185,40 +180,27 @@ fn answer<A: Allocator + Copy>(bench: &mut Bench<A>, ask: Ask) -> Told {
         Ask::Scan => asked(bench, HeapStep::Plain(PlainStep::Scan { worker })),
         Ask::EndMark => asked(bench, HeapStep::Plain(PlainStep::EndMark)),
         Ask::ClearNext => asked(bench, HeapStep::Plain(PlainStep::ClearNext { worker })),
-        Ask::TurnToOther => {
-            mem::swap(&mut bench.heap, &mut bench.other);
-            Told::Turned
-        }
     }
 }
 
-/// Does a story's steps in turn, each of which has its answer. They go to the first heap, where they don't turn. Both
-/// heaps end with the story.
+/// Does a story's steps in turn, each of which has its answer, with this in the hand. The heap ends with the story.
 fn agree<A: Allocator + Copy>(
     rt: &impl Abort,
     heap: WorldHeap<A>,
-    other: WorldHeap<A>,
+    hand: Option<Hold>,
     alloc: A,
     story: &[(Ask, Told)],
 ) {
-    let hand = None;
-    let mut bench = Bench {
-        heap,
-        other,
-        hand,
-        alloc,
-    };
+    let mut bench = Bench { heap, hand, alloc };
     for (row, &(ask, want)) in story.iter().enumerate() {
         assert_eq!(rt; answer(&mut bench, ask), want, "row {row}");
     }
     let Bench {
         heap,
-        other,
         hand,
         alloc: _alloc,
     } = bench;
     heap.end();
-    other.end();
     leak(hand);
 }
 
@@ -264,8 +246,7 @@ fn holds_and_notices_are_given_and_taken_back(rt: HostRuntime) -> Result<(), Fai
         (Ask::Adopt(0), object(3)),
     ];
     let heap = WorldHeap::new(rt.alloc(), CONFIG, 1)?;
-    let other = WorldHeap::new(rt.alloc(), CONFIG, 2)?;
-    agree(&rt, heap, other, rt.alloc(), &story);
+    agree(&rt, heap, None, rt.alloc(), &story);
     Ok(())
 }
 
@@ -308,8 +289,7 @@ fn notices_are_given_in_a_batch(rt: HostRuntime) -> Result<(), Fail> {
         (Ask::Hand, only(Reply::Nothing)),
     ];
     let heap = WorldHeap::new(rt.alloc(), CONFIG, 1)?;
-    let other = WorldHeap::new(rt.alloc(), CONFIG, 2)?;
-    agree(&rt, heap, other, rt.alloc(), &story);
+    agree(&rt, heap, None, rt.alloc(), &story);
     Ok(())
 }
 
@@ -317,17 +297,12 @@ fn notices_are_given_in_a_batch(rt: HostRuntime) -> Result<(), Fail> {
 fn a_hold_of_another_heap_comes_back(rt: HostRuntime) -> Result<(), Fail> {
     let story = [
         (Ask::New(0), object(1)),
-        (Ask::Hold(0), Told::Held(1, 1)),
-        (Ask::TurnToOther, Told::Turned),
-        (Ask::New(0), object(1)),
-        (Ask::Adopt(2), Told::Back(Fault::ForeignHold, 1, 1)),
-        (Ask::Release, Told::Back(Fault::ForeignHold, 1, 1)),
-        (Ask::TurnToOther, Told::Turned),
-        (Ask::Adopt(2), object(1)),
+        (Ask::Adopt(2), Told::Back(Fault::ForeignHold, 1, 2)),
+        (Ask::Release, Told::Back(Fault::ForeignHold, 1, 2)),
     ];
     let heap = WorldHeap::new(rt.alloc(), CONFIG, 1)?;
-    let other = WorldHeap::new(rt.alloc(), CONFIG, 2)?;
-    agree(&rt, heap, other, rt.alloc(), &story);
+    let hold = foreign(rt.alloc())?;
+    agree(&rt, heap, Some(hold), rt.alloc(), &story);
     Ok(())
 }
 
@@ -343,7 +318,6 @@ fn the_last_number_is_the_last_cycle(rt: HostRuntime) -> Result<(), Fail> {
         (Ask::New(0), object(1)),
     ];
     let heap = WorldHeap::starting(rt.alloc(), CONFIG, 1, start)?;
-    let other = WorldHeap::new(rt.alloc(), CONFIG, 2)?;
-    agree(&rt, heap, other, rt.alloc(), &story);
+    agree(&rt, heap, None, rt.alloc(), &story);
     Ok(())
 }

@@ -7,7 +7,6 @@ use super::rows::{
     worker_puts_all, worker_releases,
 };
 use super::{CONFIG, are_rows, do_steps, steps_of};
-use crate::arena::{all_that_is_left, limited};
 use crate::scarce::MOST;
 use rationed::Rationed;
 use ref_base::{Config, Done, Fault, PlainStep, QueueNo, Reply, Step, WorkerNo};
@@ -54,10 +53,10 @@ fn is_run_refused(
         }
         Err((fault, mut world, steps)) => {
             assert!(rt; memory.lift(), "{call} found memory");
-            assert_eq!(rt; fault, Fault::NoMemory);
-            assert_eq!(rt; steps.len(), asked.len());
+            assert!(rt; fault == Fault::NoMemory);
+            assert!(rt; steps.len() == asked.len());
             for (place, &(want, _reply)) in asked.iter().enumerate() {
-                assert_eq!(rt; steps.get(place), Some(&want), "place {place}");
+                assert!(rt; steps.get(place) == Some(&want), "place {place}");
             }
             // Each step is answered as in a new world.
             do_steps(rt, &mut world, asked);
@@ -77,7 +76,7 @@ fn a_run_without_room_gives_world_and_steps_back(rt: HostRuntime) -> Result<(), 
         }
         requests = met + 1;
     }
-    assert_eq!(rt; requests, 1, "run asks once for all its rows");
+    assert!(rt; requests == 1, "run asks once for all its rows");
     Ok(())
 }
 
@@ -100,14 +99,13 @@ fn a_put_without_memory_leaves_its_notice_in_the_hand(rt: HostRuntime) -> Result
         memory.ration(met);
         let reply = world.step(PUT);
         if !memory.lift() {
-            assert_eq!(rt;
-                reply,
-                Reply::Added(0),
+            assert!(rt;
+                reply == Reply::Added(0),
                 "World::step with {met} requests met"
             );
             break;
         }
-        assert_eq!(rt; reply, NO_MEMORY, "World::step with {met} requests met");
+        assert!(rt; reply == NO_MEMORY, "World::step with {met} requests met");
         do_steps(&rt, &mut world, &still_in_hand());
         requests = met + 1;
     }
@@ -256,27 +254,26 @@ fn moves() -> [(Step, Reply); 32] {
 
 #[test]
 fn no_step_takes_memory_while_objects_move(rt: HostRuntime) -> Result<(), Fail> {
-    let memory = limited(rt.alloc(), 65_536)?;
+    let memory = Rationed::new(rt.alloc());
     let mut world = World::new(&memory, TWO_PAGES)?;
-    let rest = all_that_is_left(&rt, &memory);
-    assert!(rt; rest.is_ok());
+    memory.ration(0);
     do_steps(&rt, &mut world, &[(new(0, 1), object(1))]);
     for no in 2..=65 {
         do_steps(&rt, &mut world, &[(new(1, 0), object(no))]);
     }
     do_steps(&rt, &mut world, &moves());
+    assert!(rt; !memory.lift(), "no request is refused");
     world.end();
     Ok(())
 }
 
 #[test]
 fn no_step_takes_memory_but_a_put(rt: HostRuntime) -> Result<(), Fail> {
-    let memory = limited(rt.alloc(), 32_768)?;
+    let memory = Rationed::new(rt.alloc());
     let mut world = World::new(&memory, TWO_QUEUES)?;
     do_steps(&rt, &mut world, &in_hand());
     do_steps(&rt, &mut world, &[(PUT, Reply::Added(0))]);
-    let rest = all_that_is_left(&rt, &memory);
-    assert!(rt; rest.is_ok());
+    memory.ration(0);
     do_steps(&rt, &mut world, &each_step());
     do_steps(
         &rt,

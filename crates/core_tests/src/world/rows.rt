@@ -14,11 +14,6 @@ pub const PUT: Step = Step::Put {
     actor: Actor::Mutator(M),
 };
 
-/// Mutator 0 puts its notices into their queue.
-pub const PUTS: Step = Step::Puts {
-    actor: Actor::Mutator(M),
-};
-
 /// Mutator 0 gives its notice up.
 pub const RELEASE: Step = Step::Release {
     actor: Actor::Mutator(M),
@@ -63,11 +58,6 @@ const fn refer(
         queue,
         fields,
     })
-}
-
-/// A weak reference with one field in this slot to what this one holds, for queue 0.
-pub const fn weak_with_field(slot: u32, source: u32) -> Step {
-    refer(Strength::Weak, slot, source, Some(QueueNo(0)), 1)
 }
 
 /// A weak reference in this slot to what this one holds, for this queue.

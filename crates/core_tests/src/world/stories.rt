@@ -2,8 +2,8 @@
 
 use super::asks::{Lists, have_lists};
 use super::rows::{
-    PUT, RELEASE, adopt, begin, clear_next, cleared, drop_slot, hand, new, object, of_cycle, own,
-    poll, scan, scanned, took, unhook, weak, worker_puts,
+    RELEASE, adopt, begin, clear_next, cleared, drop_slot, hand, new, object, of_cycle, poll, scan,
+    scanned, took, weak, worker_puts,
 };
 use super::{CONFIG, TWO_WORKERS, do_steps, runs_as};
 use ref_base::{PlainStep, Reply, Step};
@@ -26,25 +26,6 @@ fn a_death_is_reported_after_a_cycle(rt: HostRuntime) -> Result<(), Fail> {
         (worker_puts(0), Reply::Added(0)),
         (poll(0), took(2)),
         (adopt(2), object(2)),
-    ];
-    runs_as(&rt, rt.alloc(), CONFIG, &story)
-}
-
-#[test]
-fn two_are_enqueued_and_polled_in_order(rt: HostRuntime) -> Result<(), Fail> {
-    let story = [
-        (new(0, 0), object(1)),
-        (weak(1, 0, 0), object(2)),
-        (weak(2, 0, 0), object(3)),
-        (unhook(1), own(2, 0)),
-        (PUT, Reply::Added(0)),
-        (unhook(2), own(3, 0)),
-        (PUT, Reply::Added(1)),
-        (poll(0), took(2)),
-        (RELEASE, Reply::Done),
-        (poll(0), took(3)),
-        (RELEASE, Reply::Done),
-        (poll(0), Reply::Empty),
     ];
     runs_as(&rt, rt.alloc(), CONFIG, &story)
 }

@@ -25,7 +25,7 @@ fn all_but<'a>(memory: &'a Bump, left: usize) -> Result<Vec<u8, &'a Bump>, Alloc
 fn is_enough(rt: &impl Abort, alloc: Global, left: usize) -> Result<bool, Fail> {
     let memory = limited(alloc)?;
     let _rest = all_but(&memory, left)?;
-    assert_eq!(rt; memory.chunk_capacity(), left, "so much is left");
+    assert!(rt; memory.chunk_capacity() == left, "so much is left");
     Ok(Pages::new(&memory, 2, 7).is_ok())
 }
 
@@ -35,7 +35,7 @@ fn a_page_takes_32_bytes(rt: HostRuntime) -> Result<(), Fail> {
     let table = [(0, false), (48, false), (63, false), (64, true), (80, true)];
     for (row, &(left, want)) in table.iter().enumerate() {
         let enough = is_enough(&rt, rt.alloc(), left)?;
-        assert_eq!(rt; enough, want, "row {row}");
+        assert!(rt; enough == want, "row {row}");
     }
     Ok(())
 }
@@ -58,6 +58,6 @@ fn after_new_no_call_takes_memory(rt: HostRuntime) -> Result<(), Fail> {
         (Address(1), Number(10)),
     ];
     make_calls(&rt, &mut pages, &story);
-    assert_eq!(rt; memory.chunk_capacity(), 0, "nothing is left");
+    assert!(rt; memory.chunk_capacity() == 0, "nothing is left");
     Ok(())
 }

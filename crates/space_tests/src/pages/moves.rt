@@ -200,12 +200,12 @@ fn what_is_to_move_has_the_next_free_cells_in_order(rt: HostRuntime) -> Result<(
     ];
     make_calls(&rt, &mut pages, &chosen);
     let mut forwards = [0; 256];
-    assert_eq!(rt; reserve(&mut pages, &mut forwards[..255]), NotAsked);
-    assert_eq!(rt; reserve(&mut pages, &mut forwards), Done);
+    assert!(rt; reserve(&mut pages, &mut forwards[..255]) == NotAsked);
+    assert!(rt; reserve(&mut pages, &mut forwards) == Done);
     // Where something lies, and where it is to go: cell c of frame f is place 64 * f + c.
     let table = [(0, 168), (63, 169), (126, 170), (127, 171), (128, 0)];
     for (row, &(from, to)) in table.iter().enumerate() {
-        assert_eq!(rt; forwards.get(from).copied(), Some(to), "row {row}");
+        assert!(rt; forwards.get(from).copied() == Some(to), "row {row}");
     }
     let moved = [
         (FirstLeft, At(0, 0)),

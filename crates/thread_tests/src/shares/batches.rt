@@ -7,7 +7,7 @@ ghost use Rattle.std.specs.Mem.{FitsInMemory};
 ghost use Rattle.std.specs.Prelude.{◌≡◌, []};
 ghost use Rattle.thread_tests.specs.QueueRows.{queue_row};
 
-use super::calls::{Ask, Call, Seats, Told, answer};
+use super::calls::{Ask, Call, Seats, Told, answer, expect};
 use super::{CONFIG, Q, W, death, make_calls};
 use rationed::Rationed;
 use ref_base::{Batch, Done, Fault, MOST_IN_BATCH, Nos, ObjNo, Outs, Parcel, QueueNo, WorkerNo};
@@ -257,7 +257,7 @@ fn make<R: Wait + Abort>(
     match act {
         Act::Call(call, want) => {
             batch.end();
-            assert_eq!(rt; answer(rt, heap, queue, seats, call), want, "row {row}");
+            expect(rt, row, answer(rt, heap, queue, seats, call), want);
         }
         Act::Deliver(worker, max, want) => {
             let told = delivered(rt, heap, queue, seats, WorkerNo(worker), max, batch);
@@ -466,15 +466,31 @@ fn told_with<R: Wait + Abort>(
         heap: heap_seat,
         queue: queue_seat,
     };
-    make_calls(rt, &heap, &queue, &mut seats, &death());
-    let first = empty_batch(rt, memory);
-    let second = empty_batch(rt, memory);
-    memory.ration(met);
-    let told = delivered(rt, &heap, &queue, &mut seats, W, 32, first);
-    let was_refused = memory.lift();
-    let taken = polled(&queue, &mut seats.queue, 32, second);
+    let told = told_on(rt, memory, met, &heap, &queue, &mut seats);
     end_queue(queue.finish(seats.queue));
-    Ok((told, taken, was_refused))
+    Ok(told)
+}
+
+/// The same, on this heap and this queue, which are new.
+fn told_on<'a, R: Wait + Abort>(
+    rt: &R,
+    memory: &'a Rationed<Global>,
+    met: u64,
+    heap: &SharedHeap<&'a Rationed<Global>>,
+    queue: &SharedQueue<&'a Rationed<Global>>,
+    seats: &mut Seats<&'a Rationed<Global>>,
+) -> (Sent, Taken, bool)
+    requires { IsHeapSeat heap.now seats.old.heap × IsQueueSeat queue.now seats.old.queue }
+    ensures { IsHeapSeat heap.now seats.new.heap × IsQueueSeat queue.now seats.new.queue }
+{
+    make_calls(rt, heap, queue, seats, &death());
+    let first = empty_batch(rt, memory);
+    memory.ration(met);
+    let told = delivered(rt, heap, queue, seats, W, 32, first);
+    let was_refused = memory.lift();
+    let second = empty_batch(rt, memory);
+    let taken = polled(queue, &mut seats.queue, 32, second);
+    (told, taken, was_refused)
 }
 
 /// With each request refused in turn: what is not added comes back, and nothing is released. Answers how many requests

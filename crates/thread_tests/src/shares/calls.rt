@@ -19,6 +19,7 @@ use ref_share::{
 use ref_turn::TurnFault;
 use ref_world::{HeapAnswer, HeapCall, HeapReply};
 use std::alloc::{Allocator, Global};
+use std::process::Abort;
 use std::sync::Wait;
 use std::{fmt, mem, slice};
 
@@ -78,9 +79,9 @@ pub enum Call {
     DeliverNowhere,
 }
 
-/// What a call was answered. It is printed by its word and its numbers: a derive for so many variants would be dearer
-/// to prove than its stories.
-#[derive(Clone, Copy, PartialEq, Eq)]
+/// What a call was answered. It is compared and printed by its word and its numbers: derives for so many variants would
+/// be dearer to prove than its stories.
+#[derive(Clone, Copy)]
 pub enum Told {
     Reply(Reply),
     Served(u64),
@@ -148,6 +149,19 @@ impl Told {
             _ => [0; 3],
         }
     }
+
+    /// Whether both tell the same.
+    pub fn is(&self, other: &Told) -> bool {
+        match (self, other) {
+            (Told::Reply(one), Told::Reply(other)) => one == other,
+            _ => self.word() == other.word() && self.numbers() == other.numbers(),
+        }
+    }
+}
+
+/// The call of this row was answered as the story tells.
+pub fn expect(rt: &impl Abort, row: usize, told: Told, want: Told) {
+    assert!(rt; told.is(&want), "row {row}: {told:?}, and not {want:?}");
 }
 
 impl fmt::Debug for Told {

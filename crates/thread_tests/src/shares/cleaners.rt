@@ -86,11 +86,8 @@ fn do_all<R: Wait + Abort>(
         × IsCleanSeat shared.entry.cleaner.now chair.new.cleaner }
 {
     for (row, &(act, want)) in acts.iter().enumerate() {
-        assert_eq!(rt;
-            done(rt, shared, chair, jobs, hearing, act),
-            want,
-            "row {row}"
-        );
+        let told = done(rt, shared, chair, jobs, hearing, act);
+        assert!(rt; told.is(&want), "row {row}: {told:?}, and not {want:?}");
     }
 }
 
@@ -118,7 +115,7 @@ fn tell<R: Threads + Wait + Abort + Sync>(
     do_all(rt, shared, &mut chair, &mut jobs, &hearing, story.then);
     assert!(rt; !hearing.gave_up(), "one job waited for the other in vain");
     let (first, second) = story.heard;
-    assert_eq!(rt; hearing.heard(), (first, second, 0));
+    assert!(rt; hearing.heard() == (first, second, 0));
     chair
 }
 
@@ -146,12 +143,11 @@ fn agree<R: Threads + Wait + Abort + Sync>(
         jobs.push_back(Job::new(number, number + 1000, action))?;
     }
     let left = left_behind(rt, alloc, jobs, story)?;
-    assert_eq!(rt;
-        called.load(Ordering::SeqCst),
-        story.called,
+    assert!(rt;
+        called.load(Ordering::SeqCst) == story.called,
         "actions called"
     );
-    assert_eq!(rt; left, story.left, "jobs registered in the end");
+    assert!(rt; left == story.left, "jobs registered in the end");
     Ok(())
 }
 
@@ -184,7 +180,7 @@ fn left_behind<R: Threads + Wait + Abort + Sync>(
         seats,
         cleaner: seat,
     };
-    assert_eq!(rt; cleaner.queue(), Q);
+    assert!(rt; cleaner.queue() == Q);
     let Chair {
         seats,
         cleaner: seat,

@@ -61,10 +61,21 @@ fn polled(queue: &SharedQueue, mut seat: QueueSeat) -> Outcome
 
 /// What two threads are told that try the heap at its last turn.
 fn both_try<R: Threads + Wait + Sync>(rt: &R, alloc: Global) -> Result<(Outcome, Outcome), Fail> {
-    let (made, mut left) = SharedHeap::starting(alloc, CONFIG, 0, u64::MAX - 1)?;
-    let heap = &made;
+    let (heap, mut left) = SharedHeap::starting(alloc, CONFIG, 0, u64::MAX - 1)?;
     let right = heap.split(&mut left);
-    Ok(thread::join(
+    Ok(tried_by_both(rt, &heap, left, right))
+}
+
+fn tried_by_both<R: Threads + Wait + Sync>(
+    rt: &R,
+    heap: &SharedHeap,
+    left: HeapSeat,
+    right: HeapSeat,
+) -> (Outcome, Outcome)
+    requires left { IsHeapSeat heap.now left }
+    requires right { IsHeapSeat heap.now right }
+{
+    thread::join(
         rt,
         ||
             requires { IsHeapSeat heap.now left }
@@ -72,16 +83,29 @@ fn both_try<R: Threads + Wait + Sync>(rt: &R, alloc: Global) -> Result<(Outcome,
         ||
             requires { IsHeapSeat heap.now right }
         { tried(heap, right) },
-    ))
+    )
 }
 
 /// What two threads are told that poll the queue at its last turn.
 fn both_poll<R: Threads + Wait + Sync>(rt: &R, alloc: Global) -> Result<(Outcome, Outcome), Fail> {
-    let (made, mut seat) = SharedQueue::starting(alloc, Q, u64::MAX - 1)?;
-    let queue = &made;
+    let (queue, mut seat) = SharedQueue::starting(alloc, Q, u64::MAX - 1)?;
     let left = queue.split(&mut seat);
     let right = queue.split(&mut seat);
-    let told = thread::join(
+    let told = polled_by_both(rt, &queue, left, right);
+    end_queue(queue.finish(seat));
+    Ok(told)
+}
+
+fn polled_by_both<R: Threads + Wait + Sync>(
+    rt: &R,
+    queue: &SharedQueue,
+    left: QueueSeat,
+    right: QueueSeat,
+) -> (Outcome, Outcome)
+    requires left { IsQueueSeat queue.now left }
+    requires right { IsQueueSeat queue.now right }
+{
+    thread::join(
         rt,
         ||
             requires { IsQueueSeat queue.now left }
@@ -89,9 +113,7 @@ fn both_poll<R: Threads + Wait + Sync>(rt: &R, alloc: Global) -> Result<(Outcome
         ||
             requires { IsQueueSeat queue.now right }
         { polled(queue, right) },
-    );
-    end_queue(made.finish(seat));
-    Ok(told)
+    )
 }
 
 /// The one was made, and the other told that no turn is left.

@@ -5,7 +5,7 @@ ghost use Rattle.ref_share.specs.HeapSeats.{IsHeapSeat};
 ghost use Rattle.ref_share.specs.QueueSeats.{IsQueueSeat};
 ghost use Rattle.thread_tests.specs.QueueLists.{AreSeated};
 
-use super::calls::{Do, Told, replied, step_of, weak};
+use super::calls::{Do, Told, expect, replied, step_of, weak};
 use super::{CONFIG, M, W};
 use ref_base::{Config, HeapStep, ObjNo, PlainStep, QueueNo, Reply, SlotNo};
 use ref_share::{
@@ -84,7 +84,7 @@ fn has_its_own<R: Abort>(rt: &R, alloc: Global, queue: SharedQueue, seat: QueueS
             let enqueued = left.enqueued(alloc);
             end_queue(Ok(left));
             match enqueued {
-                Ok(found) => assert_eq!(rt; found.as_slice(), want, "{number}"),
+                Ok(found) => assert!(rt; found.as_slice() == want, "{number}"),
                 Err(fault) => panic!(rt; "{fault}"),
             }
         }
@@ -114,10 +114,8 @@ fn tell<R: Abort>(rt: &R, heap: &SharedHeap, seat: &mut HeapSeat, step: PlainSte
     requires { IsHeapSeat heap.now seat.old }
     ensures { IsHeapSeat heap.now seat.new }
 {
-    assert_eq!(rt;
-        replied(heap.try_call(seat, HeapStep::Plain(step))),
-        Told::Reply(want)
-    );
+    let told = replied(heap.try_call(seat, HeapStep::Plain(step)));
+    expect(rt, 0, told, Told::Reply(want));
 }
 
 /// The slot of the reference for this queue.
@@ -223,16 +221,12 @@ fn deliver_all<R: Wait + Abort>(rt: &R, alloc: Global, queues: u32) -> Result<()
     for place in 0..queues {
         let queue = queue_at(place, queues);
         let want = Delivery::Added(ObjNo(queue + 2), QueueNo(queue), 0);
-        assert_eq!(rt;
-            delivered(rt, &heap, &mut seat, &mut lists),
-            Some(want),
+        assert!(rt;
+            delivered(rt, &heap, &mut seat, &mut lists) == Some(want),
             "place {place}"
         );
     }
-    assert_eq!(rt;
-        delivered(rt, &heap, &mut seat, &mut lists),
-        Some(Delivery::Nothing)
-    );
+    assert!(rt; delivered(rt, &heap, &mut seat, &mut lists) == Some(Delivery::Nothing));
     lists.end(rt, alloc, true);
     Ok(())
 }
@@ -248,7 +242,7 @@ fn enqueue_all<R: Wait + Abort>(rt: &R, alloc: Global, queues: u32) -> Result<()
         let slot = slot_of(queue, queues);
         for want in [true, false] {
             let is_added = is_enqueued(rt, &heap, &mut seat, &mut lists, slot);
-            assert_eq!(rt; is_added, Some(want), "queue {queue}");
+            assert!(rt; is_added == Some(want), "queue {queue}");
         }
     }
     lists.end(rt, alloc, true);

@@ -81,12 +81,11 @@ fn make_each(rt: &impl Abort, memory: &Rationed<Global>, name: &str, made: Made)
         memory.ration(met);
         let answer = make(memory, made);
         if !memory.lift() {
-            assert_eq!(rt; answer, Ok(()), "{name} with {met} requests met");
+            assert!(rt; answer == Ok(()), "{name} with {met} requests met");
             return met;
         }
-        assert_eq!(rt;
-            answer,
-            Err(Fault::NoMemory),
+        assert!(rt;
+            answer == Err(Fault::NoMemory),
             "{name} with {met} requests met"
         );
     }
@@ -147,19 +146,37 @@ fn told_with<R: Wait + Abort>(
         heap: heap_seat,
         queue: queue_seat,
     };
-    make_calls(rt, &heap, &queue, &mut seats, &death());
-    memory.ration(met);
-    let told = answer(rt, &heap, &queue, &mut seats, call);
-    let again = if memory.lift() { Some(call) } else { None };
-    let (next, then) = told_next(rt, &heap, &queue, &mut seats, again);
+    let told = told_on(rt, memory, met, call, &heap, &queue, &mut seats);
     end_queue(queue.finish(seats.queue));
-    Ok((told, next, then))
+    Ok(told)
+}
+
+/// The same, on this heap and this queue, which are new.
+fn told_on<'a, R: Wait + Abort>(
+    rt: &R,
+    memory: &Rationed<Global>,
+    met: u64,
+    call: Call,
+    heap: &SharedHeap<&'a Rationed<Global>>,
+    queue: &SharedQueue<&'a Rationed<Global>>,
+    seats: &mut Seats<&'a Rationed<Global>>,
+) -> (Told, Told, Option<Told>)
+    requires { IsHeapSeat heap.now seats.old.heap × IsQueueSeat queue.now seats.old.queue }
+    ensures { IsHeapSeat heap.now seats.new.heap × IsQueueSeat queue.now seats.new.queue }
+{
+    make_calls(rt, heap, queue, seats, &death());
+    memory.ration(met);
+    let told = answer(rt, heap, queue, seats, call);
+    let again = if memory.lift() { Some(call) } else { None };
+    let (next, then) = told_next(rt, heap, queue, seats, again);
+    (told, next, then)
 }
 
 /// A call with so many requests met was told this, and a poll behind it that.
 fn expect(rt: &impl Abort, name: &str, met: u64, told: (Told, Told), want: (Told, Told)) {
+    let is_so = told.0.is(&want.0) && told.1.is(&want.1);
     assert!(rt;
-        told == want,
+        is_so,
         "{name} with {met} requests met: {told:?}, and not {want:?}"
     );
 }
@@ -173,7 +190,7 @@ fn refuse_each<R: Wait + Abort>(
 ) -> Result<u64, Fail> {
     for met in 0..MOST {
         let (told, next, then) = told_with(rt, memory, met, trial.call)?;
-        if then.is_none() {
+        let Some(then) = then else {
             expect(
                 rt,
                 trial.name,
@@ -182,7 +199,7 @@ fn refuse_each<R: Wait + Abort>(
                 (trial.added, Told::Took(2)),
             );
             return Ok(met);
-        }
+        };
         expect(
             rt,
             trial.name,
@@ -190,7 +207,7 @@ fn refuse_each<R: Wait + Abort>(
             (told, next),
             (Told::NotPut(2, Fault::NoMemory), Told::Empty),
         );
-        assert!(rt; then == Some(trial.then), "there is memory then: {then:?}");
+        assert!(rt; then.is(&trial.then), "there is memory then: {then:?}");
     }
     Ok(MOST)
 }
@@ -289,7 +306,7 @@ fn register_each<R: Wait + Abort>(
             return Ok(met);
         };
         assert!(rt; was_refused, "there was memory, with {met} requests met");
-        assert!(rt; told == Told::Refused(Fault::NoMemory), "{told:?}");
+        assert!(rt; told.is(&Told::Refused(Fault::NoMemory)), "{told:?}");
         assert!(rt; back.number() == 1, "the job comes back");
     }
     Ok(MOST)

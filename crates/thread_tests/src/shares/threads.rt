@@ -150,8 +150,9 @@ fn agree_while_two_wait<R: Threads + Wait + Abort + Sync>(
         queue: queue_seat,
     };
     let (first, second, seats) = told_meanwhile(rt, &heap, &queue, seats, story);
+    let (one, other) = want;
     assert!(rt;
-        (first, second) == want || (second, first) == want,
+        first.is(&one) && second.is(&other) || second.is(&one) && first.is(&other),
         "{first:?}, {second:?}"
     );
     assert!(rt;

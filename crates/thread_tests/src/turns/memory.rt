@@ -25,12 +25,12 @@ fn make_each(rt: &impl Abort, memory: &Rationed<Global>, first: Option<u64>) -> 
         match made {
             Ok((turn, seat)) => {
                 assert!(rt; !was_refused, "it is made with {met} requests met");
-                assert_eq!(rt; turn.finish(seat), Ok(Counter { count: 7 }));
+                assert!(rt; turn.finish(seat) == Ok(Counter { count: 7 }));
                 return met;
             }
             Err(refused) => {
                 assert!(rt; was_refused, "there was memory, with {met} requests met");
-                assert_eq!(rt; refused, (Fault::NoMemory, Counter { count: 7 }));
+                assert!(rt; refused == (Fault::NoMemory, Counter { count: 7 }));
             }
         }
     }

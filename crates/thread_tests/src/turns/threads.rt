@@ -48,8 +48,8 @@ fn two_threads_add_each_once(rt: HostRuntime) -> Result<(), Fail> {
         { add_often(&rt, turn, right, 10_000) },
     );
     turn.join(&mut seat, other);
-    assert_eq!(rt; turn.served(&mut seat), 20_000);
-    assert_eq!(rt; made.finish(seat), Ok(Counter { count: 20_000 }));
+    assert!(rt; turn.served(&mut seat) == 20_000);
+    assert!(rt; made.finish(seat) == Ok(Counter { count: 20_000 }));
     Ok(())
 }
 
@@ -104,26 +104,20 @@ fn tried_meanwhile<R: Threads + Wait + Abort + Sync>(
             requires { IsSeatOf turn.now right }
         { knock(&gate, turn, right) },
     );
-    assert_eq!(rt; held, Ok(0));
+    assert!(rt; held == Ok(0));
     assert!(rt; is_reached, "the step was at the gate");
     Ok(tried)
 }
 
 #[test]
 fn a_try_is_busy_while_another_step_is_at_the_gate(rt: HostRuntime) -> Result<(), Fail> {
-    assert_eq!(rt;
-        tried_meanwhile(&rt, rt.alloc(), 0)?,
-        Err(TurnFault::Busy(9))
-    );
+    assert!(rt; tried_meanwhile(&rt, rt.alloc(), 0)? == Err(TurnFault::Busy(9)));
     Ok(())
 }
 
 #[test]
 fn a_try_is_spent_while_the_last_step_is_at_the_gate(rt: HostRuntime) -> Result<(), Fail> {
-    assert_eq!(rt;
-        tried_meanwhile(&rt, rt.alloc(), u64::MAX - 1)?,
-        Err(TurnFault::Spent(9))
-    );
+    assert!(rt; tried_meanwhile(&rt, rt.alloc(), u64::MAX - 1)? == Err(TurnFault::Spent(9)));
     Ok(())
 }
 
@@ -166,7 +160,7 @@ fn a_call_sleeps_behind_a_long_turn_and_wakes(rt: HostRuntime) -> Result<(), Fai
             requires { IsSeatOf turn.now right }
         { queue_up(&rt, &gate, turn, right) },
     );
-    assert_eq!(rt; held, Ok(0));
-    assert_eq!(rt; next, (true, Ok(1)));
+    assert!(rt; held == Ok(0));
+    assert!(rt; next == (true, Ok(1)));
     Ok(())
 }

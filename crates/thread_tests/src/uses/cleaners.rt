@@ -206,10 +206,7 @@ fn a_cleaner_makes_its_calls_of_the_heap(rt: HostRuntime) -> Result<(), Fail> {
         Some(Cleanable { obj: ObjNo(2) }),
         Some(Cleanable { obj: ObjNo(3) }),
     ];
-    assert_eq!(rt;
-        cleaned_anew(&rt, rt.alloc(), jobs)?,
-        (want, Some(true), Some(true), Some(0))
-    );
+    assert!(rt; cleaned_anew(&rt, rt.alloc(), jobs)? == (want, Some(true), Some(true), Some(0)));
     Ok(())
 }
 
@@ -233,12 +230,11 @@ fn closing(alloc: Global, file: File, number: u64) -> Result<Job, AllocError>
 fn a_job_closes_its_file(rt: HostRuntime) -> Result<(), Fail> {
     let file = File::open(&rt, "/dev/null")?;
     let ran = closing(rt.alloc(), file, 7)?.run();
-    assert_eq!(rt;
-        ran,
-        Ran {
+    assert!(rt;
+        ran == (Ran {
             number: 7,
             answer: 7
-        }
+        })
     );
     Ok(())
 }

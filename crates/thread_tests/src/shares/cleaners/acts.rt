@@ -48,8 +48,8 @@ pub enum Act {
     Served,
 }
 
-/// What it is told. It is printed by its word and its numbers.
-#[derive(Clone, Copy, PartialEq, Eq)]
+/// What it is told. It is compared and printed by its word and its numbers.
+#[derive(Clone, Copy)]
 pub enum Answer {
     /// By heap or queue, or why the cleaner refuses.
     Share(Told),
@@ -102,6 +102,16 @@ impl Answer {
             Answer::Share(told) | Answer::NotRegistered(_, told) => Some(told),
             _ => None,
         }
+    }
+
+    /// Whether both tell the same.
+    pub fn is(&self, other: &Answer) -> bool {
+        let is_told_so = match (self.told(), other.told()) {
+            (Some(one), Some(other)) => one.is(&other),
+            (None, None) => true,
+            _ => false,
+        };
+        is_told_so && self.word() == other.word() && self.numbers() == other.numbers()
     }
 }
 

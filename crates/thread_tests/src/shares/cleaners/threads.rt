@@ -227,7 +227,10 @@ pub fn clean_meanwhile<R: Threads + Wait + Abort + Sync>(
     );
     match told {
         (Answer::Ended(first), Answer::Ended(second)) => {
-            assert_eq!(rt; first.checked_add(second), Some(story.count), "jobs in all");
+            assert!(rt;
+                first.checked_add(second) == Some(story.count),
+                "jobs in all"
+            );
         }
         _ => assert!(rt; false, "{told:?}"),
     }
