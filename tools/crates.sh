@@ -4,7 +4,7 @@
 # the repository, and teller, the word that its messages begin with; and it has a function `prove`, for `prove_all`.
 root=${root:?} teller=${teller:?}
 
-# How many seconds the proof of a crate takes from nothing on four cores, one crate with another. The thirteen crates of
+# How many seconds the proof of a crate takes from nothing on four cores, one crate with another. The fourteen crates of
 # the program take about half an hour.
 seconds_a_crate=180
 

@@ -55,9 +55,14 @@ fn agree(rt: &impl Abort, alloc: Global, story: &[(Call, Told)], left: u64) {
         count = u64::saturating_add(count, 1);
     }
     assert!(rt; count == left, "jobs left");
+    end(rt, table);
+}
+
+/// Ends the table, in which no job is left.
+fn end<A: Allocator + Copy>(rt: &impl Abort, table: CleanTable<u64, u64, A>) {
     match table.end() {
         Ok(()) => {}
-        Err(_table) => unreachable!(),
+        Err(_table) => panic!(rt; "a job is left"),
     }
 }
 
@@ -132,26 +137,27 @@ fn register<'a>(
     MOST
 }
 
-#[test]
-fn a_job_without_memory_comes_back(rt: HostRuntime) {
-    let memory = Rationed::new(rt.alloc());
-    let mut table = CleanTable::new(&memory);
+/// Registers the jobs of a hundred objects so, and takes them out again.
+fn register_all<'a>(
+    rt: &impl Abort,
+    memory: &'a Rationed<Global>,
+    table: &mut CleanTable<u64, u64, &'a Rationed<Global>>,
+) {
     let mut requests = 0u64;
     for object in 0..100 {
-        requests = requests.saturating_add(register(&rt, &memory, &mut table, object));
+        requests = requests.saturating_add(register(rt, memory, table, object));
     }
     assert!(rt; 1 < requests && requests < MOST, "{requests} requests");
     for object in 0..100 {
         let job = Told::Job(70, u64::from(object));
-        expect(
-            &rt,
-            object as usize,
-            answer(&mut table, Call::Take(object)),
-            job,
-        );
+        expect(rt, object as usize, answer(table, Call::Take(object)), job);
     }
-    match table.end() {
-        Ok(()) => {}
-        Err(_table) => panic!(rt; "a job is left"),
-    }
+}
+
+#[test]
+fn a_job_without_memory_comes_back(rt: HostRuntime) {
+    let memory = Rationed::new(rt.alloc());
+    let mut table = CleanTable::new(&memory);
+    register_all(&rt, &memory, &mut table);
+    end(&rt, table);
 }

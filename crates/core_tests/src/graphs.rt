@@ -4,7 +4,8 @@ mod memory;
 mod stories;
 
 use crate::told::{Told, expect};
-use ref_base::{Fault, Graph, ObjNo, Strength, strength_of, strengths};
+use ref_base::{Fault, ObjNo, Strength};
+use ref_graph::{Graph, strength_of, strengths};
 use std::alloc::{Allocator, Global};
 use std::process::Abort;
 

@@ -1,21 +1,14 @@
 //! The hand of a story, which has one hold at most: a hold can't stand in a table.
 
+use crate::objects::config;
 use crate::told::Told;
-use ref_base::{Config, Fault, MutNo, ObjNo, SlotNo, SpanRule};
+use ref_base::{Fault, MutNo, ObjNo, SlotNo};
 use ref_objects::{Hold, Objects};
 use std::alloc::Global;
 
 /// A hold of object 1 of a heap of number 2, where the heaps of stories have number 1.
 pub fn foreign(alloc: Global) -> Result<Hold, Fault> {
-    let config = Config {
-        mutators: 1,
-        workers: 1,
-        queues: 1,
-        cells: 1,
-        span: 0,
-        rule: SpanRule::Fixed,
-    };
-    let mut heap = Objects::new(alloc, config, 2)?;
+    let mut heap = Objects::new(alloc, config(1), 2)?;
     heap.alloc_obj(MutNo(0), SlotNo(0), 0)?;
     heap.hold(MutNo(0), SlotNo(0))
 }

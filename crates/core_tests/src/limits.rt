@@ -1,6 +1,7 @@
 //! What a configuration may be, which soft references a cycle keeps, and its scaled span.
 
-use ref_base::{Config, Fault, Policy, SpanRule, Urgency, keeps, scaled};
+use ref_base::{Config, Fault, Policy, SpanRule, Urgency};
+use ref_space::{first_policy, keeps, policy_from, scaled};
 use std::process::Abort;
 
 /// Each of these is checked with this answer.
@@ -103,13 +104,13 @@ fn the_rule_settles_the_span_of_a_cycle(rt: HostRuntime) {
             rule,
             ..LEAST
         };
-        let policy = Policy::of(config, 6, 5, Urgency::Urgent);
+        let policy = policy_from(config, 6, 5, Urgency::Urgent);
         let wanted = Policy {
             clock: 5,
             urgency: Urgency::Urgent,
             span: want,
         };
         assert!(rt; policy == wanted, "{rule:?}");
-        assert!(rt; Policy::first(config).span == 10, "{rule:?}");
+        assert!(rt; first_policy(config).span == 10, "{rule:?}");
     }
 }

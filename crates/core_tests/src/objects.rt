@@ -362,7 +362,7 @@ fn answer<A: Allocator + Copy>(bench: &mut Bench<A>, call: Call) -> Told {
 }
 
 /// One mutator, one worker, one queue, so many cells.
-const fn config(cells: u32) -> Config {
+pub const fn config(cells: u32) -> Config {
     Config {
         mutators: 1,
         workers: 1,

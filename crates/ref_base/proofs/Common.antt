@@ -26,7 +26,6 @@ pub use Rattle.ref_base.specs.CollectorRows.{referent_of, shown, ticked, value_r
 pub use Rattle.ref_base.specs.Collectors.{State, first_state, first_state_of, joined}
 pub use Rattle.ref_base.specs.CountedHolds.{AreCounted, holds_after, in_hands, in_queues, tally}
 pub use Rattle.ref_base.specs.DoomedSets.{MayDoom, any_is, is_new_clear, new_clears, refers_into}
-pub use Rattle.ref_base.specs.GraphViews.{stored_object}
 pub use Rattle.ref_base.specs.Graphs.{Graph, Object, Reference, is_there, numbers, object_at, plain_object, with_object}
 pub use Rattle.ref_base.specs.HeapSteps.{HeldNotice, NamedStep, handed, heap_step, hold_of, spending, taking, with_rest}
 pub use Rattle.ref_base.specs.Heaps.{Heap, changed_at, changed_in, changed_reference, cleared, cut, got, got_at, made}
@@ -54,7 +53,7 @@ pub use Rattle.ref_base.specs.Replay.{after, after_heap, after_queues, begun, cl
 pub use Rattle.ref_base.specs.Replay.{notice_of, pended, put_in, replayed, replayed_from, taken_out, took, with_phase}
 pub use Rattle.ref_base.specs.Replay.{without_pending}
 pub use Rattle.ref_base.specs.ScannedRows.{scanned_in_cycle}
-pub use Rattle.ref_base.specs.Searches.{ArePathEnds, IsSearched, added_all, allowed, fields_of, phantom_referents}
+pub use Rattle.ref_base.specs.Searches.{ArePathEnds, IsSearched, added_all, fields_of, phantom_referents}
 pub use Rattle.ref_base.specs.Strengths.{HangsOnPhantom, HasStrength, IsRising}
 pub use Rattle.ref_base.specs.Told.{is_done, is_selected, told_cycle, told_notices, told_object, told_taken, told_dones}
 pub use Rattle.ref_base.specs.QueueBatches.{Become, Becomes, TellsBatch, added_among, after_each, after_one, not_added}

@@ -6,7 +6,7 @@ pub mod WorkedTraces
 pub mod ClosedSets
 pub mod DoomChecks
 pub mod LegalSteps
-pub mod StoreLaws
+pub mod RisingLists
 pub mod SearchLaws
 pub mod StrengthLaws
 pub mod KeptLaws
@@ -82,5 +82,3 @@ mod LegalExamples
 mod IllegalExamples
 mod Examples
 pub mod WantedMemory
-pub mod NumberPlaceLemmas
-pub mod StoredFields

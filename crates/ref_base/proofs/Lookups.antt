@@ -1,11 +1,17 @@
 -- What a look-up finds after an object is changed or made, and what lists of values hold after one is set.
 use Rattle.ref_base.proofs.Common.{◌≡◌, ℕ, zero, suc, ◌<◌, true, false, ◌==◌, refl, arith, List, [], ◌∷◌, ◌++◌, length}
-use Rattle.ref_base.proofs.Common.{Option, Some, None, ◌⊎◌, inl, slice_index_or, slice_set, or_left, or_right}
+use Rattle.ref_base.proofs.Common.{Option, Some, None, ◌⊎◌, inl, inr, cases_Bool, slice_index_or, slice_set, or_left, or_right}
 use Rattle.ref_base.proofs.Common.{false≢true, eq-eqb, has, Object, Reference, object_at, is_there, numbers, Allowed}
 use Rattle.ref_base.proofs.Common.{present, allowed_referent, IsRising, changed_at}
 use Rattle.ref_base.proofs.HasLaws.{has-first}
 
 -- ---- objects
+
+-- whether there is an object is whether its number is among theirs
+pub is_there-has : (os : List Object) (n : ℕ) → is_there os n ≡ has (numbers os) n
+is_there-has [] n = refl
+is_there-has (o ∷ os) n =
+    elim (cases_Bool (o.no == n)) [ inl same ↦ simp same refl | inr other ↦ simp other (is_there-has os n) ]
 
 -- what holds between each object and itself, and between the one of number n and what it becomes, holds of each look-up
 -- before and after the change

@@ -7,7 +7,7 @@ use Rattle.std.proofs.lemmas.Bool.{false_from_ne_true}
 use Rattle.ref_base.specs.DoomedSets.{unscanned}
 use Rattle.ref_base.specs.CollectorRows.{shown}
 use Rattle.ref_base.proofs.HasLaws.{has-left, has-first}
-use Rattle.ref_base.proofs.StoreLaws.{rising-lacks, rising-tail}
+use Rattle.ref_base.proofs.RisingLists.{rising-lacks, rising-tail}
 use Rattle.ref_base.proofs.Subsequences.{Sub}
 
 -- what was never scanned is listed in the order of the objects

@@ -4,12 +4,9 @@ pub mod Texts
 pub mod Members
 pub mod Filled
 pub mod Graphs
-pub mod NumberPlaces
 pub mod Paths
 pub mod Strengths
 pub mod ReachNames
-pub mod GraphViews
-pub mod GraphAnswers
 pub mod Searches
 pub mod Steps
 pub mod Replies

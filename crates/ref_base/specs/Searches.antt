@@ -1,27 +1,14 @@
 -- What a search through a graph does to the numbers that it has seen, and what it finds.
-use Rattle.std.specs.Prelude.{◌≡◌, ℕ, ◌+◌, ◌≤◌, Bool, true, false, if◌then◌else◌, List, [], ◌∷◌, ◌++◌, length, map}
+use Rattle.std.specs.Prelude.{◌≡◌, ℕ, ◌+◌, ◌≤◌, true, if◌then◌else◌, List, [], ◌∷◌, ◌++◌, length, map}
 use Rattle.std.specs.Prelude.{take, Option, Some, None}
 use Rattle.ref_base.specs.Members.{has}
 use Rattle.ref_base.specs.Graphs.{Graph, Object, Reference, object_at, is_there, with_root}
-use Rattle.ref_base.specs.Paths.{Allowed, EndsPath, allowed_referent, if_any, is_phantom, is_soft, is_weak}
+use Rattle.ref_base.specs.Paths.{Allowed, EndsPath, allowed_referent, if_any, is_phantom}
 use Rattle.ref_base.specs.Paths.{no_referents, present, soft_referents, soft_and_weak_referents, targets_at}
 use Rattle.ref_base.specs.Strengths.{HangsOnPhantom}
 use Rattle.ref_base.specs.declared.reach.Reach.{Reach}
 use Rattle.ref_base.specs.declared.reach.Reach.TheVariants as reaches
 use Rattle.ref_base.specs.declared.reach.ObjectReach.{ObjectReach}
-use Rattle.ref_base.specs.declared.search.Allow.{Allow}
-use Rattle.ref_base.specs.declared.search.Allow.TheVariants as allow
-use Rattle.ref_base.specs.declared.strength.Strength.{Strength}
-
--- whether a path may go through a reference of this strength
-abbrev pub allows : Allow → Strength → Bool
-allows allow.NoReferents s = false
-allows allow.Soft s = is_soft s
-allows allow.SoftAndWeak s = if is_soft s then true else is_weak s
-
--- the same of references
-abbrev pub allowed : Allow → Allowed
-allowed a r = allows a r.strength
 
 -- the numbers with one more, last, where it is that of an object and isn't among them
 abbrev pub with_reached : List Object → List ℕ → ℕ → List ℕ

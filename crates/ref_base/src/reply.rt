@@ -1,6 +1,6 @@
 //! What a step is answered.
 
-ghost use Rattle.std.specs.Prelude.{◌+◌, ◌<◌, ◌^◌, [], ◌∷◌, Some, length};
+ghost use Rattle.std.specs.Prelude.{◌+◌, ◌<◌, ◌^◌, [], ◌∷◌, ◌++◌, Some, length};
 ghost use Rattle.std.specs.Fmt.{DisplaysOnOk};
 ghost use Rattle.ref_base.specs.Texts.{Letters, number, queue as queue_word, text_of};
 ghost use Rattle.ref_base.specs.Outs.{out_of, outs_of};
@@ -98,26 +98,16 @@ impl fmt::Display for Reply {
                 queue,
                 cycle,
                 worker,
-            } => {
-                f.write_str("notices")?;
-                say_numbers(f, objects.as_slice())?;
-                say_origin(f, *queue, *cycle, *worker)
-            }
+            } => say_notices(f, objects, *queue, *cycle, *worker),
             Reply::Nothing => f.write_str("none"),
             Reply::Added(position) => say_out(f, *position, Done::Added),
             Reply::Already => f.write_str("already"),
             Reply::Closed => f.write_str("closed"),
             Reply::Outs(outs) => say_outs(f, outs.before(), outs.as_slice()),
             Reply::Took(object) => say_named(f, "took", object.0),
-            Reply::TookSome(objects) => {
-                f.write_str("took")?;
-                say_numbers(f, objects.as_slice())
-            }
+            Reply::TookSome(objects) => say_listed(f, "took", objects),
             Reply::Empty => f.write_str("empty"),
-            Reply::Cycle(cycle) => {
-                f.write_str("cycle ")?;
-                say_number(f, *cycle)
-            }
+            Reply::Cycle(cycle) => say_cycle(f, *cycle),
             Reply::Scanned(object) => say_named(f, "scanned", object.0),
             Reply::Doomed(count) => say_named(f, "doomed", *count),
             Reply::Cleared(object) => say_named(f, "cleared", object.0),
@@ -174,6 +164,31 @@ fn say_notice<W: fmt::Write>(
     }
 }
 
+// As `notices 2 6 q0 cycle 1 w0`.
+#[inline(always)]
+fn say_notices<W: fmt::Write>(
+    f: &mut fmt::Formatter<W>,
+    objects: &Nos,
+    queue: QueueNo,
+    cycle: u64,
+    worker: WorkerNo,
+) -> fmt::Result
+    ensures { DisplaysOnOk W.write_str_gives f.old result
+        (Some (reply_text (Reply.Notices objects.now queue cycle worker))) f.new }
+{
+    say_listed(f, "notices", objects)?;
+    say_origin(f, queue, cycle, worker)
+}
+
+// As `cycle 1`.
+#[inline(always)]
+fn say_cycle<W: fmt::Write>(f: &mut fmt::Formatter<W>, cycle: u64) -> fmt::Result
+    ensures { DisplaysOnOk W.write_str_gives f.old result (Some (reply_text (Reply.Cycle cycle))) f.new }
+{
+    f.write_str("cycle ")?;
+    say_number(f, cycle)
+}
+
 // As ` q0 cycle 1 w0`.
 fn say_origin<W: fmt::Write>(
     f: &mut fmt::Formatter<W>,
@@ -188,6 +203,19 @@ fn say_origin<W: fmt::Write>(
     f.write_str(" cycle ")?;
     say_number(f, cycle)?;
     say_behind(f, " w", worker.0)
+}
+
+// As `took 2 6`.
+#[inline(always)]
+fn say_listed<W: fmt::Write>(
+    f: &mut fmt::Formatter<W>,
+    name: &'static str,
+    objects: &Nos,
+) -> fmt::Result
+    ensures { DisplaysOnOk W.write_str_gives f.old result (Some (name.now ++ spaced objects.now)) f.new }
+{
+    f.write_str(name)?;
+    say_numbers(f, objects.as_slice())
 }
 
 // Prints the numbers, with a space before each.

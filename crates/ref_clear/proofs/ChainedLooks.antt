@@ -17,7 +17,7 @@ use Rattle.ref_clear.specs.ClearViews.{AreApart}
 use Rattle.ref_mark.specs.CycleHeaps.{found_looked_at}
 use Rattle.ref_mark.proofs.ChainLemmas.{first_look, none_told, ArePushed, pushes_one, chain_at, chain-linked, has-last}
 use Rattle.ref_mark.proofs.ChainLemmas.{listed_within, list_at-lists_of, lists-same}
-use Rattle.ref_base.proofs.StoreLaws.{is_there-has}
+use Rattle.ref_base.proofs.Lookups.{is_there-has}
 use Rattle.ref_mark.proofs.DistinctLists.{distinct_fit, AreDistinct-taken}
 use Rattle.ref_mark.proofs.LinkLemmas.{link_at-cleared, is_tagged-cleared}
 use Rattle.ref_mark.proofs.MarkerLemmas.{length-lists_of, length-joined}

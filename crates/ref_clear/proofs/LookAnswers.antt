@@ -10,7 +10,7 @@ use Rattle.std.proofs.lemmas.List.{set-get_or}
 use Rattle.ref_clear.specs.ClearHeaps.{heap_looked_at}
 use Rattle.ref_objects.proofs.TagLemmas.{cleared_in_at-other, cleared_in_at-own}
 use Rattle.ref_base.proofs.HasLaws.{has-cases, has-single}
-use Rattle.ref_base.proofs.StoreLaws.{is_there-has}
+use Rattle.ref_base.proofs.Lookups.{is_there-has}
 use Rattle.ref_mark.proofs.Mutations.{referring_is_there}
 use Rattle.ref_clear.proofs.TakenLists.{numbers_in}
 use Rattle.ref_clear.proofs.KeptPending.{AreKept, waits_there, seen_kept, registered_kept, lists_kept, told_same}

@@ -13,7 +13,7 @@ use Rattle.ref_objects.specs.Grounds.{Space}
 use Rattle.ref_clear.specs.ClearHeaps.{vacated_all}
 use Rattle.ref_mark.specs.CycleHeaps.{is_swept, swept}
 use Rattle.ref_base.proofs.HasLaws.{has-first}
-use Rattle.ref_base.proofs.StoreLaws.{rising-above, rising-tail}
+use Rattle.ref_base.proofs.RisingLists.{rising-above, rising-tail}
 use Rattle.ref_mark.proofs.DoomedLists.{has-doomed}
 use Rattle.ref_mark.proofs.MutatedStates.{sweeping_is_past}
 use Rattle.ref_clear.proofs.GoneObjects.{without-none, without-append, object_at-left, left_from_there, rising-without}

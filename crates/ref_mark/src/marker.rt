@@ -23,6 +23,7 @@ mod moves;
 use crate::chain::Chain;
 use ref_base::{Config, Fault, MutNo, ObjNo, Phase, Policy, QueueNo, Reply, SlotNo, Strength};
 use ref_objects::{Entry, Objects, Start, Worklist};
+use ref_space::first_policy;
 use std::alloc::{AllocError, Allocator, Global};
 use std::marker::Model;
 
@@ -85,7 +86,7 @@ impl<A: Allocator + Copy> Marker<A> {
                 found,
                 found_last: [0; MOST_WORKERS],
                 phase: Phase::Idle,
-                policy: Policy::first(config),
+                policy: first_policy(config),
                 cycle: start.cycle,
             }),
             Err(_) => Err(Fault::NoMemory),

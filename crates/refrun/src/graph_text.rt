@@ -12,7 +12,8 @@ ghost use Rattle.refrun.specs.ToldLines.{is_plain_line, told};
 
 use crate::declarations::{Declaration, Fields, declaration_of};
 use crate::told::{Lines, is_titled};
-use ref_base::{Fault, Graph, ObjNo};
+use ref_base::{Fault, ObjNo};
+use ref_graph::Graph;
 use ref_text::{LineFault, TextFault};
 use std::alloc::Allocator;
 

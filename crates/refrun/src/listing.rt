@@ -11,7 +11,8 @@ ghost use Rattle.refrun.specs.TextFaults.{GraphHeader, first_fault, graph_fault}
 use crate::graph_text::declared_graph;
 use crate::printed::Printed;
 use crate::reading::text_of;
-use ref_base::{Graph, ObjectReach, strengths};
+use ref_base::ObjectReach;
+use ref_graph::{Graph, strengths};
 use ref_text::{TextFault, TextSink, TextSource, WriteFailed};
 use std::alloc::{AllocError, Allocator};
 use std::fmt;

@@ -168,10 +168,10 @@ fn a_heap_out_of_limits_is_refused_before_memory_is_taken(rt: HostRuntime) {
         ),
     ];
     for (row, &(config, want)) in refused.iter().enumerate() {
-        assert!(rt;
-            Heap::new(&none, config, 1).err() == Some(want),
-            "row {row}"
-        );
+        match Heap::new(&none, config, 1) {
+            Ok(_heap) => panic!(rt; "row {row} is made"),
+            Err(fault) => assert!(rt; fault == want, "row {row}: {fault}"),
+        }
     }
 }
 

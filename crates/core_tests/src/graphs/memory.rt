@@ -5,7 +5,8 @@ use super::{Call, answer, count, make_calls, strength};
 use crate::scarce::{MOST, Trial, is_refused};
 use crate::told::Told;
 use rationed::Rationed;
-use ref_base::{Fault, Graph, ObjNo, Reach, Strength};
+use ref_base::{Fault, ObjNo, Reach, Strength};
+use ref_graph::Graph;
 use std::alloc::{Allocator, Global};
 use std::process::Abort;
 use std::test::Fail;
@@ -49,6 +50,15 @@ fn added(no: u32) -> (&'static str, Call) {
     }
 }
 
+/// The number of the object at this place: every second is one that a graph looks up by hashing.
+fn number_at(place: u32) -> u32 {
+    if place % 2 == 0 {
+        place
+    } else {
+        1_048_576 | place
+    }
+}
+
 /// Adds objects, each with each request refused in turn. Answers how many requests that makes.
 fn add_each<'a>(
     rt: &impl Abort,
@@ -57,9 +67,10 @@ fn add_each<'a>(
     graph: &mut Graph<&'a Rationed<Global>>,
 ) -> u64 {
     let mut requests = 0u64;
-    for no in 0..60 {
+    for place in 0..60 {
+        let no = number_at(place);
         let stays = [
-            (Count, Told::Count(u64::from(no))),
+            (Count, Told::Count(u64::from(place))),
             (StrengthOf(no), Told::Refused(Fault::NoSuchObject)),
         ];
         let made = refuse_each(rt, alloc, memory, graph, added(no), &stays);
@@ -84,7 +95,8 @@ fn root_each<'a>(
     graph: &mut Graph<&'a Rationed<Global>>,
 ) -> u64 {
     let mut requests = 0u64;
-    for no in 0..60 {
+    for place in 0..60 {
+        let no = number_at(place);
         make_calls(rt, alloc, graph, &[(Plain(no, &[]), Told::New)]);
         let stays = [(StrengthOf(no), Told::Strength(Reach::Unreachable))];
         let root = ("Graph::add_root", Root(no));

@@ -88,16 +88,17 @@ fn free_all_but_one<A: Allocator + Copy>(heap: &mut Objects<A>, condemned: &mut 
     begun(heap);
 }
 
-/// Fills the heap, and again each time that all but the first object were freed. As that one stays, the index fills
-/// with gaps again and again.
+/// Fills the heap, and again so often, each time that all but the first object were freed. As that one stays, the index
+/// fills with gaps again and again.
 fn fill_again_and_again<A: Allocator + Copy>(
     rt: &impl Abort,
     heap: &mut Objects<A>,
     condemned: &mut Worklist<A>,
     cells: u32,
+    rounds: u32,
 ) {
     fill(rt, heap, cells);
-    for _round in 0..20 {
+    for _round in 0..rounds {
         free_all_but_one(heap, condemned);
         fill(rt, heap, cells);
         assert!(rt; heap.object_count() == cells as usize && heap.has_object(ObjNo(1)));
@@ -110,7 +111,7 @@ fn fill_without_memory(rt: &impl Abort, alloc: Global, cells: u32) -> Result<(),
     let mut heap = Objects::new(&memory, config(cells), 1)?;
     let mut condemned = Worklist::new(&memory, cells as usize)?;
     memory.ration(0);
-    fill_again_and_again(rt, &mut heap, &mut condemned, cells);
+    fill_again_and_again(rt, &mut heap, &mut condemned, cells, 20);
     assert!(rt; !memory.lift(), "no request is refused, with {cells} cells");
     Ok(())
 }

@@ -60,20 +60,55 @@ fn takes<A: Allocator + Copy>(
     Ok(())
 }
 
+/// A batch is put in, of whose items these became, and then has just these left.
+fn puts(
+    rt: &impl Abort,
+    alloc: Global,
+    queue: &mut Queue<Slip>,
+    slips: &[Slip],
+    told: &[Out],
+    left: &[Slip],
+) -> Result<(), Fail> {
+    let mut batch = batch_of(alloc, slips)?;
+    let outs = queue.put_batch(&mut batch)?;
+    tell(rt, outs, told);
+    holds(rt, &mut batch, left);
+    Ok(())
+}
+
+/// One item after the other goes in, of which two were put in before, and what stands comes out in order.
+fn put_and_take(rt: &impl Abort, alloc: Global, queue: &mut Queue<Slip>) -> Result<(), Fail> {
+    let _first = queue.put(of(7));
+    let told = [Out::Already, Out::Added(1), Out::Added(2), Out::Already];
+    let slips = [of(7), of(3), of(9), of(3)];
+    puts(rt, alloc, queue, &slips, &told, &[of(7), of(3)])?;
+    takes(rt, alloc, queue, 2, &[of(7), of(3)])?;
+    takes(rt, alloc, queue, 32, &[of(9)])?;
+    takes(rt, alloc, queue, 1, &[])?;
+    // Nothing is told of an empty batch.
+    puts(rt, alloc, queue, &[], &[], &[])
+}
+
 #[test]
 fn items_go_in_one_by_one_and_come_out_in_order(rt: HostRuntime) -> Result<(), Fail> {
     let mut queue = Queue::new(rt.alloc(), QueueNo(0));
-    let _first = queue.put(of(7));
-    let mut batch = batch_of(rt.alloc(), &[of(7), of(3), of(9), of(3)])?;
-    let outs = queue.put_batch(&mut batch)?;
-    let told = [Out::Already, Out::Added(1), Out::Added(2), Out::Already];
-    tell(&rt, outs, &told);
-    holds(&rt, &mut batch, &[of(7), of(3)]);
-    takes(&rt, rt.alloc(), &mut queue, 2, &[of(7), of(3)])?;
-    takes(&rt, rt.alloc(), &mut queue, 32, &[of(9)])?;
-    takes(&rt, rt.alloc(), &mut queue, 1, &[])?;
-    // Nothing is told of an empty batch.
-    tell(&rt, queue.put_batch(&mut batch)?, &[]);
+    put_and_take(&rt, rt.alloc(), &mut queue)
+}
+
+/// A poll of one takes this, and it stands behind what was in the batch before.
+fn takes_behind(
+    rt: &impl Abort,
+    alloc: Global,
+    queue: &mut Queue<Slip>,
+    before: Slip,
+    taken: Slip,
+) -> Result<(), Fail> {
+    let mut batch = batch_of(alloc, &[before])?;
+    if batch.len() < MOST_IN_BATCH {
+        let polled = queue.poll_batch(1, &mut batch);
+        assert!(rt; polled == took(taken.object), "one is taken");
+    }
+    holds(rt, &mut batch, &[before, taken]);
     Ok(())
 }
 
@@ -82,28 +117,36 @@ fn polled_items_stand_behind_those_of_the_batch(rt: HostRuntime) -> Result<(), F
     let mut queue = Queue::new(rt.alloc(), QueueNo(0));
     let _first = queue.put(of(7));
     let _second = queue.put(of(3));
-    let mut batch = batch_of(rt.alloc(), &[of(9)])?;
-    if batch.len() < MOST_IN_BATCH {
-        let polled = queue.poll_batch(1, &mut batch);
-        assert!(rt; matches!(polled, PolledBatch::Took(_)), "one is taken");
-    }
-    holds(&rt, &mut batch, &[of(9), of(7)]);
+    takes_behind(&rt, rt.alloc(), &mut queue, of(9), of(7))
+}
+
+/// A poll of one into a new batch is answered so.
+fn answers(
+    rt: &impl Abort,
+    alloc: Global,
+    queue: &mut Queue<Slip>,
+    want: PolledBatch,
+) -> Result<(), Fail> {
+    assert!(rt; queue.poll_batch(1, &mut Batch::new(alloc)?) == want);
     Ok(())
+}
+
+/// Polls before and behind the close, and a batch that is put in behind it.
+fn close_and_ask(rt: &impl Abort, alloc: Global, queue: &mut Queue<Slip>) -> Result<(), Fail> {
+    let _first = queue.put(of(7));
+    answers(rt, alloc, queue, took(7))?;
+    answers(rt, alloc, queue, PolledBatch::Empty)?;
+    queue.close();
+    let slips = [of(4), of(7), of(5)];
+    let told = [Out::Closed, Out::Already, Out::Closed];
+    puts(rt, alloc, queue, &slips, &told, &slips)?;
+    answers(rt, alloc, queue, PolledBatch::Closed)
 }
 
 #[test]
 fn a_closed_queue_takes_no_batch_and_gives_what_stands(rt: HostRuntime) -> Result<(), Fail> {
     let mut queue = Queue::new(rt.alloc(), QueueNo(0));
-    let _first = queue.put(of(7));
-    assert!(rt; queue.poll_batch(1, &mut Batch::new(rt.alloc())?) == took(7));
-    assert!(rt; queue.poll_batch(1, &mut Batch::new(rt.alloc())?) == PolledBatch::Empty);
-    queue.close();
-    let mut batch = batch_of(rt.alloc(), &[of(4), of(7), of(5)])?;
-    let outs = queue.put_batch(&mut batch)?;
-    tell(&rt, outs, &[Out::Closed, Out::Already, Out::Closed]);
-    holds(&rt, &mut batch, &[of(4), of(7), of(5)]);
-    assert!(rt; queue.poll_batch(1, &mut Batch::new(rt.alloc())?) == PolledBatch::Closed);
-    Ok(())
+    close_and_ask(&rt, rt.alloc(), &mut queue)
 }
 
 /// What a poll answers that took this one.
@@ -113,17 +156,22 @@ fn took(object: u32) -> PolledBatch {
     PolledBatch::Took(numbers)
 }
 
-#[test]
-fn a_batch_with_an_item_for_another_queue_comes_back_whole(rt: HostRuntime) -> Result<(), Fail> {
+/// A batch with an item for another queue comes back as it was.
+fn refuses_all(rt: &impl Abort, alloc: Global, queue: &mut Queue<Slip>) -> Result<(), Fail> {
     let stray = Slip {
         object: 8,
         queue: 1,
     };
-    let mut queue = Queue::new(rt.alloc(), QueueNo(0));
-    let mut batch = batch_of(rt.alloc(), &[of(3), stray, of(9)])?;
+    let mut batch = batch_of(alloc, &[of(3), stray, of(9)])?;
     assert!(rt; queue.put_batch(&mut batch) == Err(Fault::WrongQueue));
-    holds(&rt, &mut batch, &[of(3), stray, of(9)]);
-    takes(&rt, rt.alloc(), &mut queue, 32, &[])
+    holds(rt, &mut batch, &[of(3), stray, of(9)]);
+    takes(rt, alloc, queue, 32, &[])
+}
+
+#[test]
+fn a_batch_with_an_item_for_another_queue_comes_back_whole(rt: HostRuntime) -> Result<(), Fail> {
+    let mut queue = Queue::new(rt.alloc(), QueueNo(0));
+    refuses_all(&rt, rt.alloc(), &mut queue)
 }
 
 /// So many items are put in for the first time: more than the room that a queue takes first.
@@ -164,6 +212,17 @@ fn added(rt: &impl Abort, outs: Outs, before: usize, is_refused: bool) -> usize 
 fn put_with(rt: &impl Abort, alloc: Global, met: u64) -> Result<bool, Fail> {
     let memory = Rationed::new(alloc);
     let mut queue = Queue::new(&memory, QueueNo(0));
+    put_twice(rt, alloc, &memory, &mut queue, met)
+}
+
+/// The same, of this queue, which is new.
+fn put_twice<'a>(
+    rt: &impl Abort,
+    alloc: Global,
+    memory: &'a Rationed<Global>,
+    queue: &mut Queue<Slip, &'a Rationed<Global>>,
+    met: u64,
+) -> Result<bool, Fail> {
     let _first = queue.put(of(0));
     let mut batch = one_old_and_new(alloc)?;
     memory.ration(met);
@@ -179,7 +238,7 @@ fn put_with(rt: &impl Abort, alloc: Global, met: u64) -> Result<bool, Fail> {
     assert!(rt; first.saturating_add(again) == NEW, "all are added");
     holds(rt, &mut batch, &[of(0)]);
     for object in 0..NEW + 1 {
-        takes(rt, alloc, &mut queue, 1, &[of(object as u32)])?;
+        takes(rt, alloc, queue, 1, &[of(object as u32)])?;
     }
     Ok(was_refused)
 }

@@ -3,7 +3,8 @@
 ghost use Rattle.std.specs.Prelude.{◌≡◌, true};
 ghost use Rattle.ref_base.specs.Graphs.{empty_graph};
 
-use ref_base::{Fault, Graph, ObjNo, Reach, Strength, strength_of};
+use ref_base::{Fault, ObjNo, Reach, Strength};
+use ref_graph::{Graph, strength_of};
 use std::alloc::Global;
 
 /// An object that is there stays, and a second of its number is told so.

@@ -2,7 +2,8 @@
 
 ghost use Rattle.std.specs.Prelude.{◌≡◌, true};
 
-use ref_base::{Config, Fault, ObjNo, Reply, SpanRule, keeps};
+use ref_base::{Config, Fault, ObjNo, Reply, SpanRule};
+use ref_space::keeps;
 use std::alloc::Global;
 
 /// A soft reference is kept whose stamp is the whole span before the clock.

@@ -17,7 +17,7 @@ ghost use Rattle.ref_base.specs.DoomedSets.{refers_into};
 use super::Objects;
 use crate::stage::Stage;
 use ref_base::{Fault, MutNo, ObjNo, Policy, SlotNo, Urgency};
-use ref_space::{Colour, Entry, Worklist};
+use ref_space::{Colour, Entry, Worklist, policy_from};
 use std::alloc::Allocator;
 
 impl<A: Allocator + Copy> Objects<A> {
@@ -118,7 +118,7 @@ impl<A: Allocator + Copy> Objects<A> {
         ensures { result ≡ policy_from self.now.heap.config (free_cells self.now.heap) now urgency }
     {
         let free = self.config.cells - self.table.len() as u32;
-        Policy::of(self.config, free, now, urgency)
+        policy_from(self.config, free, now, urgency)
     }
 
     /// How many objects aren't marked. In constant time.

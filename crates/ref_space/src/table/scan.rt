@@ -15,9 +15,10 @@ use super::Table;
 use super::by_word::{heal_fields, healed_word};
 use crate::index::{Entry, place_near};
 use crate::kept::Kept;
+use crate::policy::keeps;
 use crate::word::Word;
 use crate::worklist::Worklist;
-use ref_base::{ObjNo, Policy, Strength, Urgency, keeps};
+use ref_base::{ObjNo, Policy, Strength, Urgency};
 use std::alloc::Allocator;
 
 impl<A: Allocator + Copy> Table<A> {

@@ -16,48 +16,78 @@ use ref_queue::PolledBatch;
 use ref_share::{QueueSeat, ShareFault, SharedHeap, SharedQueue, deliver_batch, end_queue};
 use std::alloc::{Allocator, Global};
 use std::process::Abort;
-use std::slice;
 use std::sync::Wait;
 use std::test::Fail;
+use std::{fmt, slice};
 
 /// More requests than any call makes.
 const MOST: u64 = 1_000;
 
-/// What came of a delivery, and the references whose notices came back in the batch.
-#[derive(Clone, Copy, Debug, PartialEq, Eq)]
-enum Sent {
+/// What a delivery or a poll was answered. It is printed by its word: a derive would be dearer to prove than its stories.
+#[derive(Clone, Copy, PartialEq, Eq)]
+enum Came {
+    /// There was nothing to deliver.
     Nothing,
-    /// What became of each.
-    Told(Outs, Nos),
-    Refused(Fault, Nos),
-    /// The hold of this object came back.
-    Held(u32, Fault, Nos),
-    Else,
-}
-
-/// What came of a poll.
-#[derive(Clone, Copy, Debug, PartialEq, Eq)]
-enum Taken {
-    Took(Nos),
+    /// What became of each notice that was delivered.
+    Told(Outs),
+    /// What stands was taken.
+    Took,
     Empty,
     Closed,
     Refused(Fault),
+    /// The hold of this object came back.
+    Held(u32, Fault),
     /// The answer and the batch don't agree, or nobody expects it.
     Else,
+}
+
+impl Came {
+    fn word(&self) -> &'static str {
+        match *self {
+            Came::Nothing => "nothing",
+            Came::Told(_) => "told",
+            Came::Took => "took",
+            Came::Empty => "empty",
+            Came::Closed => "closed",
+            Came::Refused(fault) => fault.name(),
+            Came::Held(_, fault) => fault.name(),
+            Came::Else => "else",
+        }
+    }
+}
+
+/// The same, with the references of the notices that are in the batch then.
+#[derive(Clone, Copy, PartialEq, Eq)]
+struct Answered {
+    came: Came,
+    numbers: Nos,
+}
+
+impl fmt::Debug for Answered {
+    fn fmt<W: fmt::Write>(&self, f: &mut fmt::Formatter<W>) -> fmt::Result {
+        let word = self.came.word();
+        let numbers = self.numbers;
+        write!(f, "{word} {numbers:?}")
+    }
+}
+
+/// A call with a batch, of so many notices at most.
+#[derive(Clone, Copy)]
+enum Batching {
+    /// A delivery by the worker of this number.
+    Deliver(u32, u32),
+    /// The same by the worker of number 0, with no queue in the lists.
+    DeliverNowhere(u32),
+    /// A hand, and a put of what it gives.
+    HandAndPut(u32),
+    Poll(u32),
 }
 
 /// A call, with what it is told.
 #[derive(Clone, Copy)]
 enum Act {
     Call(Call, Told),
-    /// A delivery of so many at most by the worker of this number.
-    Deliver(u32, u32, Sent),
-    /// The same by the worker of number 0, with no queue in the lists.
-    DeliverNowhere(u32, Sent),
-    /// A hand of so many at most, and a put of what it gives.
-    HandAndPut(u32, Sent),
-    /// A poll of so many at most.
-    Poll(u32, Taken),
+    Batch(Batching, Answered),
 }
 
 /// These numbers, 32 at most.
@@ -71,19 +101,31 @@ fn nos(numbers: &[u32]) -> Nos {
     nos
 }
 
+/// What came, with the references of these notices in the batch.
+fn left(came: Came, numbers: &[u32]) -> Answered {
+    Answered {
+        came,
+        numbers: nos(numbers),
+    }
+}
+
 /// What became of notices, 32 at most, where so many were put in before, and what is in the batch then.
-fn told(before: u32, done: &[Done], left: &[u32]) -> Sent {
+fn told(before: u32, done: &[Done], numbers: &[u32]) -> Answered {
     let mut outs = Outs::new(u64::from(before));
     for one in done {
         if outs.len() < MOST_IN_BATCH {
             outs.push(*one);
         }
     }
-    Sent::Told(outs, nos(left))
+    left(Came::Told(outs), numbers)
 }
 
-fn took(numbers: &[u32]) -> Taken {
-    Taken::Took(nos(numbers))
+fn refused(fault: Fault, numbers: &[u32]) -> Answered {
+    left(Came::Refused(fault), numbers)
+}
+
+fn took(numbers: &[u32]) -> Answered {
+    left(Came::Took, numbers)
 }
 
 /// A batch of nothing. There is memory for it.
@@ -110,25 +152,41 @@ fn emptied<A: Allocator>(batch: Batch<Notice, A>) -> Nos {
     numbers
 }
 
-/// What a delivery was told, as plain data. What it gives back is given up.
+/// Why a call was refused. What it gives back is given up.
+fn came_of(fault: ShareFault) -> Came {
+    match fault {
+        ShareFault::Refused(fault) => Came::Refused(fault),
+        ShareFault::Held(hold, fault) => {
+            let object = hold.obj().0;
+            hold.leak();
+            Came::Held(object, fault)
+        }
+        fault => {
+            let _ = fault.give_up();
+            Came::Else
+        }
+    }
+}
+
+/// What a delivery was told, as plain data.
 fn told_of<A: Allocator>(
     answer: Result<Option<Outs>, ShareFault>,
     batch: Batch<Notice, A>,
-) -> Sent {
-    let left = emptied(batch);
+) -> Answered {
+    let numbers = emptied(batch);
+    let came = match answer {
+        Ok(None) => Came::Nothing,
+        Ok(Some(outs)) => Came::Told(outs),
+        Err(fault) => came_of(fault),
+    };
+    Answered { came, numbers }
+}
+
+/// What a put was told, as plain data.
+fn told_of_put<A: Allocator>(answer: Result<Outs, Fault>, batch: Batch<Notice, A>) -> Answered {
     match answer {
-        Ok(None) => Sent::Nothing,
-        Ok(Some(outs)) => Sent::Told(outs, left),
-        Err(ShareFault::Refused(fault)) => Sent::Refused(fault, left),
-        Err(ShareFault::Held(hold, fault)) => {
-            let object = hold.obj().0;
-            hold.leak();
-            Sent::Held(object, fault, left)
-        }
-        Err(fault) => {
-            let _ = fault.give_up();
-            Sent::Else
-        }
+        Ok(outs) => told_of(Ok(Some(outs)), batch),
+        Err(fault) => told_of(Err(ShareFault::Refused(fault)), batch),
     }
 }
 
@@ -141,7 +199,7 @@ fn delivered<R: Wait, A: Allocator + Copy>(
     worker: WorkerNo,
     max: u32,
     batch: Batch<Notice, A>,
-) -> Sent
+) -> Answered
     requires seats { IsHeapSeat heap.now seats.old.heap × IsQueueSeat queue.now seats.old.queue }
     requires empty { batch ≡ [] }
     requires fits { FitsInMemory (queue_row A.row A.Allocator A.Clone) }
@@ -160,7 +218,7 @@ fn delivered_nowhere<R: Wait, A: Allocator + Copy>(
     seats: &mut Seats<A>,
     max: u32,
     batch: Batch<Notice, A>,
-) -> Sent
+) -> Answered
     requires seat { IsHeapSeat heap.now seats.old.heap }
     requires empty { batch ≡ [] }
     ensures seat { IsHeapSeat heap.now seats.new.heap }
@@ -189,32 +247,32 @@ fn handed_and_put<R: Wait, A: Allocator + Copy>(
     seats: &mut Seats<A>,
     max: u32,
     batch: Batch<Notice, A>,
-) -> Sent
+) -> Answered
     requires { IsHeapSeat heap.now seats.old.heap × IsQueueSeat queue.now seats.old.queue }
     ensures { IsHeapSeat heap.now seats.new.heap × IsQueueSeat queue.now seats.new.queue }
 {
     let (given, batch) = heap.hand_batch(rt, &mut seats.heap, W, max, batch);
     match given {
-        Ok(Some(handed)) => {
+        Ok(Some(handed)) if handed.queue == Q => {
             let (answer, batch) = queue.put_batch(rt, &mut seats.queue, batch);
-            let told = match answer {
-                Ok(outs) => told_of(Ok(Some(outs)), batch),
-                Err(fault) => told_of(Err(ShareFault::Refused(fault)), batch),
-            };
-            if handed.queue == Q { told } else { Sent::Else }
+            told_of_put(answer, batch)
         }
+        Ok(Some(_)) => Answered {
+            came: Came::Else,
+            numbers: emptied(batch),
+        },
         Ok(None) => told_of(Ok(None), batch),
         Err(fault) => told_of(Err(ShareFault::Refused(fault)), batch),
     }
 }
 
-/// What a poll was told, where these came in the batch.
-fn told_of_poll(polled: &PolledBatch, taken: &Nos) -> Taken {
+/// What a poll answered, where these came in the batch.
+fn came_of_poll(polled: &PolledBatch, numbers: &Nos) -> Came {
     match polled {
-        PolledBatch::Took(numbers) if numbers == taken => Taken::Took(*numbers),
-        PolledBatch::Took(_) => Taken::Else,
-        PolledBatch::Empty => Taken::Empty,
-        PolledBatch::Closed => Taken::Closed,
+        PolledBatch::Took(told) if told == numbers => Came::Took,
+        PolledBatch::Took(_) => Came::Else,
+        PolledBatch::Empty => Came::Empty,
+        PolledBatch::Closed => Came::Closed,
     }
 }
 
@@ -224,19 +282,43 @@ fn polled<A: Allocator + Copy>(
     seat: &mut QueueSeat<A>,
     max: u32,
     batch: Batch<Notice, A>,
-) -> Taken
+) -> Answered
     requires { IsQueueSeat queue.now seat.old }
     ensures { IsQueueSeat queue.now seat.new }
 {
     let (answer, batch) = queue.poll_batch_now(seat, max, batch);
-    let taken = emptied(batch);
-    match answer {
-        Ok(polled) => told_of_poll(&polled, &taken),
-        Err(ShareFault::Refused(fault)) => Taken::Refused(fault),
-        Err(fault) => {
-            let _ = fault.give_up();
-            Taken::Else
+    let numbers = emptied(batch);
+    let came = match answer {
+        Ok(polled) => came_of_poll(&polled, &numbers),
+        Err(fault) => came_of(fault),
+    };
+    Answered { came, numbers }
+}
+
+/// Makes a call with a batch, and tells what came of it.
+fn batched<R: Wait + Abort>(
+    rt: &R,
+    heap: &SharedHeap,
+    queue: &SharedQueue,
+    seats: &mut Seats,
+    alloc: Global,
+    call: Batching,
+) -> Answered
+    requires { IsHeapSeat heap.now seats.old.heap × IsQueueSeat queue.now seats.old.queue }
+    ensures { IsHeapSeat heap.now seats.new.heap × IsQueueSeat queue.now seats.new.queue }
+{
+    match call {
+        Batching::Deliver(worker, max) => {
+            let batch = empty_batch(rt, alloc);
+            delivered(rt, heap, queue, seats, WorkerNo(worker), max, batch)
         }
+        Batching::DeliverNowhere(max) => {
+            delivered_nowhere(rt, heap, seats, max, empty_batch(rt, alloc))
+        }
+        Batching::HandAndPut(max) => {
+            handed_and_put(rt, heap, queue, seats, max, empty_batch(rt, alloc))
+        }
+        Batching::Poll(max) => polled(queue, &mut seats.queue, max, empty_batch(rt, alloc)),
     }
 }
 
@@ -253,27 +335,11 @@ fn make<R: Wait + Abort>(
     requires { IsHeapSeat heap.now seats.old.heap × IsQueueSeat queue.now seats.old.queue }
     ensures { IsHeapSeat heap.now seats.new.heap × IsQueueSeat queue.now seats.new.queue }
 {
-    let batch = empty_batch(rt, alloc);
     match act {
-        Act::Call(call, want) => {
-            batch.end();
-            expect(rt, row, answer(rt, heap, queue, seats, call), want);
-        }
-        Act::Deliver(worker, max, want) => {
-            let told = delivered(rt, heap, queue, seats, WorkerNo(worker), max, batch);
-            assert_eq!(rt; told, want, "row {row}");
-        }
-        Act::DeliverNowhere(max, want) => {
-            let told = delivered_nowhere(rt, heap, seats, max, batch);
-            assert_eq!(rt; told, want, "row {row}");
-        }
-        Act::HandAndPut(max, want) => {
-            let told = handed_and_put(rt, heap, queue, seats, max, batch);
-            assert_eq!(rt; told, want, "row {row}");
-        }
-        Act::Poll(max, want) => {
-            let told = polled(queue, &mut seats.queue, max, batch);
-            assert_eq!(rt; told, want, "row {row}");
+        Act::Call(call, want) => expect(rt, row, answer(rt, heap, queue, seats, call), want),
+        Act::Batch(call, want) => {
+            let left = batched(rt, heap, queue, seats, alloc, call);
+            assert!(rt; left == want, "row {row}: {left:?}");
         }
     }
 }
@@ -322,16 +388,29 @@ const fn heap_served(count: u64) -> Act {
     Act::Call(Call::HeapServed, Told::Served(count))
 }
 
+/// A delivery of so many at most by worker 0.
+const fn deliver(max: u32, want: Answered) -> Act {
+    Act::Batch(Batching::Deliver(0, max), want)
+}
+
+const fn hand_and_put(max: u32, want: Answered) -> Act {
+    Act::Batch(Batching::HandAndPut(max), want)
+}
+
+const fn poll(max: u32, want: Answered) -> Act {
+    Act::Batch(Batching::Poll(max), want)
+}
+
 #[test]
 fn what_is_pending_is_delivered_and_taken_at_once(rt: HostRuntime) -> Result<(), Fail> {
     let acts = [
-        Act::Deliver(0, 32, told(0, &[Done::Added, Done::Added], &[])),
+        deliver(32, told(0, &[Done::Added, Done::Added], &[])),
         heap_served(13),
         queue_served(1),
-        Act::Poll(32, took(&[2, 3])),
+        poll(32, took(&[2, 3])),
         queue_served(2),
-        Act::Poll(32, Taken::Empty),
-        Act::Deliver(0, 32, Sent::Nothing),
+        poll(32, left(Came::Empty, &[])),
+        deliver(32, left(Came::Nothing, &[])),
         heap_served(14),
         queue_served(3),
     ];
@@ -341,12 +420,12 @@ fn what_is_pending_is_delivered_and_taken_at_once(rt: HostRuntime) -> Result<(),
 #[test]
 fn a_batch_is_of_so_many_at_most(rt: HostRuntime) -> Result<(), Fail> {
     let acts = [
-        Act::HandAndPut(1, told(0, &[Done::Added], &[])),
-        Act::HandAndPut(32, told(1, &[Done::Added], &[])),
-        Act::HandAndPut(32, Sent::Nothing),
-        Act::Poll(1, took(&[2])),
-        Act::Poll(2, took(&[3])),
-        Act::Poll(2, Taken::Empty),
+        hand_and_put(1, told(0, &[Done::Added], &[])),
+        hand_and_put(32, told(1, &[Done::Added], &[])),
+        hand_and_put(32, left(Came::Nothing, &[])),
+        poll(1, took(&[2])),
+        poll(2, took(&[3])),
+        poll(2, left(Came::Empty, &[])),
     ];
     agree(&rt, rt.alloc(), STARTS, &acts)
 }
@@ -356,13 +435,13 @@ fn a_batch_is_of_so_many_at_most(rt: HostRuntime) -> Result<(), Fail> {
 fn what_is_not_added_goes_back_to_the_heap(rt: HostRuntime) -> Result<(), Fail> {
     let acts = [
         Act::Call(Call::Enqueue(1), Told::Enqueued(true)),
-        Act::Deliver(0, 1, told(1, &[Done::Already], &[])),
+        deliver(1, told(1, &[Done::Already], &[])),
         queue_closes(),
-        Act::Deliver(0, 32, told(1, &[Done::Closed], &[])),
+        deliver(32, told(1, &[Done::Closed], &[])),
         // An unhook, two hands and two releases.
         heap_served(17),
-        Act::Poll(32, took(&[2])),
-        Act::Poll(32, Taken::Closed),
+        poll(32, took(&[2])),
+        poll(32, left(Came::Closed, &[])),
     ];
     agree(&rt, rt.alloc(), STARTS, &acts)
 }
@@ -372,8 +451,8 @@ fn what_is_not_added_goes_back_to_the_heap(rt: HostRuntime) -> Result<(), Fail> 
 fn what_a_put_does_not_add_stays_in_the_batch(rt: HostRuntime) -> Result<(), Fail> {
     let acts = [
         Act::Call(Call::Enqueue(1), Told::Enqueued(true)),
-        Act::HandAndPut(32, told(1, &[Done::Already, Done::Added], &[2])),
-        Act::Poll(32, took(&[2, 3])),
+        hand_and_put(32, told(1, &[Done::Already, Done::Added], &[2])),
+        poll(32, took(&[2, 3])),
     ];
     agree(&rt, rt.alloc(), STARTS, &acts)
 }
@@ -381,25 +460,28 @@ fn what_a_put_does_not_add_stays_in_the_batch(rt: HostRuntime) -> Result<(), Fai
 #[test]
 fn a_batch_is_of_1_to_32(rt: HostRuntime) -> Result<(), Fail> {
     let acts = [
-        Act::Deliver(0, 0, Sent::Refused(Fault::BadConfig, nos(&[]))),
-        Act::Deliver(0, 33, Sent::Refused(Fault::BadConfig, nos(&[]))),
-        Act::Deliver(1, 0, Sent::Refused(Fault::NoSuchActor, nos(&[]))),
+        deliver(0, refused(Fault::BadConfig, &[])),
+        deliver(33, refused(Fault::BadConfig, &[])),
+        Act::Batch(Batching::Deliver(1, 0), refused(Fault::NoSuchActor, &[])),
         queue_served(0),
-        Act::Poll(0, Taken::Refused(Fault::BadConfig)),
-        Act::Poll(33, Taken::Refused(Fault::BadConfig)),
+        poll(0, refused(Fault::BadConfig, &[])),
+        poll(33, refused(Fault::BadConfig, &[])),
         queue_served(2),
-        Act::Deliver(0, 2, told(0, &[Done::Added, Done::Added], &[])),
+        deliver(2, told(0, &[Done::Added, Done::Added], &[])),
     ];
     agree(&rt, rt.alloc(), STARTS, &acts)
 }
 
 #[test]
 fn without_their_queue_all_notices_come_back(rt: HostRuntime) -> Result<(), Fail> {
-    let acts = [Act::DeliverNowhere(32, Sent::Refused(Fault::BadQueue, nos(&[2, 3])))];
+    let acts = [Act::Batch(
+        Batching::DeliverNowhere(32),
+        refused(Fault::BadQueue, &[2, 3]),
+    )];
     agree(&rt, rt.alloc(), STARTS, &acts)?;
     let acts = [
-        Act::Deliver(0, 32, Sent::Refused(Fault::WrongQueue, nos(&[2, 3]))),
-        Act::Poll(32, Taken::Empty),
+        deliver(32, refused(Fault::WrongQueue, &[2, 3])),
+        poll(32, left(Came::Empty, &[])),
     ];
     let starts = Starts {
         number: QueueNo(1),
@@ -411,8 +493,8 @@ fn without_their_queue_all_notices_come_back(rt: HostRuntime) -> Result<(), Fail
 #[test]
 fn without_a_turn_of_the_queue_all_notices_come_back(rt: HostRuntime) -> Result<(), Fail> {
     let acts = [
-        Act::Deliver(0, 32, Sent::Refused(Fault::TurnsSpent, nos(&[2, 3]))),
-        Act::Poll(32, Taken::Refused(Fault::TurnsSpent)),
+        deliver(32, refused(Fault::TurnsSpent, &[2, 3])),
+        poll(32, refused(Fault::TurnsSpent, &[])),
     ];
     let starts = Starts {
         queue: u64::MAX,
@@ -432,23 +514,23 @@ const fn more_turns(count: u32) -> Starts {
 #[test]
 fn a_heap_at_its_last_turns_releases_no_more(rt: HostRuntime) -> Result<(), Fail> {
     let acts = [
-        Act::Deliver(0, 32, Sent::Refused(Fault::TurnsSpent, nos(&[]))),
+        deliver(32, refused(Fault::TurnsSpent, &[])),
         queue_served(0),
     ];
     agree(&rt, rt.alloc(), more_turns(0), &acts)?;
     let acts = [
         queue_closes(),
-        Act::Deliver(0, 32, Sent::Held(2, Fault::TurnsSpent, nos(&[3]))),
+        deliver(32, left(Came::Held(2, Fault::TurnsSpent), &[3])),
     ];
     agree(&rt, rt.alloc(), more_turns(1), &acts)?;
     let acts = [
         queue_closes(),
-        Act::Deliver(0, 32, Sent::Held(3, Fault::TurnsSpent, nos(&[]))),
+        deliver(32, left(Came::Held(3, Fault::TurnsSpent), &[])),
     ];
     agree(&rt, rt.alloc(), more_turns(2), &acts)?;
     let acts = [
         queue_closes(),
-        Act::Deliver(0, 32, told(0, &[Done::Closed, Done::Closed], &[])),
+        deliver(32, told(0, &[Done::Closed, Done::Closed], &[])),
     ];
     agree(&rt, rt.alloc(), more_turns(3), &acts)
 }
@@ -459,7 +541,7 @@ fn told_with<R: Wait + Abort>(
     rt: &R,
     memory: &Rationed<Global>,
     met: u64,
-) -> Result<(Sent, Taken, bool), Fail> {
+) -> Result<(Answered, Answered, bool), Fail> {
     let (heap, heap_seat) = SharedHeap::new(memory, CONFIG, 0)?;
     let (queue, queue_seat) = SharedQueue::new(memory, Q)?;
     let mut seats = Seats {
@@ -479,7 +561,7 @@ fn told_on<'a, R: Wait + Abort>(
     heap: &SharedHeap<&'a Rationed<Global>>,
     queue: &SharedQueue<&'a Rationed<Global>>,
     seats: &mut Seats<&'a Rationed<Global>>,
-) -> (Sent, Taken, bool)
+) -> (Answered, Answered, bool)
     requires { IsHeapSeat heap.now seats.old.heap × IsQueueSeat queue.now seats.old.queue }
     ensures { IsHeapSeat heap.now seats.new.heap × IsQueueSeat queue.now seats.new.queue }
 {
@@ -496,8 +578,8 @@ fn told_on<'a, R: Wait + Abort>(
 /// With each request refused in turn: what is not added comes back, and nothing is released. Answers how many requests
 /// a delivery makes.
 fn refuse_each<R: Wait + Abort>(rt: &R, memory: &Rationed<Global>) -> Result<u64, Fail> {
-    let none = (Sent::Refused(Fault::NoMemory, nos(&[2, 3])), Taken::Empty);
-    let first = (Sent::Refused(Fault::NoMemory, nos(&[3])), took(&[2]));
+    let none = (refused(Fault::NoMemory, &[2, 3]), left(Came::Empty, &[]));
+    let first = (refused(Fault::NoMemory, &[3]), took(&[2]));
     let both = (told(0, &[Done::Added, Done::Added], &[]), took(&[2, 3]));
     for met in 0..MOST {
         let (told, taken, was_refused) = told_with(rt, memory, met)?;

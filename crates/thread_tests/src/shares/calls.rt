@@ -150,12 +150,19 @@ impl Told {
         }
     }
 
+    /// What a step was answered.
+    fn reply(&self) -> Option<Reply> {
+        match *self {
+            Told::Reply(reply) => Some(reply),
+            _ => None,
+        }
+    }
+
     /// Whether both tell the same.
     pub fn is(&self, other: &Told) -> bool {
-        match (self, other) {
-            (Told::Reply(one), Told::Reply(other)) => one == other,
-            _ => self.word() == other.word() && self.numbers() == other.numbers(),
-        }
+        self.word() == other.word()
+            && self.numbers() == other.numbers()
+            && self.reply() == other.reply()
     }
 }
 
@@ -166,8 +173,8 @@ pub fn expect(rt: &impl Abort, row: usize, told: Told, want: Told) {
 
 impl fmt::Debug for Told {
     fn fmt<W: fmt::Write>(&self, f: &mut fmt::Formatter<W>) -> fmt::Result {
-        if let Told::Reply(reply) = self {
-            return fmt::Debug::fmt(reply, f);
+        if let Some(reply) = self.reply() {
+            return fmt::Debug::fmt(&reply, f);
         }
         let word = self.word();
         let numbers = self.numbers();
@@ -333,20 +340,25 @@ fn asked<R: Wait, A: Allocator + Copy>(
     requires { IsHeapSeat heap.now seats.old.heap × IsQueueSeat queue.now seats.old.queue }
     ensures { IsHeapSeat heap.now seats.new.heap × IsQueueSeat queue.now seats.new.queue }
 {
-    let seat = &mut seats.queue;
-    let answer = match call {
-        Ask::PollNow => queue.poll_now(seat),
-        Ask::Within(polls) => queue.remove_within(rt, seat, polls),
-        Ask::Wait => queue.remove_wait(rt, seat),
-        Ask::Close => {
-            return match queue.close(rt, seat) {
-                Ok(was_open) => Told::WasOpen(was_open),
-                Err(fault) => refused(rt, heap, &mut seats.heap, fault),
-            };
+    match call {
+        Ask::PollNow => {
+            let answer = queue.poll_now(&mut seats.queue);
+            polled(rt, heap, &mut seats.heap, answer)
         }
-        Ask::Served => return Told::Served(queue.served(seat)),
-    };
-    polled(rt, heap, &mut seats.heap, answer)
+        Ask::Within(polls) => {
+            let answer = queue.remove_within(rt, &mut seats.queue, polls);
+            polled(rt, heap, &mut seats.heap, answer)
+        }
+        Ask::Wait => {
+            let answer = queue.remove_wait(rt, &mut seats.queue);
+            polled(rt, heap, &mut seats.heap, answer)
+        }
+        Ask::Close => match queue.close(rt, &mut seats.queue) {
+            Ok(was_open) => Told::WasOpen(was_open),
+            Err(fault) => refused(rt, heap, &mut seats.heap, fault),
+        },
+        Ask::Served => Told::Served(queue.served(&mut seats.queue)),
+    }
 }
 
 /// An unhook of the reference in this slot, and a put of its notice.

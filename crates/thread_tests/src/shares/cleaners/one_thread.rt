@@ -85,7 +85,7 @@ fn use_all<R: Wait + Abort>(
     let mut heap = CleanedHeap::new(alloc, CONFIG)?;
     for (row, &(call, want)) in calls.iter().enumerate() {
         let told = answered(rt, &mut heap, &mut jobs, &hearing, call);
-        assert_eq!(rt; told, want, "row {row}");
+        assert!(rt; told == want, "row {row}: {told:?}");
     }
     heap.end();
     Ok(hearing.heard())
@@ -126,7 +126,7 @@ fn a_program_of_one_thread_runs_the_jobs_of_what_died(rt: HostRuntime) -> Result
         (Call::Cycle(4), Told::Refused(Fault::ClockBack)),
         (Call::Register(0), Told::Back(2, Fault::EmptySlot)),
     ];
-    assert_eq!(rt; use_all(&rt, rt.alloc(), jobs, &calls)?, (1, 0, 0));
+    assert!(rt; use_all(&rt, rt.alloc(), jobs, &calls)? == (1, 0, 0));
     Ok(())
 }
 
@@ -141,6 +141,6 @@ fn a_cleaned_heap_has_a_mutator(rt: HostRuntime) {
             heap.end();
             panic!(rt; "it has none");
         }
-        Err(fault) => assert_eq!(rt; fault, Fault::BadConfig),
+        Err(fault) => assert!(rt; fault == Fault::BadConfig, "{fault}"),
     }
 }

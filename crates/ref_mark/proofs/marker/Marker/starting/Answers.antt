@@ -10,7 +10,7 @@ pub returns-in-Ok-clause-made : goal.returns-in-Ok-clause-made
 returns-in-Ok-clause-made g c =
     grind (
       arith,
-      seen_first c.args.config c.args.heap_no c.args.start c.first.ensures
+      seen_first c.args.config c.args.heap_no c.args.start c.first_policy.ensures
           c.in_ok-objects.ensures.1 c.in-Ok.ensures.grey c.in-Ok.ensures.found,
     )
 

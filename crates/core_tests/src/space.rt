@@ -1,0 +1,5 @@
+//! Words, pages and lists.
+
+mod lists;
+mod pages;
+mod words;

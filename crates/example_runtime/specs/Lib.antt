@@ -1,2 +1,0 @@
-pub mod QueuePairs
-pub mod Users

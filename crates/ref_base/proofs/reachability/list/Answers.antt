@@ -1,6 +1,0 @@
-use Rattle.ref_base.proofs.Common.{arith}
-use Rattle.ref_base.proofs.StrengthLaws.{AreStrengths_from}
-use Rattle.ref_base.proofs.reachability.list.Goals as goal
-
-pub returns : goal.returns
-returns g c = grind (arith, AreStrengths_from)

@@ -1,0 +1,3 @@
+pub mod NumberPlaceLemmas
+pub mod StoreLaws
+pub mod StoredFields

@@ -1,0 +1,4 @@
+pub mod NumberPlaces
+pub mod GraphViews
+pub mod GraphAnswers
+pub mod AllowedReferents

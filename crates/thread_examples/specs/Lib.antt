@@ -1,0 +1,3 @@
+pub mod Cleaners
+pub mod QueuePairs
+pub mod Users
