@@ -25,9 +25,15 @@ use std::marker::Model;
 /// A heap whose objects move.
 ///
 /// All its memory is taken as it is made: that of its `Heap`. No other call takes any.
-#[derive(Drop)]
 pub struct MovingHeap<A: Allocator = Global> {
     heap: Heap<A>,
+}
+
+// Written out, so that crates above prove nothing of what a heap is made of where they drop one.
+impl<A: Allocator> Drop for MovingHeap<A> {
+    fn drop(self) {
+        let MovingHeap { heap: _ } = self;
+    }
 }
 
 impl<A: Allocator> Model for MovingHeap<A> {
@@ -60,9 +66,7 @@ impl<A: Allocator + Copy> MovingHeap<A> {
     }
 
     /// Gives the heap up, with all its objects. Holds and notices of it that are out are then for `Hold::leak`.
-    pub fn end(self) {
-        self.heap.end();
-    }
+    pub fn end(self) {}
 
     /// The phase.
     pub fn phase(&self) -> Phase
