@@ -4,8 +4,7 @@ ghost use Rattle.std.specs.Prelude.{All};
 ghost use Rattle.ref_share.specs.QueueSeats.{IsQueueSeat};
 
 use crate::letters::{Letter, QUEUE, letters};
-use crate::plain_queue::PlainQueue;
-use crate::tills::{PlainTill, SharedTill, Till};
+use crate::tills::{SharedTill, Till};
 use crate::timing::{Sample, Timer};
 use ref_base::Fault;
 use ref_share::{QueueSeat, SharedQueue, end_queue};
@@ -133,30 +132,6 @@ fn among_shared<R: Threads + Wait + Clock + Sync>(
         let job = Job {
             task,
             till: SharedTill::new(queue, queue.split(seat)),
-            putting: &putting,
-        };
-        if jobs.push(job).is_err() {
-            return Err(Fault::NoMemory);
-        }
-    }
-    crowd(rt, jobs, count)
-}
-
-/// A plain queue between as many.
-pub fn plain_queue<R: Threads + Wait + Clock + Sync>(
-    rt: &R,
-    alloc: Global,
-    pairs: u32,
-    count: u32,
-) -> Result<Sample, Fault> {
-    let tasks = tasks(alloc, pairs, count)?;
-    let queue = PlainQueue::new(alloc);
-    let putting = AtomicU32::new(pairs);
-    let mut jobs = Vec::new(alloc);
-    for task in tasks {
-        let job = Job {
-            task,
-            till: PlainTill(&queue),
             putting: &putting,
         };
         if jobs.push(job).is_err() {

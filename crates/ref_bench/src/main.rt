@@ -11,7 +11,6 @@ mod letters;
 mod load_runs;
 mod measure;
 mod move_runs;
-mod plain_queue;
 mod queue_runs;
 mod scale_runs;
 mod script_run;

@@ -1,13 +1,13 @@
 //! What is measured.
 
 use crate::cleaner_runs::jobs_registered_and_run;
-use crate::crowds::{plain_queue, shared_queue};
+use crate::crowds::shared_queue;
 use crate::delivery_runs::{By, deliveries};
 use crate::heap_parts::{HeapPart, heap_part};
 use crate::heap_runs::heap_calls;
 use crate::load_runs::{Dead, Part, Read, Route};
 use crate::move_runs::Moves;
-use crate::queue_runs::{plain_queue_alone, queue_alone, shared_queue_alone};
+use crate::queue_runs::{queue_alone, shared_queue_alone};
 use crate::scale_runs::{Scale, Size};
 use crate::script_run::script_steps;
 use crate::timing::Sample;
@@ -23,12 +23,8 @@ pub enum Measure {
     Queue,
     /// The same of a shared queue by one thread.
     SharedQueue,
-    /// The same of a queue as a user would write it: a deque and a set under a lock.
-    PlainQueue,
     /// A put and a poll of a shared queue, by so many putters and as many takers.
     SharedQueueAmong(u32),
-    /// The same of a deque and a set under a lock.
-    PlainQueueAmong(u32),
     /// Of a heap that one thread has alone.
     Heap(HeapPart),
     /// A notice's way from a shared heap through its queue.
@@ -42,39 +38,23 @@ pub enum Measure {
 }
 
 /// All measures, in the order in which they are printed, each behind what its line says.
-pub const ALL: [(&str, Measure); 47] = [
+pub const ALL: [(&str, Measure); 43] = [
     ("queue, a put or poll", Measure::Queue),
     (
         "shared queue, one thread, a put or poll",
         Measure::SharedQueue,
     ),
     (
-        "lock, deque and set, one thread, a put or poll",
-        Measure::PlainQueue,
-    ),
-    (
         "shared queue, 1 putting, 1 taking, a notice",
         Measure::SharedQueueAmong(1),
-    ),
-    (
-        "lock, deque and set, 1 putting, 1 taking, a notice",
-        Measure::PlainQueueAmong(1),
     ),
     (
         "shared queue, 2 putting, 2 taking, a notice",
         Measure::SharedQueueAmong(2),
     ),
     (
-        "lock, deque and set, 2 putting, 2 taking, a notice",
-        Measure::PlainQueueAmong(2),
-    ),
-    (
         "shared queue, 4 putting, 4 taking, a notice",
         Measure::SharedQueueAmong(4),
-    ),
-    (
-        "lock, deque and set, 4 putting, 4 taking, a notice",
-        Measure::PlainQueueAmong(4),
     ),
     (
         "a scan that finds a reference",
@@ -224,9 +204,7 @@ impl Measure {
         match *self {
             Measure::Queue => queue_alone(rt, alloc, notices),
             Measure::SharedQueue => shared_queue_alone(rt, alloc, notices),
-            Measure::PlainQueue => plain_queue_alone(rt, alloc, notices),
             Measure::SharedQueueAmong(n) => shared_queue(rt, alloc, n, notices),
-            Measure::PlainQueueAmong(n) => plain_queue(rt, alloc, n, notices),
             Measure::Heap(part) => heap_part(rt, alloc, part, size),
             Measure::Delivery(by) => deliveries(rt, alloc, by),
             Measure::HeapCallAmong(n) => heap_calls(rt, alloc, n, size.saturating_mul(2_000)),

@@ -1,8 +1,7 @@
 //! Queues that one thread has alone.
 
 use crate::letters::{Letter, QUEUE, letters};
-use crate::plain_queue::PlainQueue;
-use crate::tills::{PlainTill, SharedTill, Till};
+use crate::tills::{SharedTill, Till};
 use crate::timing::{Sample, Timer};
 use ref_base::Fault;
 use ref_queue::Queue;
@@ -47,19 +46,6 @@ pub fn shared_queue_alone<R: Wait + Clock>(
     drop(till);
     end_queue(queue.finish(seat));
     answer.map(|()| sample)
-}
-
-/// The same calls of a plain queue.
-pub fn plain_queue_alone<R: Wait + Clock>(
-    rt: &R,
-    alloc: Global,
-    count: u32,
-) -> Result<Sample, Fault> {
-    let letters = letters(alloc, 1, count)?;
-    let queue = PlainQueue::new(alloc);
-    let timer = Timer::start(rt);
-    put_and_take(rt, &mut PlainTill(&queue), letters)?;
-    Ok(timer.stop(rt, calls(count)))
 }
 
 fn put_and_take<R: Wait, T: Till>(rt: &R, till: &mut T, letters: Vec<Letter>) -> Result<(), Fault>

@@ -3,13 +3,13 @@
 ghost use Rattle.ref_share.specs.QueueSeats.{IsQueueSeat};
 
 use crate::letters::Letter;
-use crate::plain_queue::PlainQueue;
 use ref_base::Fault;
 use ref_queue::Put;
 use ref_share::{Polled, QueueSeat, SharedQueue};
 use std::sync::Wait;
 
-/// A thread's way to a queue.
+/// A thread's way to a queue. It is a trait since the prover does a closure over jobs of a type parameter, and none
+/// over jobs of one type that borrows.
 pub trait Till {
     /// Whether it may be used.
     ghost is_ready: { Self → Type 0 };
@@ -76,25 +76,5 @@ impl Till for SharedTill<'_> {
         if let Err(fault) = self.queue.close(rt, &mut self.seat) {
             let _ = fault.give_up();
         }
-    }
-}
-
-/// The way to a plain queue.
-#[derive(Clone, Copy)]
-pub struct PlainTill<'a>(pub &'a PlainQueue);
-
-impl Till for PlainTill<'_> {
-    ghost is_ready = { λ t. Unit {0} };
-
-    fn put<R: Wait>(&mut self, rt: &R, letter: Letter) -> Result<(), Fault> {
-        self.0.put(rt, letter)
-    }
-
-    fn take<R: Wait>(&mut self, rt: &R) -> Option<Letter> {
-        self.0.take(rt)
-    }
-
-    fn close<R: Wait>(&mut self, rt: &R) {
-        self.0.close(rt);
     }
 }
