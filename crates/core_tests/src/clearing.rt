@@ -100,8 +100,8 @@ enum Ask {
     PendingOf(u32, usize),
 }
 
-/// A call that takes a hold or gives one back. A story has a hand and a pocket, which have one hold at most each: what is
-/// to be given back later waits in the pocket.
+/// A call that takes a hold or gives one back. A story has a hand and a pocket, which have one hold at most each: what
+/// is to be given back later waits in the pocket.
 #[derive(Clone, Copy)]
 enum Keep {
     /// Takes a hold of what this slot holds into the hand.

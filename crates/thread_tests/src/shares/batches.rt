@@ -23,7 +23,8 @@ use std::{fmt, slice};
 /// More requests than any call makes.
 const MOST: u64 = 1_000;
 
-/// What a delivery or a poll was answered. It is printed by its word: a derive would be dearer to prove than its stories.
+/// What a delivery or a poll was answered. It is printed by a word, or as what became of notices: a derive would be
+/// dearer to prove than its stories.
 #[derive(Clone, Copy, PartialEq, Eq)]
 enum Came {
     /// There was nothing to deliver.
@@ -65,8 +66,11 @@ struct Answered {
 
 impl fmt::Debug for Answered {
     fn fmt<W: fmt::Write>(&self, f: &mut fmt::Formatter<W>) -> fmt::Result {
-        let word = self.came.word();
         let numbers = self.numbers;
+        if let Came::Told(outs) = self.came {
+            return write!(f, "{outs:?} {numbers:?}");
+        }
+        let word = self.came.word();
         write!(f, "{word} {numbers:?}")
     }
 }
