@@ -1,8 +1,8 @@
 -- The seats of two queues, place by place.
 use Rattle.std.proofs.Common.{◌≡◌, zero, suc, List, [], ◌∷◌, ◌++◌, length, length-append, Some, ap, subst, ◌∙◌}
 use Rattle.std.proofs.Common.{arith}
-use Rattle.std.proofs.Common.{slice_get, sym}
-use Rattle.std.proofs.lemmas.Option.{same_Some}
+use Rattle.std.proofs.Common.{slice_get, get_or, ◌<◌, ℕ, sym}
+use Rattle.std.proofs.lemmas.Option.{same_Some, slice_get-get_or}
 use Rattle.ref_share.specs.Deliveries.{AreSeats}
 use Rattle.ref_share.specs.QueueSeats.{IsQueueSeat, QueueSeat, SharedQueue}
 
@@ -14,6 +14,11 @@ two_last all (x ∷ rest) front first second whole most count =
     absurd
     (omega
     (arith, ap length whole, ap length most, length-append front (second ∷ []), length-append rest (first ∷ []), count))
+
+-- what an index within the list answers stands at its place
+pub stands_at : {T : Type 0} (all : List T) (k : ℕ) (x : T) → k < length all → x ≡ get_or all k x
+    → slice_get all k ≡ Some x
+stands_at all k x within is = slice_get-get_or all k x within ∙ ap Some (sym is)
 
 module _ {A : Type 0} where
   -- a seat of a queue is one of what is the same queue, and so is what is the same seat

@@ -1,5 +1,5 @@
-use Rattle.std.proofs.Common.{refl, ap, sym, Some, ◌∙◌, arith}
-use Rattle.std.proofs.lemmas.Option.{slice_get-get_or}
+use Rattle.std.proofs.Common.{refl, arith}
+use Rattle.thread_examples.proofs.TwoSeats.{stands_at}
 use Rattle.thread_examples.proofs.buffer_pool.run.Goals as goal
 
 pub clean-requires-clause-worker : goal.clean-requires-clause-worker
@@ -8,8 +8,7 @@ clean-requires-clause-worker g c κs within =
     let count = c.split-told.ensures.two.1 in (
       c.split-2.ensures.1,
       c.split-told.ensures.seats 1 queue c.split-told.result.1
-          (slice_get-get_or c.split-told.new.self.all.items 1 queue (omega (arith, count))
-          ∙ ap Some (sym c.index.ensures))
+          (stands_at c.split-told.new.self.all.items 1 queue (omega (arith, count)) c.index.ensures)
           refl,
       c.split-3.ensures.seat.1,
     )
@@ -19,5 +18,5 @@ count_losses-requires g c =
     let queue = c.index-2.result.now in
     let count = c.split-told.ensures.two.1 in
     c.split-told.ensures.seats 0 queue c.split-told.result.0
-    (slice_get-get_or c.split-told.new.self.all.items 0 queue (omega (arith, count)) ∙ ap Some (sym c.index-2.ensures))
+    (stands_at c.split-told.new.self.all.items 0 queue (omega (arith, count)) c.index-2.ensures)
     refl

@@ -1,5 +1,5 @@
-use Rattle.std.proofs.Common.{refl, ap, sym, Some, ◌∙◌, arith}
-use Rattle.std.proofs.lemmas.Option.{slice_get-get_or}
+use Rattle.std.proofs.Common.{refl, arith}
+use Rattle.thread_examples.proofs.TwoSeats.{stands_at}
 use Rattle.thread_examples.proofs.weak_table.clean_and_fill.Goals as goal
 
 pub new-left-requires : goal.new-left-requires
@@ -8,8 +8,7 @@ new-left-requires g c =
     let count = c.split-first.ensures.two.1 in (
       c.split-2.ensures.1,
       c.split-first.ensures.seats 0 queue c.split-first.result.0
-          (slice_get-get_or c.split-first.new.self.all.items 0 queue (omega (arith, count))
-          ∙ ap Some (sym c.index.ensures))
+          (stands_at c.split-first.new.self.all.items 0 queue (omega (arith, count)) c.index.ensures)
           refl,
     )
 
@@ -19,7 +18,6 @@ new-right-requires g c =
     let count = c.split-first.ensures.two.1 in (
       c.split-3.ensures.1,
       c.split-first.ensures.seats 1 queue c.split-first.result.1
-          (slice_get-get_or c.split-first.new.self.all.items 1 queue (omega (arith, count))
-          ∙ ap Some (sym c.index-2.ensures))
+          (stands_at c.split-first.new.self.all.items 1 queue (omega (arith, count)) c.index-2.ensures)
           refl,
     )
