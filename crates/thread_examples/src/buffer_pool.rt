@@ -18,7 +18,6 @@ use ref_queue::{Action, Job};
 use ref_share::{CleanSeat, SharedCleaner, SharedHeap, run_jobs_left};
 use std::alloc::Global;
 use std::sync::Wait;
-use std::sync::atomic::{AtomicU64, Ordering};
 use std::thread;
 use std::thread::Threads;
 use worker::Worker;
@@ -178,20 +177,10 @@ fn work<R: Threads + Wait + Sync>(rt: &R, user: HeapUser, collector: Collector) 
     requires user { IsUser user }
     requires collector { IsCollector collector }
 {
-    let has_ended = AtomicU64::new(0);
-    let (let_go, collected) = thread::join(
+    collector.run_beside(
         rt,
         || -> Result<(), Fault>
             requires { IsUser user }
-        {
-            let let_go = let_go(rt, user);
-            has_ended.store(1, Ordering::SeqCst);
-            let_go
-        },
-        || -> Result<(), Fault>
-            requires { IsCollector collector }
-        { collector.run(rt, &has_ended) },
-    );
-    collected?;
-    let_go
+        { let_go(rt, user) },
+    )
 }

@@ -16,7 +16,6 @@ use ref_base::{
 use ref_share::SharedHeap;
 use std::alloc::Global;
 use std::collections::BTreeMap;
-use std::sync::atomic::{AtomicU64, Ordering};
 use std::sync::{Mutex, Wait};
 use std::thread;
 use std::thread::Threads;
@@ -133,22 +132,12 @@ fn work<R: Threads + Wait + Sync>(
 ) -> Result<(), Fault>
     requires { IsUser program × IsCollector collector }
 {
-    let has_ended = AtomicU64::new(0);
-    let (filled, collected) = thread::join(
+    collector.run_beside(
         rt,
         || -> Result<(), Fault>
             requires { IsUser program }
-        {
-            let filled = fill(rt, program, table);
-            has_ended.store(1, Ordering::SeqCst);
-            filled
-        },
-        || -> Result<(), Fault>
-            requires { IsCollector collector }
-        { collector.run(rt, &has_ended) },
-    );
-    filled?;
-    collected
+        { fill(rt, program, table) },
+    )
 }
 
 /// Makes a value for each key, and a weak reference to it with its entry: that of the lower half of the keys is

@@ -9,6 +9,8 @@ use ref_base::{Fault, Urgency, WorkerNo};
 use ref_share::{QueueSeat, SharedQueue, cycle};
 use std::sync::Wait;
 use std::sync::atomic::{AtomicU64, Ordering};
+use std::thread;
+use std::thread::Threads;
 
 const WORKER: WorkerNo = WorkerNo(0);
 
@@ -33,9 +35,37 @@ impl<'a> Collector<'a> {
         }
     }
 
+    /// Runs the program in one thread and the collector in another. The collector goes on until the program has ended,
+    /// and then closes the queues.
+    pub fn run_beside<R: Threads + Wait + Sync, F: FnOnce() -> Result<(), Fault> + Send>(
+        self,
+        rt: &R,
+        program: F,
+    ) -> Result<(), Fault>
+        requires collector { IsCollector self }
+        requires program { F.IsAlwaysCallable program }
+    {
+        let has_ended = AtomicU64::new(0);
+        let (ran, collected) = thread::join(
+            rt,
+            || -> Result<(), Fault>
+                requires { F.IsAlwaysCallable program }
+            {
+                let ran = program();
+                has_ended.store(1, Ordering::SeqCst);
+                ran
+            },
+            || -> Result<(), Fault>
+                requires { IsCollector self }
+            { self.run(rt, &has_ended) },
+        );
+        ran?;
+        collected
+    }
+
     /// Runs cycles until one began after the program had ended, and then closes the queues, so that who waits for them
     /// goes on.
-    pub fn run<R: Wait>(self, rt: &R, has_ended: &AtomicU64) -> Result<(), Fault>
+    fn run<R: Wait>(self, rt: &R, has_ended: &AtomicU64) -> Result<(), Fault>
         requires { IsCollector self }
     {
         let mut collector = self;
