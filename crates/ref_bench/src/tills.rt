@@ -8,8 +8,8 @@ use ref_queue::Put;
 use ref_share::{Polled, QueueSeat, SharedQueue};
 use std::sync::Wait;
 
-/// A thread's way to a queue. It is a trait since the prover does a closure over jobs of a type parameter, and none
-/// over jobs of one type that borrows.
+/// A thread's way to a queue. `crowds` runs jobs of any such type: its closure over jobs of this one type alone wasn't
+/// proved.
 pub trait Till {
     /// Whether it may be used.
     ghost is_ready: { Self → Type 0 };
