@@ -56,8 +56,11 @@ impl Job {
     }
 
     /// Runs the action, once and for all. Takes no memory but what the action takes.
+    ///
+    /// That the action gave the answer (`called`) can only be known by calling it.
     pub fn run(self) -> Ran
-        ensures { result ≡ record { number = self.number; answer = self.note } }
+        ensures ran { result ≡ record { number = self.number; answer = self.note } }
+        ensures called { Action.post self.action self.number result.answer }
     {
         let Job { number, action, .. } = self;
         Ran {

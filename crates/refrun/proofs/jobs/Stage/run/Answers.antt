@@ -10,4 +10,4 @@ returns-in-None g c =
 pub returns-in-Some : goal.returns-in-Some
 returns-in-Some g c =
     ran_row job_number note_of _ _ _ _ c.args.mutator c.args.reference c.args.object c.requires.refused c.requires.held
-    c.in-Some.job _ _ c.in-Some.ensures refl c.run.ensures c.step.ensures.row
+    c.in-Some.job _ _ c.in-Some.ensures refl c.run.ensures.ran c.step.ensures.row
