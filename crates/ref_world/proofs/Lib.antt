@@ -5,6 +5,7 @@ pub mod ReachedCores
 pub mod AskedRows
 pub mod Refusals
 pub mod HandRows
+pub mod InsideHeaps
 pub mod HandedNotices
 pub mod BatchWorlds
 pub mod QueueRows
@@ -14,3 +15,4 @@ pub mod QueueSteps
 pub mod FirstCores
 pub mod RunLemmas
 pub mod HeadlineLemmas
+mod InsideExamples

@@ -8,3 +8,4 @@ pub mod Headline
 pub mod HeapOfRows
 pub mod Runs
 pub mod Standing
+pub mod InsideHeaps

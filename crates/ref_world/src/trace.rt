@@ -7,6 +7,7 @@ ghost use Rattle.ref_base.specs.declared.config.Config.{Config};
 ghost use Rattle.ref_world.specs.Headline.{TakenThenStanding, QueuesTell, Positions, InClearingOrder, AtMostOnce};
 ghost use Rattle.ref_world.specs.Headline.{OwnQueue, OwnEnqueueCall, AfterAMarkEnded, NothingAfterClose, ScannedOnce};
 ghost use Rattle.ref_world.specs.HeapOfRows.{HeapTells};
+ghost use Rattle.ref_world.specs.InsideHeaps.{DoesEach};
 ghost use Rattle.ref_world.specs.Runs.{RunsFrom, steps_of};
 ghost use Rattle.ref_world.specs.Standing.{Stands};
 
@@ -38,6 +39,9 @@ pub fn run<A: Allocator + Copy>(
 
     // From each state that the world stands for, the rows are a run of the abstract collector.
     ensures run { IfOk result (λ trace. RunsFrom world trace.rows.items trace.world) }
+
+    // And the heap inside does, row by row, what its own calls do.
+    ensures does { IfOk result (λ trace. DoesEach world trace.rows.items trace.world) }
     ensures refused { IfErr result (λ refused. refused.0 ≡ Fault.NoMemory) }
     ensures back { IfErr result (λ refused. (refused.1 ≡ world) × (refused.2 ≡ steps)) }
 
@@ -81,6 +85,7 @@ fn answered<A: Allocator + Copy>(
 ) -> Result<Trace<A>, (Fault, World<A>, Vec<Step, A>)>
     ensures steps { IfOk result (λ trace. steps_of trace.rows.items ≡ steps.items) }
     ensures run { IfOk result (λ trace. RunsFrom world trace.rows.items trace.world) }
+    ensures does { IfOk result (λ trace. DoesEach world trace.rows.items trace.world) }
     ensures refused { IfErr result (λ refused. refused.0 ≡ Fault.NoMemory) }
     ensures back { IfErr result (λ refused. (refused.1 ≡ world) × (refused.2 ≡ steps)) }
 {

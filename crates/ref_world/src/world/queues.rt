@@ -1,5 +1,6 @@
 //! The steps of queues.
 
+ghost use Rattle.std.specs.Prelude.{◌≡◌};
 ghost use Rattle.ref_objects.specs.Grounds.{IsRefused};
 ghost use Rattle.ref_world.specs.Cores.{calling_refusal};
 ghost use Rattle.ref_world.specs.QueueReplies.{PutsOne, PollsOne};
@@ -15,7 +16,8 @@ use std::alloc::Allocator;
 impl<A: Allocator + Copy> World<A> {
     // Puts the hand's first notice into its own queue. It is the hand's first again where the queue doesn't take it.
     pub(crate) fn put(&mut self, actor: Actor) -> Result<Reply, Fault>
-        ensures { Does self.old (Step.Put actor) result self.new }
+        ensures row { Does self.old (Step.Put actor) result self.new }
+        ensures kept { self.new.heap ≡ self.old.heap }
     {
         // The prover takes an actor that is passed on by value as spent.
         let (from, back) = (actor, actor);
@@ -29,7 +31,8 @@ impl<A: Allocator + Copy> World<A> {
     // Puts all notices of the hand into their queue, one after the other. The hand then holds what wasn't added.
     #[inline(never)]
     pub(crate) fn puts(&mut self, actor: Actor) -> Result<Reply, Fault>
-        ensures { Does self.old (Step.Puts actor) result self.new }
+        ensures row { Does self.old (Step.Puts actor) result self.new }
+        ensures kept { self.new.heap ≡ self.old.heap }
     {
         let (first, all) = (actor, actor);
         let queue = self.hands.first_queue(first)?;
@@ -40,7 +43,8 @@ impl<A: Allocator + Copy> World<A> {
 
     // Takes the first notice that stands in a queue into the hand.
     pub(crate) fn poll(&mut self, mutator: MutNo, queue: QueueNo) -> Result<Reply, Fault>
-        ensures { Does self.old (Step.Poll mutator queue) result self.new }
+        ensures row { Does self.old (Step.Poll mutator queue) result self.new }
+        ensures kept { self.new.heap ≡ self.old.heap }
     {
         self.check_queue(mutator, queue)?;
         self.hands.check_empty(Actor::Mutator(mutator))?;
@@ -52,7 +56,8 @@ impl<A: Allocator + Copy> World<A> {
     // Takes the first notices that stand in a queue into the hand, so many at most.
     #[inline(never)]
     pub(crate) fn polls(&mut self, mutator: MutNo, queue: QueueNo, max: u32) -> Result<Reply, Fault>
-        ensures { Does self.old (Step.Polls mutator queue max) result self.new }
+        ensures row { Does self.old (Step.Polls mutator queue max) result self.new }
+        ensures kept { self.new.heap ≡ self.old.heap }
     {
         self.check_queue(mutator, queue)?;
         self.hands.check_fits(Actor::Mutator(mutator), max)?;
@@ -62,7 +67,8 @@ impl<A: Allocator + Copy> World<A> {
 
     // Closes a queue.
     pub(crate) fn close(&mut self, mutator: MutNo, queue: QueueNo) -> Result<Reply, Fault>
-        ensures { Does self.old (Step.Close mutator queue) result self.new }
+        ensures row { Does self.old (Step.Close mutator queue) result self.new }
+        ensures kept { self.new.heap ≡ self.old.heap }
     {
         self.check_queue(mutator, queue)?;
         if self.queues[queue.0 as usize].close() {

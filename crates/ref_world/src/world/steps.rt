@@ -7,6 +7,7 @@ ghost use Rattle.ref_objects.specs.Grounds.{IsRefused};
 ghost use Rattle.ref_clear.specs.ClearCalls.{HeapDoes};
 ghost use Rattle.ref_world.specs.AskedSteps.{may_give_notice, received};
 ghost use Rattle.ref_world.specs.Cores.{filling_refusal};
+ghost use Rattle.ref_world.specs.InsideHeaps.{DoesInside};
 ghost use Rattle.ref_world.specs.Standing.{IsRowOf, answered, Does};
 ghost use Rattle.ref_world.specs.WorldHeaps.{heap_no_of, model_heap};
 
@@ -29,6 +30,9 @@ impl<A: Allocator + Copy> World<A> {
     /// call costs. But for put and puts no step takes memory.
     pub fn step(&mut self, step: Step) -> Reply
         ensures row { IsRowOf self.old step result self.new }
+
+        // Nothing is chosen in it: the heap inside does just what its own call does.
+        ensures does { DoesInside self.old step result self.new }
     {
         match step {
             Step::Plain(step) => self.ask(step).reply(),
@@ -42,7 +46,8 @@ impl<A: Allocator + Copy> World<A> {
     // The reply to a step, or why it is refused.
     #[inline(always)]
     fn perform(&mut self, step: Step) -> Result<Reply, Fault>
-        ensures { Does self.old step result self.new }
+        ensures row { Does self.old step result self.new }
+        ensures inside { DoesInside self.old step (answered result) self.new }
     {
         match step {
             Step::Plain(step) => Ok(self.ask(step).reply()),
@@ -67,14 +72,16 @@ impl<A: Allocator + Copy> World<A> {
     /// the heap's call.
     #[inline(always)]
     pub fn ask(&mut self, step: PlainStep) -> PlainReply
-        ensures { IsRowOf self.old (Step.Plain step) result self.new }
+        ensures row { IsRowOf self.old (Step.Plain step) result self.new }
+        ensures does { HeapDoes self.old.heap (HeapStep.Plain step) result self.new.heap }
     {
         plain_call(&mut self.heap, step)
     }
 
     // Clears the reference in a slot, and takes its notice into the hand if it has a queue.
     fn unhook(&mut self, mutator: MutNo, reference: SlotNo) -> Result<Reply, Fault>
-        ensures { Does self.old (Step.Unhook mutator reference) result self.new }
+        ensures row { Does self.old (Step.Unhook mutator reference) result self.new }
+        ensures inside { DoesInside self.old (Step.Unhook mutator reference) (answered result) self.new }
     {
         self.check_slot(mutator, reference)?;
         self.hands.check_empty(Actor::Mutator(mutator))?;
@@ -85,7 +92,8 @@ impl<A: Allocator + Copy> World<A> {
 
     // Takes the notice of the next reference that the worker cleared into its hand.
     fn hand(&mut self, worker: WorkerNo) -> Result<Reply, Fault>
-        ensures { Does self.old (Step.Hand worker) result self.new }
+        ensures row { Does self.old (Step.Hand worker) result self.new }
+        ensures inside { DoesInside self.old (Step.Hand worker) (answered result) self.new }
     {
         self.hands.check_empty(Actor::Worker(worker))?;
         let asked = HeapStep::Hand { worker };
@@ -96,7 +104,8 @@ impl<A: Allocator + Copy> World<A> {
     // Takes the notices of the next references that the worker cleared into its hand, so many at most.
     #[inline(never)]
     fn hand_some(&mut self, worker: WorkerNo, max: u32) -> Result<Reply, Fault>
-        ensures { Does self.old (Step.Hands worker max) result self.new }
+        ensures row { Does self.old (Step.Hands worker max) result self.new }
+        ensures inside { DoesInside self.old (Step.Hands worker max) (answered result) self.new }
     {
         self.hands.check_fits(Actor::Worker(worker), max)?;
         self.hands.hand_on(&mut self.heap, worker, max)
@@ -104,7 +113,8 @@ impl<A: Allocator + Copy> World<A> {
 
     // The slot then holds what the hand's first notice reports.
     fn adopt(&mut self, mutator: MutNo, slot: SlotNo) -> Result<Reply, Fault>
-        ensures { Does self.old (Step.Adopt mutator slot) result self.new }
+        ensures row { Does self.old (Step.Adopt mutator slot) result self.new }
+        ensures inside { DoesInside self.old (Step.Adopt mutator slot) (answered result) self.new }
     {
         self.check_slot(mutator, slot)?;
         let hold = self.hands.take(Actor::Mutator(mutator))?.into_hold();
@@ -118,7 +128,8 @@ impl<A: Allocator + Copy> World<A> {
 
     // Gives the hand's first notice up.
     fn release(&mut self, actor: Actor) -> Result<Reply, Fault>
-        ensures { Does self.old (Step.Release actor) result self.new }
+        ensures row { Does self.old (Step.Release actor) result self.new }
+        ensures inside { DoesInside self.old (Step.Release actor) (answered result) self.new }
     {
         let hold = self.hands.take(actor)?.into_hold();
         let asked = HeapStep::Release { hold };

@@ -14,7 +14,7 @@ returns-in-Some-clause-row g c =
     (λ line.
     tells_world job_number note_of c.args.number c.args.stage.now.world c.ask.new.self
     (jobs c.args.stage.now.table c.args.stage.now.left.items) (steps.Plain c.in-Some.plain) c.ask.result
-    c.reply.result _ _ c.ask.ensures c.reply.ensures line.0) (rw is at line))
+    c.reply.result _ _ c.ask.ensures.row c.reply.ensures line.0) (rw is at line))
 
 pub returns-in-Some-clause-plain : goal.returns-in-Some-clause-plain
 returns-in-Some-clause-plain g c =

@@ -2,10 +2,11 @@ use Rattle.ref_world.proofs.Common.{arith, ◌≡◌, None, sym, subst, drop_ref
 use Rattle.ref_world.proofs.HandRows.{adopt_reply, adopted_told}
 use Rattle.ref_world.proofs.Refusals.{empty_at_adopt}
 use Rattle.ref_world.proofs.HandSteps.{adopt_does}
+use Rattle.ref_world.proofs.InsideHeaps.{adopt_inside}
 use Rattle.ref_world.proofs.world.World.adopt.Goals as goal
 
-pub returns-in_err-take : goal.returns-in_err-take
-returns-in_err-take g c = grind (arith, empty_at_adopt)
+pub returns-in_err-take-clause-row : goal.returns-in_err-take-clause-row
+returns-in_err-take-clause-row g c = grind (arith, empty_at_adopt)
 
 pub told-requires : goal.told-requires
 told-requires g c =
@@ -31,8 +32,14 @@ invariant_of-self-2 g c =
     c.into_hold-hold.result c.in_ok-check_slot.ensures c.in_ok-take.ensures.refused c.in_ok-take.ensures.answer
     c.into_hold-hold.ensures c.told.ensures c.apply_heap.ensures.does c.in_ok-take.ensures.taken).1
 
-pub returns : goal.returns
-returns g c =
+pub returns-clause-row : goal.returns-clause-row
+returns-clause-row g c =
     (adopt_does c.self.invariant c.self.view_is c.told.result c.args.mutator c.args.slot c.in_ok-take.field-0 _
     c.into_hold-hold.result c.in_ok-check_slot.ensures c.in_ok-take.ensures.refused c.in_ok-take.ensures.answer
     c.into_hold-hold.ensures c.told.ensures c.apply_heap.ensures.does c.in_ok-take.ensures.taken).0
+
+pub returns-clause-inside : goal.returns-clause-inside
+returns-clause-inside g c =
+    adopt_inside c.self.view_is c.args.mutator c.args.slot c.in_ok-take.field-0 _ c.into_hold-hold.result
+    c.in_ok-check_slot.ensures c.in_ok-take.ensures.refused c.in_ok-take.ensures.answer c.into_hold-hold.ensures
+    c.told.ensures c.apply_heap.ensures.does

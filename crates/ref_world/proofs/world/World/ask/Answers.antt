@@ -11,8 +11,8 @@ invariant_of-self g c =
     (as_told _ (steps.Plain c.args.step) (heap.Plain c.args.step) _ refl c.plain_call.ensures
     (plain_row _ c.args.step))).1
 
-pub returns : goal.returns
-returns g c =
+pub returns-clause-row : goal.returns-clause-row
+returns-clause-row g c =
     (done c.self.invariant c.self.view_is (Ok c.plain_call.result) (steps.Plain c.args.step) _ refl
     (as_told _ (steps.Plain c.args.step) (heap.Plain c.args.step) _ refl c.plain_call.ensures
     (plain_row _ c.args.step))).0

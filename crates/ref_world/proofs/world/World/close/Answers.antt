@@ -12,8 +12,8 @@ invariant_of-self g c =
     (close_done c.self.invariant c.self.view_is c.args.mutator c.queue.view_is c.in_ok-check_queue.ensures
     c.index_mut.ensures.value c.if-close.ensures.result).1
 
-pub returns-then-close : goal.returns-then-close
-returns-then-close g c =
+pub returns-then-close-clause-row : goal.returns-then-close-clause-row
+returns-then-close-clause-row g c =
     rw c.if-close.ensures.after
     (close_done c.self.invariant c.self.view_is c.args.mutator c.queue.view_is c.in_ok-check_queue.ensures
     c.index_mut.ensures.value c.if-close.ensures.result).0
@@ -24,8 +24,8 @@ invariant_of-self-2 g c =
     (close_done c.self.invariant c.self.view_is c.args.mutator c.queue.view_is c.in_ok-check_queue.ensures
     c.index_mut.ensures.value c.if-close.ensures.result).1
 
-pub returns : goal.returns
-returns g c =
+pub returns-clause-row : goal.returns-clause-row
+returns-clause-row g c =
     rw c.if-close.ensures.after
     (close_done c.self.invariant c.self.view_is c.args.mutator c.queue.view_is c.in_ok-check_queue.ensures
     c.index_mut.ensures.value c.if-close.ensures.result).0

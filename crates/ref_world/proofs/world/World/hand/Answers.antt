@@ -4,10 +4,11 @@ use Rattle.ref_world.proofs.HandSteps.{filled_does}
 use Rattle.ref_world.proofs.Refusals.{full_at_hand}
 use Rattle.ref_base.specs.declared.heap_step.HeapStep.TheVariants as heap
 use Rattle.ref_base.specs.declared.step.Step.TheVariants as steps
+use Rattle.ref_world.proofs.InsideHeaps.{hand_inside}
 use Rattle.ref_world.proofs.world.World.hand.Goals as goal
 
-pub returns-in_err-check_empty : goal.returns-in_err-check_empty
-returns-in_err-check_empty g c = grind (arith, full_at_hand)
+pub returns-in_err-check_empty-clause-row : goal.returns-in_err-check_empty-clause-row
+returns-in_err-check_empty-clause-row g c = grind (arith, full_at_hand)
 
 pub invariant_of-self : goal.invariant_of-self
 invariant_of-self g c =
@@ -15,8 +16,12 @@ invariant_of-self g c =
     (heap.Hand c.args.worker) c.in_ok-check_empty.ensures (hand_row _ c.args.worker) c.receive.ensures.hands
     c.receive.ensures.does).1
 
-pub returns : goal.returns
-returns g c =
+pub returns-clause-row : goal.returns-clause-row
+returns-clause-row g c =
     (filled_does c.self.invariant c.self.view_is c.receive.result (Worker c.args.worker) (steps.Hand c.args.worker)
     (heap.Hand c.args.worker) c.in_ok-check_empty.ensures (hand_row _ c.args.worker) c.receive.ensures.hands
     c.receive.ensures.does).0
+
+pub returns-clause-inside : goal.returns-clause-inside
+returns-clause-inside g c =
+    hand_inside c.self.view_is c.args.worker c.in_ok-check_empty.ensures c.receive.ensures.does

@@ -4,10 +4,11 @@ use Rattle.ref_world.proofs.HandSteps.{filled_does}
 use Rattle.ref_world.proofs.Refusals.{full_at_unhook}
 use Rattle.ref_base.specs.declared.heap_step.HeapStep.TheVariants as heap
 use Rattle.ref_base.specs.declared.step.Step.TheVariants as steps
+use Rattle.ref_world.proofs.InsideHeaps.{unhook_inside}
 use Rattle.ref_world.proofs.world.World.unhook.Goals as goal
 
-pub returns-in_err-check_empty : goal.returns-in_err-check_empty
-returns-in_err-check_empty g c = grind (arith, full_at_unhook)
+pub returns-in_err-check_empty-clause-row : goal.returns-in_err-check_empty-clause-row
+returns-in_err-check_empty-clause-row g c = grind (arith, full_at_unhook)
 
 pub invariant_of-self : goal.invariant_of-self
 invariant_of-self g c =
@@ -16,9 +17,14 @@ invariant_of-self g c =
     c.in_ok-check_empty.ensures (unhook_row _ c.args.mutator c.args.reference) c.receive.ensures.hands
     c.receive.ensures.does).1
 
-pub returns : goal.returns
-returns g c =
+pub returns-clause-row : goal.returns-clause-row
+returns-clause-row g c =
     (filled_does c.self.invariant c.self.view_is c.receive.result (Mutator c.args.mutator)
     (steps.Unhook c.args.mutator c.args.reference) (heap.Unhook c.args.mutator c.args.reference)
     c.in_ok-check_empty.ensures (unhook_row _ c.args.mutator c.args.reference) c.receive.ensures.hands
     c.receive.ensures.does).0
+
+pub returns-clause-inside : goal.returns-clause-inside
+returns-clause-inside g c =
+    unhook_inside c.self.view_is c.args.mutator c.args.reference c.in_ok-check_slot.ensures
+    c.in_ok-check_empty.ensures c.receive.ensures.does
