@@ -1,15 +1,15 @@
 -- What is seen of a heap once objects are chosen to move, and once the pages that they left are used again.
-use Rattle.ref_objects.proofs.Common.{◌≡◌, ℕ, ◌+◌, ◌^◌, ◌&&◌, Bool, true, false, not, [], Option, Some, None, refl}
+use Rattle.ref_objects.proofs.Common.{◌≡◌, ℕ, ◌+◌, ◌^◌, ◌<◌, Bool, true, false, [], Option, Some, None, refl}
 use Rattle.ref_objects.proofs.Common.{sym, ap, ◌∙◌, arith, length, nat_lt, inl, inr, cases_Bool, false≢true, lt-ltb}
-use Rattle.ref_objects.proofs.Common.{if◌then◌else◌, Stored, Table, seen_ground, IsSoundGround, IsSoundObjects}
+use Rattle.ref_objects.proofs.Common.{Stored, Table, seen_ground, IsSoundGround, IsSoundObjects}
 use Rattle.std.specs.Prelude.{Result, Ok, Err}
 use Rattle.std.proofs.lemmas.Bool.{true≢false}
 use Rattle.std.proofs.Common.{ltb-false}
 use Rattle.ref_base.specs.declared.fault.Fault.{Fault}
-use Rattle.ref_base.specs.declared.fault.Fault.TheVariants.{NoRoom, AddressesSpent}
+use Rattle.ref_base.specs.declared.fault.Fault.TheVariants.{NoRoom}
 use Rattle.ref_space.specs.declared.colour.Colour.{Colour}
 use Rattle.ref_objects.specs.declared.stage.Stage.{Stage}
-use Rattle.ref_objects.specs.declared.stage.Stage.TheVariants.{Fresh, Tuned, Moved}
+use Rattle.ref_objects.specs.declared.stage.Stage.TheVariants.{Tuned, Moved}
 use Rattle.ref_space.specs.Pages.{Pages, chosen_frames, choose_refusal, chosen_or, choosing, has_chosen, left_in}
 use Rattle.ref_space.specs.Pages.{sparse_count}
 use Rattle.ref_space.specs.Pages.{choice, sparse_cells, taken_in, with_chosen}
@@ -18,36 +18,34 @@ use Rattle.ref_space.specs.Tables.{left_of, numbers_at, selected_unless, table_r
 use Rattle.ref_space.proofs.CallLemmas.{chosen-renumbered, count_chosen}
 use Rattle.ref_space.proofs.MoveLemmas.{none_chosen}
 use Rattle.ref_space.proofs.ReserveLemmas.{keeps_reserving}
-use Rattle.ref_objects.specs.Grounds.{Space, choice_in, chosen_objects, has_addresses, has_begun, lay_chosen}
+use Rattle.ref_objects.specs.Grounds.{Space, choice_in, chosen_objects, has_addresses, lay_chosen}
 use Rattle.ref_objects.specs.Grounds.{lay_reopened, wins_room, with_choice, with_choice_ended, with_choice_if}
 use Rattle.ref_objects.proofs.MoveLemmas.{moves_chosen, moves_renumbered}
 
 -- ---- what a choice answers
 
-pub fresh_choice : (s : Space) → s.stage ≡ Fresh → choice_in s ≡ Err NoRoom
+pub few_choice : (s : Space) → sparse_count s.ways.pages.uses < 2 → choice_in s ≡ Err NoRoom
 unfolding wins_room
-fresh_choice s fresh =
-    ap (λ stage. if not (has_begun stage && not (nat_lt (sparse_count s.ways.pages.uses) 2)) then Err NoRoom
-    else if not (has_addresses s) then Err AddressesSpent else Ok (length (chosen_objects s))) fresh
+few_choice s few = let is = lt-ltb (sparse_count s.ways.pages.uses) 2 few in simp is refl
 
-pub choice_by : (s : Space) → has_begun s.stage ≡ true
+pub choice_by : (s : Space)
     → choice_in s ≡ chosen_or (choose_refusal s.ways.pages) (length (chosen_objects s))
 unfolding wins_room has_addresses
-choice_by s begun =
+choice_by s =
     elim (cases_Bool (nat_lt (sparse_count s.ways.pages.uses) 2)) [
-      | inl few ↦ simp (begun, few) refl
+      | inl few ↦ simp few refl
       | inr enough ↦
           elim (cases_Bool (nat_lt (2 ^ 32) (s.ways.pages.next + sparse_count s.ways.pages.uses))) [
-            | inl spent ↦ simp (begun, enough, spent) refl
-            | inr left ↦ simp (begun, enough, left) refl
+            | inl spent ↦ simp (enough, spent) refl
+            | inr left ↦ simp (enough, left) refl
           ]
     ]
 
 -- the same fault, or how many are to move
-pub choice_refused : (s : Space) → has_begun s.stage ≡ true → (fault : Fault) → Err fault ≡ choice s.ways.pages
+pub choice_refused : (s : Space) (fault : Fault) → Err fault ≡ choice s.ways.pages
     → choice_in s ≡ Err fault
-choice_refused s begun fault is =
-    choice_by s begun ∙ by (choose_refusal s.ways.pages) refl is
+choice_refused s fault is =
+    choice_by s ∙ by (choose_refusal s.ways.pages) refl is
   where
     by : (refusal : Option Fault) → choose_refusal s.ways.pages ≡ refusal → Err fault ≡ choice s.ways.pages
         → chosen_or (choose_refusal s.ways.pages) (length (chosen_objects s)) ≡ Err fault
@@ -78,17 +76,17 @@ refused_same t fault is = by (choose_refusal t.ways.pages) refl
         is_ok (Err fault) = false
     by (Some other) at = ap (λ r. selected_unless r t) at
 
-pub refused_seen : (s : Stored) → has_begun s.stage ≡ true → (fault : Fault)
+pub refused_seen : (s : Stored) (fault : Fault)
     → Err fault ≡ choice s.table.ways.pages → (t : Table) → t ≡ table_selected s.table
     → seen_ground (record s { table = t }) ≡ record (seen_ground s) { space = with_choice (seen_ground s).space }
-refused_seen s begun fault at t is =
+refused_seen s fault at t is =
     ap (λ (r : Table). seen_ground (record s { table = r })) (is ∙ refused_same s.table fault at)
     ∙ ap (λ c. record (seen_ground s) { space = with_choice_if (seen_ground s).space c })
-    (sym (choice_refused (seen_ground s).space begun fault at))
+    (sym (choice_refused (seen_ground s).space fault at))
 
-pub choice_made : (s : Space) → has_begun s.stage ≡ true → choose_refusal s.ways.pages ≡ None
+pub choice_made : (s : Space) → choose_refusal s.ways.pages ≡ None
     → choice_in s ≡ Ok (length (chosen_objects s))
-choice_made s begun none = choice_by s begun ∙ ap (λ r. chosen_or r (length (chosen_objects s))) none
+choice_made s none = choice_by s ∙ ap (λ r. chosen_or r (length (chosen_objects s))) none
 
 -- ---- pages are chosen
 
@@ -157,13 +155,13 @@ module _ {s : Stored} (sound : IsSoundObjects s) where
           };
         })
         ∙ ap (λ c. record (seen_ground s) { space = with_choice_if (seen_ground s).space c })
-        (sym (choice_made (seen_ground s).space (ap has_begun tuned_now) accepted))
+        (sym (choice_made (seen_ground s).space accepted))
 
     pub chosen_answer : (count : ℕ) → count ≡ length (left_of t) → Ok count ≡ choice_in (seen_ground s).space
     unfolding chosen_objects
     chosen_answer count counts =
         ap Ok (counts ∙ ap length left)
-        ∙ sym (choice_made (seen_ground s).space (ap has_begun tuned_now) accepted)
+        ∙ sym (choice_made (seen_ground s).space accepted)
 
     pub chosen_sound : IsSoundObjects (record s { table = t; stage = Moved; has_choice = true })
     chosen_sound = record {

@@ -8,9 +8,10 @@ use Rattle.ref_objects.proofs.Common.{false≢true, ◌∙◌, eqb-true}
 use Rattle.ref_objects.specs.Grounds.{AllFrom}
 use Rattle.ref_space.specs.Tables.{is_healed, is_healed_in, AllDated, has_field, field_held}
 use Rattle.ref_space.specs.Naming.{IsWordHeld}
-use Rattle.ref_space.proofs.TableReads.{fields-tabled}
+use Rattle.ref_space.proofs.TableReads.{fields-tabled, reference-tabled}
 use Rattle.std.specs.Option.{IfSome}
-use Rattle.ref_objects.specs.Grounds.{IsWordIn, is_tuned}
+use Rattle.ref_objects.specs.Grounds.{IsWordIn, IsWordOfReferent, is_tuned}
+use Rattle.ref_objects.proofs.Common.{Reference, referent_of, tabled_reference}
 use Rattle.ref_objects.proofs.Common.{Bool, Colour}
 use Rattle.ref_objects.proofs.Common.{Stored, seen_ground, cases_Bool, inl, inr, subst, slice_index_or}
 use Rattle.ref_objects.proofs.Common.{marked_of, ◌+◌, ap}
@@ -158,3 +159,24 @@ word_seen s rising n i (Some b) there word =
     (fields-tabled s.table.tabled n)
     (subst (λ has_to. IsWordHeld s.table.round.good s.table.ways s.table.occupants has_to
     (field_held (tabled_at s.table.tabled n) i) b) same word))
+
+reference_there : (k : Option Tabled) → is_some (tabled_reference k) ≡ true → is_some k ≡ true
+reference_there None is = absurd (false≢true is)
+reference_there (Some k) is = refl
+
+pub referent_seen : (s : Stored) → IsRising (numbers (objects_of s.table.tabled)) → (n : ℕ) (bits : Option ℕ)
+    → is_some bits ≡ is_some (tabled_reference (tabled_at s.table.tabled n))
+    → IfSome bits (IsWordHeld s.table.round.good s.table.ways s.table.occupants
+    (is_healed_in s.table.round.number (tabled_at s.table.tabled n))
+    (referent_of (tabled_reference (tabled_at s.table.tabled n))))
+    → IfSome bits (IsWordOfReferent (seen_ground s) n)
+referent_seen s rising n None there word = tt
+referent_seen s rising n (Some b) there word =
+    let same = healed-unhealed s.table.round.number s.table.tabled n rising (reference_there
+    (tabled_at s.table.tabled n) (sym there)) in
+    less_held s.table.round.good s.table.ways s.table.occupants (is_tuned s.stage) _ _ b
+    (subst (λ (r : Option Reference). IsWordHeld s.table.round.good s.table.ways s.table.occupants
+    (not (has (unhealed_of s.table.round.number s.table.tabled) n)) (referent_of r) b)
+    (reference-tabled s.table.tabled n)
+    (subst (λ has_to. IsWordHeld s.table.round.good s.table.ways s.table.occupants has_to
+    (referent_of (tabled_reference (tabled_at s.table.tabled n))) b) same word))

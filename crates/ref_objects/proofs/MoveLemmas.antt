@@ -1,5 +1,5 @@
 -- Moves: what holds of them as pages, colours and stages change, and what is seen of an object that moves.
-use Rattle.ref_objects.proofs.Common.{◌≡◌, ℕ, ◌+◌, ◌/◌, ◌%◌, Bool, true, false, Option, Some, None, refl}
+use Rattle.ref_objects.proofs.Common.{◌≡◌, ℕ, ◌+◌, ◌/◌, ◌%◌, Bool, true, false, [], Option, Some, None, refl}
 use Rattle.ref_objects.proofs.Common.{sym, ap, ◌∙◌, subst, length, nat_lt, inl, inr, cases_Bool, false≢true, Stored}
 use Rattle.ref_objects.proofs.Common.{Table, Tabled, seen_ground, AreSoundMoves, IsSoundMoves, IsSoundObjects, has}
 use Rattle.std.proofs.lemmas.Bool.{true≢false}
@@ -8,14 +8,15 @@ use Rattle.ref_space.specs.declared.colour.Colour.TheVariants.{R}
 use Rattle.ref_objects.specs.declared.stage.Stage.{Stage}
 use Rattle.ref_objects.specs.Grounds.{is_tuned}
 use Rattle.ref_objects.specs.declared.stage.Stage.TheVariants.{Fresh, Tuned, Moved}
-use Rattle.ref_space.specs.Pages.{chosen_frames, has_chosen, place_of}
+use Rattle.ref_space.specs.Pages.{AreFilled, chosen_frames, has_chosen, place_of, taken_in}
 use Rattle.ref_space.specs.Moves.{Ways, tuned, ways_chosen}
 use Rattle.ref_space.specs.Tables.{brought as table_brought, left_of, moved_from, place_of_number, table_freed}
 use Rattle.ref_objects.proofs.Common.{◌-◌, ◌^◌, with_tabled}
 use Rattle.ref_space.specs.declared.round.Round.{Round}
-use Rattle.ref_space.specs.Tables.{table_renumbered}
+use Rattle.ref_space.specs.Tables.{numbers_at, table_renumbered}
 use Rattle.ref_space.specs.Tables.{is_unmarked_in, tabled_at, without_if_any, table_begun}
-use Rattle.ref_space.proofs.MoveLemmas.{chosen-with}
+use Rattle.ref_space.proofs.MoveLemmas.{chosen-with, none_chosen}
+use Rattle.ref_space.proofs.RoomLemmas.{filled_placing}
 use Rattle.ref_space.proofs.ReserveLemmas.{keeps_placing}
 use Rattle.ref_space.proofs.CallLemmas.{chosen-renumbered}
 use Rattle.ref_objects.specs.Grounds.{ground_brought, lay_moved, moved_one}
@@ -54,11 +55,13 @@ moved_not_fresh same = true≢false (ap first same)
 -- pages were placed in, given back or left
 pub moves_kept : {ways more : Ways} {good last : Colour} {stage : Stage} {has_choice condemning : Bool}
     → chosen_frames more.pages.uses ≡ chosen_frames ways.pages.uses → more.tuned ≡ ways.tuned → more.last ≡ ways.last
+    → (stage ≡ Fresh → AreFilled more.pages.uses)
     → IsSoundMoves ways good last stage has_choice condemning → IsSoundMoves more good last stage has_choice condemning
-moves_kept frames same_tuned same_last sound = record {
+moves_kept frames same_tuned same_last filled sound = record {
   choice = sound.choice ∙ ap (λ fs. nat_lt 0 (length fs)) (sym frames);
   settled = same_tuned ∙ sound.settled;
   fresh = sound.fresh;
+  filled = filled;
   coloured = sound.coloured;
   moved = λ is. ((sound.moved is).0, same_last ∙ (sound.moved is).1);
   condemns = sound.condemns;
@@ -68,27 +71,40 @@ module _ {s : Stored} (objects : IsSoundObjects s) where
   abbrev sound : AreSoundMoves s
   sound = objects.moves
 
+  -- before the first cycle no page is chosen
+  none_open : s.stage ≡ Fresh → chosen_frames s.table.ways.pages.uses ≡ []
+  none_open is = none_chosen s.table.ways.pages.uses (sym sound.choice ∙ sound.fresh is)
+
   pub moves_made : (place : ℕ) (entry : Tabled)
       → AreSoundMoves (record s { table = with_tabled s.table place entry; next = s.next + 1 })
-  moves_made place entry = moves_kept (keeps_placing s.table.ways.pages.uses).frames refl refl sound
+  moves_made place entry =
+      moves_kept (keeps_placing s.table.ways.pages.uses).frames refl refl
+      (λ is. filled_placing s.table.ways.pages.uses (none_open is) (sound.filled is)) sound
 
-  pub moves_freed : (n : ℕ) → AreSoundMoves (record s { table = table_freed s.table n })
-  moves_freed n =
+  pub moves_freed : (s.stage ≡ Fresh → ⊥) → (n : ℕ) → AreSoundMoves (record s { table = table_freed s.table n })
+  moves_freed begun n =
       elim (cases_Bool (is_unmarked_in s.table.round.number (tabled_at s.table.tabled n))) [
         | inl goes ↦
             simp goes
             (moves_kept
             (chosen-with s.table.ways.pages.uses
             (place_of s.table.ways.pages.uses (place_of_number s.table.occupants n / 64))
-            (place_of_number s.table.occupants n % 64) true) refl refl sound)
+            (place_of_number s.table.occupants n % 64) true) refl refl (λ is. absurd (begun is)) sound)
         | inr stays ↦ simp stays sound
       ]
 
-  moves_moved : (from : ℕ) → AreSoundMoves (record s { table = moved_from s.table from })
-  moves_moved from =
+  moves_moved : (s.stage ≡ Fresh → ⊥) → (from : ℕ) → AreSoundMoves (record s { table = moved_from s.table from })
+  moves_moved begun from =
       moves_kept
       (chosen-with s.table.ways.pages.uses (place_of s.table.ways.pages.uses (from / 64)) (from % 64) true) refl refl
-      sound
+      (λ is. absurd (begun is)) sound
+
+  -- nothing is to move before the first cycle
+  leaves_begun : (n : ℕ) → has (left_of s.table) n ≡ true → s.stage ≡ Fresh → ⊥
+  leaves_begun n leaves is =
+      false≢true
+      (sym (ap (λ fs. has (numbers_at s.table.occupants (taken_in s.table.ways.pages.uses fs)) n) (none_open is))
+      ∙ leaves)
 
   pub moves_brought : (n : Option ℕ) {t : Table} → t ≡ table_brought s.table n
       → AreSoundMoves (record s { table = t })
@@ -98,7 +114,7 @@ module _ {s : Stored} (objects : IsSoundObjects s) where
       by None = sound
       by (Some n) =
           elim (cases_Bool (has (left_of s.table) n)) [
-            | inl leaves ↦ simp leaves (moves_moved (place_of_number s.table.occupants n))
+            | inl leaves ↦ simp leaves (moves_moved (leaves_begun n leaves) (place_of_number s.table.occupants n))
             | inr stays ↦ simp stays sound
           ]
 
@@ -108,6 +124,7 @@ module _ {s : Stored} (objects : IsSoundObjects s) where
     choice = sound.choice;
     settled = sound.settled;
     fresh = sound.fresh;
+    filled = sound.filled;
     coloured = sound.coloured;
     moved = sound.moved;
     condemns = λ is. absurd (false≢true is);
@@ -119,6 +136,7 @@ module _ {s : Stored} (objects : IsSoundObjects s) where
     choice = sound.choice ∙ ap (λ (w : Ways). has_chosen w.pages.uses) (sym ways);
     settled = ap (λ (w : Ways). w.tuned) ways ∙ sound.settled;
     fresh = sound.fresh;
+    filled = λ is. absurd (not_fresh (sym tuned_now ∙ is));
     coloured = λ is. (
       ap (λ (r : Round). r.good) round ∙ (sound.coloured is).0,
       (λ same. (sound.coloured is).1 (ap (λ (r : Round). r.good) (sym round) ∙ same)),
@@ -154,6 +172,7 @@ module _ {s : Stored} (objects : IsSoundObjects s) where
         choice = sound.choice;
         settled = refl;
         fresh = λ is. absurd (not_fresh is);
+        filled = λ is. absurd (not_fresh is);
         coloured = λ is. (refl, other);
         moved = λ is. absurd (not_moved is);
         condemns = λ is. absurd (false≢true is);
@@ -181,6 +200,7 @@ module _ {s : Stored} (objects : IsSoundObjects s) where
     choice = sym chosen;
     settled = ap (λ (w : Ways). w.tuned) ways;
     fresh = λ is. absurd (moved_not_fresh is);
+    filled = λ is. absurd (moved_not_fresh is);
     coloured = λ is. absurd (not_moved (sym is));
     moved = λ is. (refl, ap (λ (w : Ways). w.last) ways ∙ (sound.coloured tuned_now).0);
     condemns = λ is. absurd (false≢true (sym spared ∙ is));
@@ -194,6 +214,7 @@ module _ {s : Stored} (objects : IsSoundObjects s) where
         (chosen-renumbered s.table.ways.pages.next s.table.ways.pages.uses));
     settled = sound.settled;
     fresh = λ is. absurd (not_fresh (sym tuned_now ∙ is));
+    filled = λ is. absurd (not_fresh (sym tuned_now ∙ is));
     coloured = sound.coloured;
     moved = λ is. absurd (not_moved (sym tuned_now ∙ is));
     condemns = sound.condemns;

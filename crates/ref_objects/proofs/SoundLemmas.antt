@@ -38,6 +38,8 @@ use Rattle.ref_space.specs.Tables.{left_of, numbers_at}
 use Rattle.ref_objects.specs.Grounds.{first_ground, first_space}
 use Rattle.ref_objects.specs.declared.start.Start.{Start}
 use Rattle.ref_space.proofs.MoveLemmas.{chosen-fresh}
+use Rattle.ref_space.proofs.RoomLemmas.{filled_fresh}
+use Rattle.ref_space.specs.Pages.{AreFilled}
 use Rattle.ref_objects.proofs.MoveLemmas.{moved_not_fresh, moves_begun, moves_condemned, moves_ended, moves_freed}
 use Rattle.ref_objects.proofs.MoveLemmas.{moves_brought, moves_made, not_fresh, seen_brought}
 use Rattle.ref_space.specs.Tables.{brought as table_brought, without_if_any}
@@ -266,7 +268,7 @@ module _ {s : Stored} (sound : IsSoundObjects s) where
           freed_sound =
               elim (cases_Bool (is_unmarked_in s.table.round.number (tabled_at s.table.tabled n))) [
                 | inl goes ↦
-                    leaves (sound_freed sound.ground n (unheld goes)) (moves_freed sound n)
+                    leaves (sound_freed sound.ground n (unheld goes)) (moves_freed sound (λ is. not_fresh (sym (sound.moves.condemns condemned) ∙ is)) n)
                     (seen_freed sound.ground n rising condemned left (unheld goes)) (names_freed was n sound.closed)
                 | inr stays ↦ simp stays sound
               ]
@@ -313,6 +315,8 @@ first_sound {config} {heap_no} {t} {count} {next} {last} first within made count
         ∙ ap (λ fs. nat_lt 0 (length fs)) (chosen-fresh first 0 (2 * ((config.cells + 63) / 64))));
     settled = ap (λ (t : Table). t.ways.tuned) made;
     fresh = λ is. refl;
+    filled = λ is. subst (λ (t : Table). AreFilled t.ways.pages.uses) (sym made)
+        (filled_fresh first 0 (2 * ((config.cells + 63) / 64)));
     coloured = λ is. absurd (not_fresh (sym is));
     moved = λ is. absurd (moved_not_fresh (sym is));
     condemns = λ is. absurd (false≢true is);

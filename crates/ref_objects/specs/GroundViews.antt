@@ -5,7 +5,7 @@ use Rattle.ref_base.specs.Graphs.{Object, Reference}
 use Rattle.ref_base.specs.Heaps.{Heap, nulls, with_changed, with_reference, with_stamp, cleared}
 use Rattle.ref_base.specs.Limits.{is_within_limits}
 use Rattle.ref_base.specs.declared.config.Config.{Config}
-use Rattle.ref_space.specs.Pages.{has_chosen}
+use Rattle.ref_space.specs.Pages.{has_chosen, AreFilled}
 use Rattle.ref_space.specs.Moves.{Ways}
 use Rattle.ref_space.specs.Tables.{Table, left_of, objects_of, holds_of, marked_of, tags_of, unhealed_of}
 use Rattle.ref_objects.specs.declared.stage.Stage.TheVariants.{Fresh, Tuned, Moved}
@@ -91,11 +91,12 @@ pub record IsSoundGround (s : Stored) : Type 0 where
 
 -- What last changed the good colour tells whether what slots hold has it; a cycle makes one good that isn't that of
 -- moves; pages are chosen just while a choice isn't ended, and those who choose them give words from before the colour
--- of the last cycle. A cycle condemns.
+-- of the last cycle. A cycle condemns, and before the first one pages are filled one after another.
 pub record IsSoundMoves (ways : Ways) (good last : Colour) (stage : Stage) (has_choice condemning : Bool) : Type 0 where
   pub choice : has_choice ≡ has_chosen ways.pages.uses
   pub settled : ways.tuned ≡ is_tuned stage
   pub fresh : stage ≡ Fresh → has_choice ≡ false
+  pub filled : stage ≡ Fresh → AreFilled ways.pages.uses
   pub coloured : stage ≡ Tuned → (good ≡ last) × (good ≡ R → ⊥)
   pub moved : stage ≡ Moved → (has_choice ≡ true) × (ways.last ≡ last)
   pub condemns : condemning ≡ true → stage ≡ Tuned

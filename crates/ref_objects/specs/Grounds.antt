@@ -25,9 +25,11 @@ use Rattle.ref_space.specs.Naming.{IsWordHeld}
 use Rattle.std.specs.Prelude.{slice_index_or}
 use Rattle.std.specs.Prelude.{slice_set}
 use Rattle.ref_space.specs.Pages.{next_cell, sparse_count, choosing, left_in}
+use Rattle.std.specs.Option.{is_none}
 use Rattle.ref_space.specs.Moves.{Ways, first_ways, forward_of, tuned, ways_chosen, ways_left, ways_renumbered}
+use Rattle.ref_space.specs.Moves.{AreFree}
 use Rattle.ref_space.specs.Tables.{Tag, fields_in, scanned_values, with_occupant, without_occupant, with_vacated}
-use Rattle.ref_space.specs.Tables.{numbers_at, place_of_number, ways_placed, without_number}
+use Rattle.ref_space.specs.Tables.{numbers_at, place_of_number, ways_placed, without_number, LieOnce}
 use Rattle.ref_space.specs.Worklists.{Worklist}
 use Rattle.ref_objects.specs.declared.start.Start.{Start}
 use Rattle.ref_objects.specs.declared.kind.Kind.{Kind}
@@ -123,15 +125,10 @@ pub record Lay : Type 0 where
 abbrev pub laid : Space → Lay → Space
 laid s lay = record s { ways = lay.ways; cells = lay.cells }
 
--- whether a cycle began: before that nothing has died, so that at most one page has neither no object nor 64
-abbrev pub has_begun : Stage → Bool
-has_begun Fresh = false
-has_begun Tuned = true
-has_begun Moved = true
-
--- whether a choice of objects wins room: at least two pages have from 1 to 32 objects
+-- whether a choice of objects wins room: at least two pages have from 1 to 32 objects. Before the first cycle none does,
+-- since nothing has died, and at most one page has neither no object nor 64.
 unfoldable pub wins_room : Space → Bool
-wins_room s = has_begun s.stage && not (nat_lt (sparse_count s.ways.pages.uses) 2)
+wins_room s = not (nat_lt (sparse_count s.ways.pages.uses) 2)
 
 -- whether as many addresses of pages are left as it empties pages
 unfoldable pub has_addresses : Space → Bool
@@ -309,6 +306,12 @@ abbrev pub IsWordIn : Ground → ℕ → ℕ → ℕ → Type 0
 IsWordIn g n i =
     IsWordHeld g.space.good g.space.ways g.space.cells (has_good_words g.space n)
     (slice_index_or (fields_in (object_at g.heap.objects n)) i None)
+
+-- and these of what reference n has as its referent
+abbrev pub IsWordOfReferent : Ground → ℕ → ℕ → Type 0
+IsWordOfReferent g n =
+    IsWordHeld g.space.good g.space.ways g.space.cells (has_good_words g.space n)
+    (referent_of (reference_at g.heap n))
 
 -- the clock at which a reference was made or last got, or 0
 abbrev pub stamp_in : Option Reference → ℕ
@@ -514,8 +517,9 @@ after_freeing g n =
 -- ---- what holds at all times
 
 -- objects and slots are in order, and so are the holds; there are at most as many objects as cells, and marks as
--- objects; what is marked is there, and what is unhealed; each object has its tag; and what slots, holds and objects
--- name is spared
+-- objects; what is marked is there, and what is unhealed; each object has its tag; what slots, holds and objects name is
+-- spared; each object lies in one cell and in no other; and of open pages just those cells are taken in which an object
+-- lies, or which are reserved for one that is still to move, of chosen ones those in which an object lies
 pub record IsWellFormed (g : Ground) : Type 0 where
   pub orderly : IsOrderly g.heap g.next
   pub held : IsInOrder g.heap.holds
@@ -525,3 +529,5 @@ pub record IsWellFormed (g : Ground) : Type 0 where
   pub unhealed : (n : ℕ) → has g.space.unhealed n ≡ true → is_there g.heap.objects n ≡ true
   pub tagged : map (λ t. t.no) g.tags ≡ numbers g.heap.objects
   pub closed : NamesSpared g
+  pub lies : LieOnce g.space.cells (is_there g.heap.objects)
+  pub free : AreFree (map is_none g.space.cells) g.space.ways.forwards g.space.ways.pages.uses

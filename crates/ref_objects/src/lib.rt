@@ -11,6 +11,6 @@ mod start;
 pub use hold::Hold;
 pub use kind::Kind;
 pub use objects::Objects;
-pub use ref_space::{Colour, Entry, Fields, Linked, Look, Reference, Worklist};
+pub use ref_space::{Colour, Entry, Fields, Linked, Look, Reference, Worklist, parts_of, word_of};
 pub use stage::Stage;
 pub use start::Start;

@@ -19,7 +19,7 @@ use Rattle.ref_space.proofs.NamingLemmas.{Keeps, good_anywhere, each_anyhow}
 use Rattle.ref_space.proofs.WordLemmas.{IsGood, word_is_good}
 use Rattle.ref_space.specs.ColouredWords.{IsCell}
 use Rattle.ref_space.proofs.TableLemmas.{has_word, word_place}
-use Rattle.ref_space.specs.Naming.{IsHealed, IsWordHeld}
+use Rattle.ref_space.specs.Naming.{IsHealed, IsInColour, IsWordHeld}
 use Rattle.ref_space.proofs.HealLemmas.{word_held}
 use Rattle.ref_space.specs.Tables.{is_healed, is_healed_in}
 use Rattle.ref_space.proofs.NamingLemmas.{tabled_at-named, tabled_if-named, each_set, each_at, each_held}
@@ -39,7 +39,8 @@ use Rattle.ref_space.proofs.Common.{place_of_word}
 use Rattle.ref_space.proofs.Common.{tabled_if, tabled_of}
 use Rattle.ref_space.proofs.PlaceLemmas.{LeadsTo, leads_to, leads_nowhere, led_tabled, named-cell, lies_there}
 use Rattle.ref_space.proofs.PlaceLemmas.{IsPlaceOf-lent}
-use Rattle.ref_space.specs.Tables.{LiesAt, anew_in}
+use Rattle.ref_space.specs.Tables.{LieOnce, LiesAt, anew_in}
+use Rattle.ref_space.specs.Moves.{AreFree}
 use Rattle.ref_space.proofs.Common.{eqb-true}
 use Rattle.ref_space.proofs.Common.{cell_at}
 use Rattle.ref_space.proofs.Common.{by_number, Each, IsSoundNaming, leads_by, target_by, occupants_of, values_in}
@@ -56,10 +57,10 @@ use Rattle.ref_space.specs.ColouredWords.{word_of_place}
 use Rattle.ref_space.proofs.HealLemmas.{AreAddressed}
 use Rattle.ref_space.proofs.Common.{◌*◌}
 use Rattle.ref_space.specs.Pages.{with_given}
-use Rattle.ref_space.proofs.FreeLemmas.{length-free}
-use Rattle.ref_space.proofs.Common.{false≢true}
+use Rattle.ref_space.proofs.FreeLemmas.{length-free, none-occupants}
+use Rattle.ref_space.proofs.Common.{false≢true, is_none}
 use Rattle.ref_space.proofs.CallLemmas.{between_at}
-use Rattle.ref_space.proofs.FreeLemmas.{length-free}
+use Rattle.ref_space.proofs.FreeLemmas.{length-free, none-occupants}
 use Rattle.ref_space.specs.Naming.{HasTarget}
 use Rattle.ref_space.proofs.Common.{occupant_at}
 use Rattle.ref_space.specs.Moves.{Ways}
@@ -186,6 +187,15 @@ pub reference-named : (name : Option ℕ → Option ℕ) (c : Option Tabled)
     → option_map (reference_by_number name) (tabled_reference c) ≡ tabled_reference (option_map (by_number name) c)
 reference-named name None = refl
 reference-named name (Some k) = refl
+
+pub some_reference : (name : Option ℕ → Option ℕ) (c : Option Tabled)
+    → is_some (tabled_reference (option_map (by_number name) c)) ≡ is_some (tabled_reference c)
+some_reference name None = refl
+some_reference name (Some k) = by k.object.reference
+  where
+    by : (r : Option Reference) → is_some (option_map (reference_by_number name) r) ≡ is_some r
+    by None = refl
+    by (Some r) = refl
 
 -- what holds of each value that a cell has, and of null, holds of what its fields and its referent are
 pub field_of_each : (p : Option ℕ → Bool) → p None ≡ true → (c : Option Tabled) (i : ℕ)
@@ -368,14 +378,16 @@ module _ {round : Round} {cells : List (Option Tabled)} {es : List Entry} {ways 
         ap (λ (s : Table). slice_index_or s.occupants p None) (sym view) ∙ get_or-map occupant_in cells p None
         ∙ number_there sound.0.placed place
 
-    pub named_if_there : {t : Table} → seen_table round ways cells es slots last room ≡ t
-        → Some n ≡ (if is_some (tabled_at t.tabled n) then Some n else None)
-    named_if_there {t} view =
-        let is : is_some (tabled_at t.tabled n) ≡ true =
+    there_seen : {t : Table} → seen_table round ways cells es slots last room ≡ t
+        → is_some (tabled_at t.tabled n) ≡ true
+    there_seen view =
         ap (λ (s : Table). is_some (tabled_at s.tabled n)) (sym view)
         ∙ ap is_some (tabled_at-named name (tabled_by cells es) n)
-        ∙ some-named name (tabled_at (tabled_by cells es) n) ∙ sym (there sound.0.placed place) in
-        simp is refl
+        ∙ some-named name (tabled_at (tabled_by cells es) n) ∙ sym (there sound.0.placed place)
+
+    pub named_if_there : {t : Table} → seen_table round ways cells es slots last room ≡ t
+        → Some n ≡ (if is_some (tabled_at t.tabled n) then Some n else None)
+    named_if_there view = simp (there_seen view) refl
 
     -- the object is looked at
     module _ {t : Table} (view : seen_table round ways cells es slots last room ≡ t) {cell also : Option Tabled}
@@ -671,6 +683,9 @@ module _ {round : Round} {cells : List (Option Tabled)} {es : List Entry} {ways 
         ∙ ap (λ (s : Table). slice_index_or s.occupants p None) view
 
     -- what stays has the good colour, and what is still to move that from before
+    pub word_coloured : (colour : Colour) → IsInColour colour (word_of_place colour p)
+    word_coloured colour = (has_own colour).1.coloured
+
     pub word_led : (chosen : Bool) → is_chosen_place ways.pages.uses p ≡ chosen → (colour : Colour)
         → colour ≡ (if chosen then ways.last else round.good) → IsHealed t (word_of_place colour p)
     word_led false stays colour own =
@@ -906,6 +921,22 @@ module _ {round : Round} {cells : List (Option Tabled)} {es : List Entry} {ways 
         | inr past ↦ simp past tt
       ])
 
+  held_referent : (c : Option Tabled) {bits : ℕ} → bits ≡ bits_told ways.pages.uses (referent_of (tabled_reference c))
+      → ((k : Tabled) → c ≡ Some k → Each (leads (is_healed round.number k)) (values_in k))
+      → IsWordHeld round.good ways (occupants_of cells) (is_healed_in round.number (option_map (by_number name) c))
+      (referent_of (tabled_reference (option_map (by_number name) c))) bits
+  held_referent None own each = own
+  held_referent (Some k) own each = rw own (by k.object.reference refl)
+    where
+      by : (r : Option Reference) → k.object.reference ≡ r
+          → IsWordHeld round.good ways (occupants_of cells) (is_healed round.number k)
+          (referent_of (option_map (reference_by_number name) r)) (bits_told ways.pages.uses (referent_of r))
+      by None is = refl
+      by (Some r) is =
+          word_held round.good ways (occupants_of cells) (is_healed round.number k) r.referent
+          (bits_told ways.pages.uses r.referent) addressed refl
+          (subst (λ (s : Option Reference). leads (is_healed round.number k) (referent_of s) ≡ true) is (each k refl).0)
+
   some_bits : (c : Option Tabled) (i : ℕ) {bits : Option ℕ}
       → bits ≡ option_map (bits_told ways.pages.uses) (field_in_cell c i) → is_some bits ≡ has_field c i
   some_bits None i own = rw own refl
@@ -942,6 +973,27 @@ module _ {round : Round} {cells : List (Option Tabled)} {es : List Entry} {ways 
         (each_anyhow round.good ways (occupants_of cells) (is_healed round.number k) (values_in k)
         (each_held round.number leads (tabled_by cells es) n k (sym here ∙ is) sound.1.led).2)))
 
+    -- so does that of its referent
+    pub referent_led : HasTarget t (referent_of (tabled_reference c))
+    referent_led =
+        referent_of_each (leads_by t.round.good t.ways t.occupants false) refl c
+        (λ k is. subst (λ (s : Table). Each (leads_by s.round.good s.ways s.occupants false) (values_in k)) view
+        (each_anyhow round.good ways (occupants_of cells) (is_healed round.number k) (values_in k)
+        (each_held round.number leads (tabled_by cells es) n k (sym here ∙ is) sound.1.led).2))
+
+    pub referent_told : {bits : ℕ} → bits ≡ bits_told t.ways.pages.uses (referent_of (tabled_reference c))
+        → IsWordHeld t.round.good t.ways t.occupants (is_healed_in t.round.number (tabled_at t.tabled n))
+        (referent_of (tabled_reference (tabled_at t.tabled n))) bits
+    referent_told {bits} own =
+        subst (λ (s : Table). IsWordHeld s.round.good s.ways s.occupants (is_healed_in s.round.number
+        (tabled_at s.tabled n))
+        (referent_of (tabled_reference (tabled_at s.tabled n))) bits) view
+        (rw (tabled_at-named name (tabled_by cells es) n)
+        (held_referent (tabled_at (tabled_by cells es) n) (own ∙ ap (λ (s : Table). bits_told s.ways.pages.uses
+        (referent_of (tabled_reference c))) (sym view)
+        ∙ ap (λ (d : Option Tabled). bits_told ways.pages.uses (referent_of (tabled_reference d))) here)
+        (λ k at. (each_held round.number leads (tabled_by cells es) n k at sound.1.led).2)))
+
     -- and is what the object holds by number
     pub word_told : (i : ℕ) {bits : Option ℕ} → bits ≡ option_map (bits_told t.ways.pages.uses) (field_in_cell c i)
         → IfSome bits (IsWordHeld t.round.good t.ways t.occupants (is_healed_in t.round.number (tabled_at t.tabled n))
@@ -975,3 +1027,27 @@ module _ {round : Round} {cells : List (Option Tabled)} {es : List Entry} {ways 
       ∙ sym (some-named name (tabled_at (tabled_by cells es) n))
       ∙ ap is_some (sym (tabled_at-named name (tabled_by cells es) n))
       ∙ ap (λ (s : Table). is_some (tabled_at s.tabled n)) view
+
+  -- each object lies in one cell, and in no other
+  pub lie_once : {t : Table} → seen_table round ways cells es slots last room ≡ t
+      → LieOnce t.occupants (λ n. is_some (tabled_at t.tabled n))
+  lie_once {t} view = record {
+    lies = λ n is.
+        let place = place_if_live cells (place_in es n) n in
+        lies_if n place refl (found_there n place view refl refl refl ∙ is);
+    there = λ place n lies. there_seen (lying_place view lies) view;
+    once = λ one other n here there.
+        let own : Some one ≡ Some other = sym (lying_place view here).listed ∙ (lying_place view there).listed in cc;
+  }
+    where
+      lies_if : (n : ℕ) (place : Option ℕ) → place ≡ place_if_live cells (place_in es n) n → is_some place ≡ true
+          → (p : ℕ) × LiesAt t n p
+      lies_if n None is some = absurd (false≢true some)
+      lies_if n (Some p) is some = (p, found_lies view n (Some p) refl refl is)
+
+  -- and the pages have those cells as free in which nothing lies, and which are kept for nothing
+  pub free_seen : {t : Table} → seen_table round ways cells es slots last room ≡ t
+      → AreFree (map is_none t.occupants) t.ways.forwards t.ways.pages.uses
+  free_seen view =
+      subst (λ (s : Table). AreFree (map is_none s.occupants) s.ways.forwards s.ways.pages.uses) view
+      (subst (λ bs. AreFree bs ways.forwards ways.pages.uses) (sym (none-occupants cells)) sound.0.placed.free)

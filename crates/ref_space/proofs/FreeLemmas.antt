@@ -54,6 +54,11 @@ some-vacant (None ∷ cs) zero = refl
 some-vacant (Some k ∷ cs) zero = refl
 some-vacant (c ∷ cs) (suc p) = some-vacant cs p
 
+pub none-occupants : (cells : List (Option Tabled)) → map is_none (occupants_of cells) ≡ map is_none cells
+none-occupants [] = refl
+none-occupants (None ∷ cs) = ap (λ bs. true ∷ bs) (none-occupants cs)
+none-occupants (Some k ∷ cs) = ap (λ bs. false ∷ bs) (none-occupants cs)
+
 -- where nothing is still to move
 pub settled-none : (cells : List (Option Tabled)) (ps : List Use) → NoneLeaves (map is_none cells) ps → (place : ℕ)
     → is_chosen_place ps place ≡ true → is_some (slice_index_or (occupants_of cells) place None) ≡ false

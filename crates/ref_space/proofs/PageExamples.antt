@@ -1,10 +1,10 @@
 -- Where the next object is placed at worked pages, and where it isn't. Bitmaps of two cells stand for those of 64.
-use Rattle.std.proofs.Common.{◌≡◌, ℕ, true, false, List, [], ◌∷◌, Some, None, refl, sym, ap, arith}
+use Rattle.std.proofs.Common.{◌≡◌, ℕ, true, false, List, [], ◌∷◌, Some, None, refl, sym, ap, arith, inl, inr}
 use Rattle.std.proofs.lemmas.Bool.{true≢false}
 use Rattle.std.proofs.lemmas.Option.{same_Some}
 use Rattle.ref_space.specs.Bits.{bits, first_set}
 use Rattle.ref_space.specs.Pages.{Use, use_at, all_free, is_free_at, fresh_pages, with_cell, next_place}
-use Rattle.ref_space.specs.Pages.{after_placing, AreWhole, IsFirstFree, IsNextPlace, taken_of, Packed}
+use Rattle.ref_space.specs.Pages.{after_placing, AreFilled, AreWhole, IsFirstFree, IsNextPlace, taken_of, Packed}
 
 -- ---- bitmaps
 
@@ -95,3 +95,12 @@ there_is_no_third = refl
 its_first_cell_is_the_next_place : next_place (fresh_pages 5 0 2) ≡ Some (0, 0)
 unfolding all_free
 its_first_cell_is_the_next_place = refl
+
+-- ---- pages that are filled one after another
+
+these_are_filled_in_turn : AreFilled three
+these_are_filled_in_turn = inl (refl, inr (refl, tt))
+
+no_two_pages_are_half_full : AreFilled (half_page ∷ half_page ∷ []) → ⊥
+no_two_pages_are_half_full (inl full) = true≢false full.0
+no_two_pages_are_half_full (inr empty) = let none = empty.0 in absurd (omega (arith, none))

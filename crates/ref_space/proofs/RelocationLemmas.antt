@@ -6,7 +6,7 @@ use Rattle.std.proofs.Common.{if◌then◌else◌, inl, inr, nat_lt}
 use Rattle.std.proofs.lemmas.Bool.{cases_Bool}
 use Rattle.std.proofs.lemmas.List.Sums.{sum_by-cons}
 use Rattle.ref_space.specs.Bits.{count_clear}
-use Rattle.ref_space.specs.Pages.{Use, use_of, AreWhole, Packed, taken_of, taken_cells, all_free}
+use Rattle.ref_space.specs.Pages.{Use, use_of, AreWhole, AreFilled, Packed, taken_of, taken_cells, all_free}
 use Rattle.ref_space.specs.Pages.{next_place, placings, after_placing, opened, chosen_frames, has_chosen}
 use Rattle.ref_space.specs.Pages.{choosing, is_sparse, taken_if_sparse, sparse_count, sparse_cells}
 use Rattle.ref_space.specs.Pages.{empty_pages, fresh_page}
@@ -16,7 +16,7 @@ use Rattle.ref_space.proofs.NextPlaces.{length-with}
 use Rattle.ref_space.proofs.FrameLemmas.{times_in, times-opened}
 use Rattle.ref_space.proofs.MoveLemmas.{none_chosen}
 use Rattle.ref_space.proofs.CallLemmas.{whole-choosing, chosen-renumbered}
-use Rattle.ref_space.proofs.RoomLemmas.{always_room, open_taken, opened-placing, packed_placing}
+use Rattle.ref_space.proofs.RoomLemmas.{always_room, none_clear, open_taken, opened-placing, packed_placing}
 
 -- ---- one object after another is placed
 
@@ -77,6 +77,15 @@ few_sparse zero (p ∷ ps) packed =
     grind (arith, rest, sum_by-cons (λ (q : Use). cond (is_sparse q) 1 0) p ps)
 few_sparse (suc c) (p ∷ ps) packed =
     grind (arith, sum_by-cons (λ (q : Use). cond (is_sparse q) 1 0) p ps, few_sparse c ps packed)
+
+-- of pages that are filled one after another at most one is neither full nor empty
+pub one_sparse : (ps : List Use) → AreWhole ps → AreFilled ps → sparse_count ps < 2
+one_sparse [] whole filled = omega arith
+one_sparse (p ∷ ps) whole (inl full) =
+    let all = none_clear p.free full.0 in
+    grind (arith, sum_by-cons (λ (q : Use). cond (is_sparse q) 1 0) p ps, one_sparse ps whole.1 full.1)
+one_sparse (p ∷ ps) whole (inr empty) =
+    let none = few_sparse 0 ps empty in grind (arith, sum_by-cons (λ (q : Use). cond (is_sparse q) 1 0) p ps)
 
 clear_most : (bs : List Bool) → count_clear bs ≤ length bs
 clear_most [] = omega arith

@@ -6,7 +6,7 @@ use Rattle.std.proofs.lemmas.Bool.{cases_Bool, and_parts, true≢false, false≢
 use Rattle.ref_space.specs.Bits.{first_set, any_set, count_clear}
 use Rattle.ref_space.specs.Pages.{Use, use_at, is_free_at, with_cell, next_place, after_placing, placing, has_open_cell}
 use Rattle.ref_space.specs.Pages.{all_free, fresh_pages, NoneHasRoom, AreWhole, IsNextPlace, taken_of, Packed}
-use Rattle.ref_space.specs.Pages.{opened, chosen_frames, in_first, page_later}
+use Rattle.ref_space.specs.Pages.{opened, chosen_frames, in_first, page_later, AreFilled}
 use Rattle.ref_space.proofs.NextPlaces.{is_next_place}
 use Rattle.ref_space.proofs.MoveLemmas.{opened_all, chosen-opened, chosen-fresh}
 
@@ -142,6 +142,9 @@ open_taken ps there =
 
 -- ---- pages in front that have all taken cells
 
+some_frame : (p : Use) (ps : List Use) → p.chosen ≡ true → chosen_frames (p ∷ ps) ≡ [] → ⊥
+some_frame p ps chosen none = grind arith
+
 packed_open : (c : ℕ) (ps : List Use) → AreWhole ps → chosen_frames ps ≡ [] → Packed c ps → taken_of ps < 64 * c
     → Packed c (placing ps)
 packed_open zero ps whole open_all packed few = absurd (omega arith)
@@ -160,9 +163,6 @@ packed_open (suc c) (p ∷ ps) whole open_all packed few =
           ]
     ]
   where
-    some_frame : (p : Use) (ps : List Use) → p.chosen ≡ true → chosen_frames (p ∷ ps) ≡ [] → ⊥
-    some_frame p ps chosen none = grind arith
-
     here : (cell : Option ℕ) → Packed (suc c) (after_placing (p ∷ ps) (in_first cell))
     here None = packed
     here (Some cell) = packed
@@ -203,6 +203,40 @@ packed_fresh c first frame count =
     subst (Packed c)
     (sym (opened_all (fresh_pages first frame count) (chosen-fresh first frame count)))
     (packed_new c first frame count)
+
+-- ---- pages that are filled one after another
+
+filled_empty : (ps : List Use) → Packed 0 ps → AreFilled ps
+filled_empty [] none = tt
+filled_empty (p ∷ ps) none = inr none.1
+
+pub filled_fresh : (first frame count : ℕ) → AreFilled (fresh_pages first frame count)
+filled_fresh first frame count = filled_empty (fresh_pages first frame count) (packed_new 0 first frame count)
+
+pub filled_placing : (ps : List Use) → chosen_frames ps ≡ [] → AreFilled ps → AreFilled (placing ps)
+filled_placing [] open_all filled = tt
+filled_placing (p ∷ ps) open_all filled =
+    elim (cases_Bool p.chosen) [
+      | inl chosen ↦ absurd (some_frame p ps chosen open_all)
+      | inr stays ↦
+          let rest : chosen_frames ps ≡ [] = simp stays at open_all in
+          elim (cases_Bool (any_set p.free)) [
+            | inl any ↦ simp (stays, any) (here any filled (first_set p.free))
+            | inr none ↦
+                subst AreFilled (sym (placing-later p ps (simp (stays, none) refl)))
+                (inl (none, filled_placing ps rest (behind filled)))
+          ]
+    ]
+  where
+    behind : AreFilled (p ∷ ps) → AreFilled ps
+    behind (inl full) = full.1
+    behind (inr empty) = filled_empty ps empty
+
+    here : any_set p.free ≡ true → AreFilled (p ∷ ps) → (cell : Option ℕ)
+        → AreFilled (after_placing (p ∷ ps) (in_first cell))
+    here any (inl full) cell = absurd (true≢false (sym any ∙ full.0))
+    here any (inr empty) None = inr empty
+    here any (inr empty) (Some cell) = inr empty
 
 -- open pages don't tell of the cells of others
 pub opened-chosen : (ps : List Use) (page cell : ℕ) (is_free : Bool) → (use_at ps page).chosen ≡ true

@@ -10,7 +10,9 @@ use Rattle.ref_space.specs.Naming.{IsWordHeld, bits_told, healed_word, way_from}
 use Rattle.ref_space.specs.Moves.{Ways, ways_of}
 use Rattle.ref_space.specs.Pages.{Use, fresh_page, use_of}
 use Rattle.ref_space.proofs.Common.{zero, suc}
-use Rattle.ref_space.specs.Tables.{with_occupant, without_occupant}
+use Rattle.ref_space.specs.Tables.{with_occupant, without_occupant, LieOnce}
+use Rattle.ref_space.proofs.Common.{◌==◌, eqb-true, ◌∙◌}
+use Rattle.std.proofs.lemmas.Bool.{eq-eqb, true≢false}
 use Rattle.ref_space.proofs.Common.{arith}
 use Rattle.ref_space.specs.declared.colour.Colour.TheVariants.{A, R}
 
@@ -156,3 +158,24 @@ what_a_slot_holds_is_named unnamed = false≢true (sym unnamed.slots)
 
 what_a_field_holds_is_named : IsUnnamed table 9 → ⊥
 what_a_field_holds_is_named unnamed = false≢true (sym unnamed.objects.0)
+
+-- ---- where objects lie
+
+-- object 7 lies in the first cell alone
+it_lies_once : LieOnce occupants (λ n. n == 7)
+it_lies_once = record {
+  lies = λ n is. (0, ap Some (sym (eqb-true n 7 is)));
+  there = λ place n at. let own = first_alone place n at in eq-eqb n 7 own.1;
+  once = λ one other n here there. (first_alone one n here).0 ∙ sym (first_alone other n there).0;
+}
+  where
+    first_alone : (place n : ℕ) → slice_index_or occupants place None ≡ Some n → (place ≡ 0) × (n ≡ 7)
+    first_alone zero n at = (refl, cc)
+    first_alone (suc zero) n at = absurd (none-some n at)
+    first_alone (suc (suc place)) n at = absurd (none-some n at)
+
+no_object_lies_twice : LieOnce (Some 7 ∷ Some 7 ∷ []) (λ n. n == 7) → ⊥
+no_object_lies_twice laid = let same = laid.once 0 1 7 refl refl in absurd (omega (arith, same))
+
+what_lies_there_is_there : LieOnce occupants (λ n. n == 8) → ⊥
+what_lies_there_is_there laid = true≢false (sym (laid.there 0 7 refl))

@@ -4,7 +4,8 @@ use Rattle.std.proofs.Common.{ap, ◌∙◌}
 use Rattle.std.proofs.lemmas.Bool.{eq-eqb, false≢true}
 use Rattle.std.specs.Option.{is_some}
 use Rattle.ref_space.specs.ColouredWords.{colour_number, IsCell, coloured_word, is_coloured, IsWordOf, parts_of}
-use Rattle.ref_space.specs.ColouredWords.{place_by, word_in_colour, is_word, has_colour}
+use Rattle.ref_space.specs.ColouredWords.{place_by, word_in_colour, is_word, has_colour, recoloured}
+use Rattle.ref_space.specs.Naming.{IsInColour}
 use Rattle.ref_space.specs.declared.colour.Colour.{Colour}
 
 pub parts_of-coloured : (colour : Colour) (page cell : ℕ) → IsCell page cell
@@ -45,6 +46,15 @@ word_is_good colour page cell at = record {
   coloured = is_coloured-coloured colour colour page cell at
       ∙ eq-eqb (colour_number colour) (colour_number colour) refl;
 }
+
+-- a word that gets a colour has it, and so has one that is of it
+pub recoloured_has : (colour : Colour) (value : Option ℕ) → IsInColour colour (recoloured colour value)
+recoloured_has colour None = refl
+recoloured_has colour (Some word) = grind arith
+
+pub coloured_has : (colour : Colour) (value : Option ℕ) → has_colour colour value ≡ true → IsInColour colour value
+coloured_has colour None is = refl
+coloured_has colour (Some word) is = is
 
 some_parts : (word : ℕ) (parts : Option (Colour × ℕ × ℕ)) → parts_of word ≡ parts → is_some parts ≡ true
     → (own : Colour × ℕ × ℕ) × (parts_of word ≡ Some own)

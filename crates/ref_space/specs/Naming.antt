@@ -102,6 +102,10 @@ HasTarget t value = leads_by t.round.good t.ways t.occupants false value ≡ tru
 abbrev pub IsHealed : Table → Option ℕ → Type 0
 IsHealed t value = leads_by t.round.good t.ways t.occupants true value ≡ true
 
+-- it is null, or has this colour
+abbrev pub IsInColour : Colour → Option ℕ → Type 0
+IsInColour colour value = (is_none value || has_colour colour value) ≡ true
+
 -- these are the bits of a word of an object, of the cell in which it lies or of that from which it moved, 64 to the
 -- frame of each page: with the address of that page, and of the good colour where it has to be
 pub record IsWordOfObject (good : Colour) (ways : Ways) (os : List (Option ℕ)) (has_to : Bool) (n bits : ℕ)

@@ -3,7 +3,7 @@
 use Rattle.std.specs.Prelude.{◌≡◌, ℕ, zero, suc, ◌+◌, ◌*◌, ◌/◌, ◌%◌, ◌^◌, ◌<◌, ◌≤◌, Bool, true, false, if◌then◌else◌}
 use Rattle.std.specs.Prelude.{not, ◌&&◌}
 use Rattle.std.specs.Prelude.{◌==◌, nat_lt, nat_le, List, [], ◌∷◌, ◌++◌, length, map, replicate, slice_set}
-use Rattle.std.specs.Prelude.{slice_index_or, Option, Some, None, Result, Ok, Err}
+use Rattle.std.specs.Prelude.{slice_index_or, Option, Some, None, Result, Ok, Err, ◌⊎◌}
 use Rattle.std.specs.List.{filter, count_by, sum_by}
 use Rattle.std.specs.Option.{option_map}
 use Rattle.ref_base.specs.declared.fault.Fault.{Fault}
@@ -171,6 +171,12 @@ abbrev pub Packed : ℕ → List Use → Type 0
 Packed c [] = Unit {0}
 Packed zero (p ∷ ps) = (taken_cells p ≡ 0) × Packed zero ps
 Packed (suc c) (p ∷ ps) = Packed c ps
+
+-- Pages that are filled one after another, and from which nothing goes: in front full ones, then one of which any cells
+-- may be taken, and behind it empty ones.
+abbrev pub AreFilled : List Use → Type 0
+AreFilled [] = Unit {0}
+AreFilled (p ∷ ps) = ((any_set p.free ≡ false) × AreFilled ps) ⊎ Packed zero ps
 
 -- ---- moves
 

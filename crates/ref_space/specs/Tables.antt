@@ -515,6 +515,14 @@ pub record MayList (t : Table) (l : Worklist) : Type 0 where
 abbrev pub LiesAt : Table → ℕ → ℕ → Type 0
 LiesAt t n place = slice_index_or t.occupants place None ≡ Some n
 
+-- Each object that is there lies in one cell and in no other, and what lies in a cell is there. Of each cell, by place,
+-- the number of its object is told.
+pub record LieOnce (os : List (Option ℕ)) (is_there : ℕ → Bool) : Type 0 where
+  pub lies : (n : ℕ) → is_there n ≡ true → (place : ℕ) × (slice_index_or os place None ≡ Some n)
+  pub there : (place n : ℕ) → slice_index_or os place None ≡ Some n → is_there n ≡ true
+  pub once : (one other n : ℕ) → slice_index_or os one None ≡ Some n → slice_index_or os other None ≡ Some n
+      → one ≡ other
+
 -- ---- names
 
 -- neither a slot nor an object, by a field or as its referent, names number n

@@ -1,11 +1,12 @@
 //! What the definitions of words and of pages say together, beside any code.
 
-ghost use Rattle.std.specs.Prelude.{◌≡◌, ℕ, suc, ◌+◌, ◌*◌, ◌<◌, ◌≤◌, ◌==◌, Bool, true, false, List, length, Some};
+ghost use Rattle.std.specs.Prelude.{◌≡◌, ℕ, suc, ◌+◌, ◌*◌, ◌<◌, ◌≤◌, ◌==◌, Bool, true, false, List, [], length, Some};
 ghost use Rattle.std.specs.Prelude.{is_some};
 ghost use Rattle.ref_space.specs.declared.colour.Colour.{Colour};
 ghost use Rattle.ref_space.specs.ColouredWords.{IsCell, IsWordOf, coloured_word, parts_of, is_coloured, colour_number};
 ghost use Rattle.ref_space.specs.Pages.{Use, use_at, is_free_at, with_cell, fresh_pages, next_place, placing, placings};
 ghost use Rattle.ref_space.specs.Pages.{AreWhole, IsNextPlace, taken_of, Packed, opened, has_chosen, chosen_frames};
+ghost use Rattle.ref_space.specs.Pages.{AreFilled};
 ghost use Rattle.ref_space.specs.Pages.{choosing, chosen_if_sparse, sparse_count, sparse_cells, use_of};
 ghost use Rattle.ref_space.specs.Pages.{renumbered_uses, AreFramed, AreBetween, AreEmptied, IsRenumbered};
 
@@ -67,6 +68,14 @@ pub fn what_is_placed_stays_packed()
     ensures given { (c : ℕ) (ps : List Use) (page cell : ℕ) → Packed c (opened ps)
         → Packed c (opened (with_cell ps page cell true)) }
     ensures none { (c first frame count : ℕ) → Packed c (opened (fresh_pages first frame count)) }
+{}
+
+/// Of pages that are filled one after another, and from which nothing goes, at most one is neither full nor empty: so
+/// fewer than two have from 1 to 32 taken cells.
+pub fn what_only_fills_has_one_sparse_page()
+    ensures none { (first frame count : ℕ) → AreFilled (fresh_pages first frame count) }
+    ensures placed { (ps : List Use) → chosen_frames ps ≡ [] → AreFilled ps → AreFilled (placing ps) }
+    ensures sparse { (ps : List Use) → AreWhole ps → AreFilled ps → sparse_count ps < 2 }
 {}
 
 /// There is always room for what moves: of twice as many pages as the taken cells fill, a choice leaves so many open

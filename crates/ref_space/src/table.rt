@@ -1,14 +1,15 @@
 //! The table of a heap's objects, and of the slots that hold them: how they lie, and how they come and go.
 
 ghost use Rattle.std.specs.Prelude.{◌≡◌, ◌+◌, ◌*◌, ◌/◌, ◌^◌, ◌==◌, ◌≤◌, ◌<◌, IfOk, OnErr, true, [], length, map};
-ghost use Rattle.std.specs.Prelude.{replicate, None};
-ghost use Rattle.std.specs.Option.{option_map, IfSome};
+ghost use Rattle.std.specs.Prelude.{replicate, None, is_some};
+ghost use Rattle.std.specs.Option.{option_map, is_none, IfSome};
 ghost use Rattle.std.specs.Bool.{OnFalse};
 ghost use Rattle.ref_space.specs.Places.{begun_cell, place_of_word};
 ghost use Rattle.ref_space.specs.Naming.{word_there, target_of, IsHealed, reference_by_number};
 ghost use Rattle.ref_space.specs.Tables.{IsOrderlyTable, empty_table, tabled_at, table_freed, made_entry};
 ghost use Rattle.ref_space.specs.Tables.{with_tabled, is_unmarked_in, marked_of, unmarked_of, table_begun};
-ghost use Rattle.ref_space.specs.Tables.{table_blanked, made_of, IsUnnamed, left_of};
+ghost use Rattle.ref_space.specs.Tables.{table_blanked, made_of, IsUnnamed, left_of, LieOnce};
+ghost use Rattle.ref_space.specs.Moves.{AreFree};
 ghost use Rattle.ref_base.specs.CollectorRows.{referent_of};
 ghost use Rattle.ref_space.specs.Worklists.{emptied_list, with_more};
 ghost use Rattle.ref_space.specs.Pages.{has_chosen};
@@ -150,6 +151,10 @@ impl<A: Allocator + Copy> Table<A> {
         ensures count { result ≡ length self.now.tabled }
         ensures orderly { IsOrderlyTable self.now }
         ensures settled { self.now.ways.tuned ≡ true → left_of self.now ≡ [] }
+
+        // Where they lie: a cell is taken exactly where an object lies in it, or is to move to.
+        ensures laid { LieOnce self.now.occupants (λ n. is_some (tabled_at self.now.tabled n)) }
+        ensures free { AreFree (map is_none self.now.occupants) self.now.ways.forwards self.now.ways.pages.uses }
     {
         self.count
     }

@@ -15,9 +15,9 @@ use std::alloc::Allocator;
 
 impl<A: Allocator + Copy> Objects<A> {
     /// Chooses all pages that have from 1 to 32 objects: those are to move, and it answers how many. Tried in this
-    /// order: `NoRoom` where there are fewer than two such pages, and so before the first cycle; `AddressesSpent` where
-    /// fewer new addresses are left. Nothing is condemned, no object is unhealed, and since a cycle last ended none was
-    /// chosen. In time of the pages, and of what is to move.
+    /// order: `NoRoom` exactly where there are fewer than two such pages, as always before the first cycle;
+    /// `AddressesSpent` where fewer new addresses are left. Nothing is condemned, no object is unhealed, and since a
+    /// cycle last ended none was chosen. In time of the pages, and of what is to move.
     pub fn select(&mut self) -> Result<u32, Fault>
         requires spared { self.old.condemning ≡ false }
         requires healed { self.old.space.unhealed ≡ [] }
@@ -26,11 +26,12 @@ impl<A: Allocator + Copy> Objects<A> {
         ensures answer { result ≡ choice_in self.old.space }
         ensures after { self.new ≡ record self.old { space = with_choice self.old.space } }
     {
+        // Gives the proof that there are no more objects than fit, and of where they lie.
+        let _count = self.table.len();
+        // Nothing has died: at most one page has neither no object nor 64.
         if self.stage == Stage::Fresh {
             return Err(Fault::NoRoom);
         }
-        // Gives the proof that there are no more objects than fit.
-        let _count = self.table.len();
         let count = self.table.select()?;
         self.stage = Stage::Moved;
         self.has_choice = true;

@@ -10,7 +10,7 @@ ghost use Rattle.ref_base.specs.Refusals.{drop_refusal, field_count};
 ghost use Rattle.ref_space.specs.Tables.{fields_in};
 ghost use Rattle.ref_objects.specs.Grounds.{IsRefused, kind_in, stamp_in, least_from, IsWellFormed};
 ghost use Rattle.ref_objects.specs.Grounds.{cleared_in_at, link_at, linked_in};
-ghost use Rattle.ref_objects.specs.Grounds.{IsSparedIfAny, IsWordIn};
+ghost use Rattle.ref_objects.specs.Grounds.{IsSparedIfAny, IsWordIn, IsWordOfReferent};
 
 use super::Objects;
 use crate::kind::Kind;
@@ -51,7 +51,7 @@ impl<A: Allocator + Copy> Objects<A> {
     pub fn facts(&self)
         ensures { IsWellFormed self.now }
     {
-        // Gives the proof that the numbers rise.
+        // Gives the proof that the numbers rise, and of where the objects lie.
         let _count = self.table.len();
     }
 
@@ -133,6 +133,19 @@ impl<A: Allocator + Copy> Objects<A> {
         // Gives the proof that the numbers rise.
         let _count = self.table.len();
         self.table.word_at(no, field as usize)
+    }
+
+    /// The word that the reference of this number has as its referent, 0 where that is null: none where there is no such
+    /// object, or it is plain. Its page and cell are those in which its referent lies, and it has the good colour where
+    /// a cycle was the last to make a colour good, and has healed the reference. Mutators never see it: it is for who
+    /// inspects a heap.
+    pub fn word_of_referent(&self, no: ObjNo) -> Option<u64>
+        ensures there { is_some result ≡ is_some (reference_at self.now.heap no) }
+        ensures word { IfSome result (IsWordOfReferent self.now no) }
+    {
+        // Gives the proof that the numbers rise.
+        let _count = self.table.len();
+        self.table.word_of_referent(no)
     }
 
     /// What the object of this number has as a reference: nothing where there is no such object, or it is plain.

@@ -6,7 +6,8 @@ ghost use Rattle.std.specs.Option.{option_map, IfSome};
 ghost use Rattle.ref_space.specs.Tables.{tabled_at, tabled_fields, holds_in, holds_of, first_from, held_from};
 ghost use Rattle.ref_space.specs.Tables.{may_hold, more_held_if, less_held, changed, is_marked_in, is_unmarked_in};
 ghost use Rattle.ref_space.specs.Tables.{with_marked, change_of, has_field, field_held, is_healed_in, tabled_linked};
-ghost use Rattle.ref_space.specs.Tables.{is_unmarked_at, table_look, table_looked_at};
+ghost use Rattle.ref_space.specs.Tables.{is_unmarked_at, table_look, table_looked_at, tabled_reference};
+ghost use Rattle.ref_base.specs.CollectorRows.{referent_of};
 ghost use Rattle.ref_base.specs.DoomedSets.{refers_into};
 ghost use Rattle.ref_space.specs.Naming.{target_of, HasTarget, IsHealed, IsWordHeld, by_number, reference_by_number};
 ghost use Rattle.ref_space.specs.Naming.{bits_told};
@@ -53,6 +54,23 @@ impl<A: Allocator + Copy> Table<A> {
         match cell_of(&self.cells, &self.index, no) {
             Some(cell) => match cell.field(field) {
                 Some(value) => Some(self.told_bits(value)),
+                None => None,
+            },
+            None => None,
+        }
+    }
+
+    /// The bits of the word that the reference of this number has as its referent, 0 where that is null: none where
+    /// there is no such object, or it is plain. The word is one of the cell in which its referent lies.
+    pub fn word_of_referent(&self, no: ObjNo) -> Option<u64>
+        ensures there { is_some result ≡ is_some (tabled_reference (tabled_at self.now.tabled no)) }
+        ensures word { IfSome result (IsWordHeld self.now.round.good self.now.ways self.now.occupants
+            (is_healed_in self.now.round.number (tabled_at self.now.tabled no))
+            (referent_of (tabled_reference (tabled_at self.now.tabled no)))) }
+    {
+        match cell_of(&self.cells, &self.index, no) {
+            Some(cell) => match cell.kept() {
+                Some(kept) => Some(self.told_bits(kept.referent)),
                 None => None,
             },
             None => None,

@@ -8,7 +8,7 @@ ghost use Rattle.std.specs.Bool.{OnTrue};
 ghost use Rattle.ref_space.specs.Tables.{has_field, field_in_cell, tabled_reference, is_unmarked_in, on_object};
 ghost use Rattle.ref_space.specs.Tables.{marked_if, anew_if, change_of, tabled_fields, field_held};
 ghost use Rattle.ref_space.specs.Tables.{brought, left_of, without_if_any};
-ghost use Rattle.ref_space.specs.Naming.{target_of, HasTarget, IsHealed, tabled_of, changed_of};
+ghost use Rattle.ref_space.specs.Naming.{target_of, HasTarget, IsHealed, IsInColour, tabled_of, changed_of};
 ghost use Rattle.ref_space.specs.Naming.{reference_by_number, with_referent};
 ghost use Rattle.ref_space.specs.Worklists.{entry_number};
 ghost use Rattle.ref_space.specs.Places.{lent, cell_of_word, place_of_word, with_fields_healed};
@@ -44,6 +44,7 @@ impl<A: Allocator + Copy> Table<A> {
         requires { HasTarget self.old object }
         ensures held { option_map (target_of self.new) result ≡ field_in_cell (tabled_of self.old object) field }
         ensures healed { IfSome result (λ value. IsHealed self.new value) }
+        ensures good { IfSome result (λ value. IsInColour self.new.round.good value) }
         ensures after { self.new ≡ brought self.old (field_held (tabled_of self.old object) field) }
         ensures left { left_of self.new
             ≡ without_if_any (left_of self.old) (field_held (tabled_of self.old object) field) }
@@ -64,6 +65,7 @@ impl<A: Allocator + Copy> Table<A> {
         requires { HasTarget self.old object }
         ensures named { target_of self.new result ≡ referent_of (tabled_reference (tabled_of self.old object)) }
         ensures healed { IsHealed self.new result }
+        ensures good { IsInColour self.new.round.good result }
         ensures after { self.new ≡ brought self.old (referent_of (tabled_reference (tabled_of self.old object))) }
         ensures left { left_of self.new
             ≡ without_if_any (left_of self.old) (referent_of (tabled_reference (tabled_of self.old object))) }
@@ -82,6 +84,7 @@ impl<A: Allocator + Copy> Table<A> {
     fn is_good(&self, value: Word) -> bool
         requires { HasTarget self.now value }
         ensures healed { OnTrue result (IsHealed self.now value) }
+        ensures good { OnTrue result (IsInColour self.now.round.good value) }
         ensures stays { OnTrue result (brought self.now (target_of self.now value) ≡ self.now) }
         ensures left { OnTrue result
             (without_if_any (left_of self.now) (target_of self.now value) ≡ left_of self.now) }

@@ -5,7 +5,7 @@ ghost use Rattle.std.specs.Prelude.{slice_index_or};
 ghost use Rattle.ref_space.specs.Worklists.{first_in};
 ghost use Rattle.std.specs.Option.{IfSome};
 ghost use Rattle.ref_space.specs.Pages.{is_chosen_place, has_chosen, choice, choosing, left_in};
-ghost use Rattle.ref_space.specs.Naming.{target_of, HasTarget, IsHealed};
+ghost use Rattle.ref_space.specs.Naming.{target_of, HasTarget, IsHealed, IsInColour};
 ghost use Rattle.ref_space.specs.Tables.{LiesAt, numbers_at, tabled_at, brought, left_of, moved_from, unhealed_of};
 ghost use Rattle.ref_space.specs.Tables.{without_if_any, without_number};
 ghost use Rattle.ref_space.specs.Tables.{table_selected, table_renumbered};
@@ -87,6 +87,7 @@ impl<A: Allocator + Copy> Table<A> {
         requires { HasTarget self.old value }
         ensures named { target_of self.new result ≡ target_of self.new value }
         ensures healed { IsHealed self.new result }
+        ensures good { IsInColour self.new.round.good result }
         ensures after { self.new ≡ brought self.old (target_of self.old value) }
         ensures left { left_of self.new ≡ without_if_any (left_of self.old) (target_of self.old value) }
         ensures kept { (v : Option ℕ) → HasTarget self.old v
@@ -104,6 +105,7 @@ impl<A: Allocator + Copy> Table<A> {
         requires { HasTarget self.old value }
         ensures named { target_of self.new result ≡ target_of self.new value }
         ensures healed { IsHealed self.new result }
+        ensures good { IsInColour self.new.round.good result }
         ensures after { self.new ≡ brought self.old (target_of self.old value) }
         ensures left { left_of self.new ≡ without_if_any (left_of self.old) (target_of self.old value) }
         ensures kept { (v : Option ℕ) → HasTarget self.old v

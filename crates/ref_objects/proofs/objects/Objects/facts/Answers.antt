@@ -1,4 +1,5 @@
-use Rattle.ref_objects.proofs.Common.{arith, length-map, objects_of}
+use Rattle.ref_objects.proofs.Common.{◌∙◌, sym, arith, length-map, objects_of}
+use Rattle.ref_space.proofs.TabledLemmas.{is_there-objects_of}
 use Rattle.ref_objects.proofs.NumberLemmas.{numbers_in_order}
 use Rattle.ref_space.proofs.MarkCounts.{length-unmarked_of}
 use Rattle.ref_objects.proofs.MarkLemmas.{marked_there}
@@ -12,6 +13,7 @@ returns g c =
     let ks = c.self.inside.table.tabled in
     let orderly = c.len-count.ensures.orderly in
     let same = length-map ks (λ k. k.object) in
+    let laid = c.len-count.ensures.laid in
     let marks = length-unmarked_of c.self.inside.table.round.number ks in
     rw (← c.self.view_is) (record {
       orderly = record {
@@ -26,4 +28,10 @@ returns g c =
       unhealed = unhealed_there c.self.inside.table.round.number ks orderly.rising;
       tagged = numbers-tags_of ks;
       closed = c.self.invariant.closed;
+      lies = record {
+        lies = λ n is. laid.lies n (sym (is_there-objects_of ks n) ∙ is);
+        there = λ place n at. is_there-objects_of ks n ∙ laid.there place n at;
+        once = laid.once;
+      };
+      free = c.len-count.ensures.free;
     })

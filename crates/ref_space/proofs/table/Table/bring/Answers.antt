@@ -1,5 +1,7 @@
 use Rattle.ref_space.proofs.Common.{◌≡◌, ◌∙◌, false, ap, sym, subst, target_of}
-use Rattle.ref_space.specs.Naming.{IsHealed}
+use Rattle.ref_space.specs.Naming.{IsHealed, IsInColour}
+use Rattle.ref_space.specs.Tables.{Table}
+use Rattle.ref_space.proofs.WordLemmas.{recoloured_has}
 use Rattle.ref_space.specs.Pages.{has_chosen}
 use Rattle.ref_space.proofs.BroughtLemmas.{nothing_moves, recoloured_held}
 use Rattle.ref_space.proofs.table.Table.bring.Goals as goal
@@ -17,6 +19,12 @@ pub returns-clause-healed : goal.returns-clause-healed
 returns-clause-healed g c =
     subst (IsHealed c.args.self.now) (sym c.in_colour.ensures)
     (recoloured_held c.self.invariant c.self.view_is (none g c) c.args.value c.requires).1
+
+pub returns-clause-good : goal.returns-clause-good
+returns-clause-good g c =
+    subst (λ (t : Table). IsInColour t.round.good c.in_colour.result) c.self.view_is
+    (subst (IsInColour c.self.inside.round.good) (sym c.in_colour.ensures)
+    (recoloured_has c.self.inside.round.good c.args.value))
 
 pub returns-clause-after : goal.returns-clause-after
 returns-clause-after g c =

@@ -1,9 +1,9 @@
 use Rattle.ref_space.proofs.Common.{◌≡◌, ◌∙◌, true, false, ap, sym, refl, subst, arith, is_some, slice_index_or, None}
 use Rattle.ref_space.proofs.Common.{target_of}
-use Rattle.ref_space.specs.Naming.{IsHealed}
+use Rattle.ref_space.specs.Naming.{IsHealed, IsInColour}
 use Rattle.ref_space.specs.Pages.{is_chosen_place}
 use Rattle.ref_space.specs.Tables.{Table, brought, left_of, without_if_any}
-use Rattle.ref_space.proofs.CellChanges.{resolves, resolves_none, within_here, word_named, word_led}
+use Rattle.ref_space.proofs.CellChanges.{resolves, resolves_none, within_here, word_coloured, word_led, word_named}
 use Rattle.ref_space.proofs.table.Table.bring_chosen.Goals as goal
 use Rattle.ref_space.proofs.table.Table.bring_chosen.Given.{Over}
 
@@ -55,6 +55,13 @@ returns-in-Some-clause-healed g c =
     (ap (λ (t : Table). is_chosen_place t.ways.pages.uses c.leave-place.result) c.self-in-Some.view_is
     ∙ c.leave-place.ensures.stays)
     c.self-in-Some.inside.round.good refl)
+
+pub returns-in-Some-clause-good : goal.returns-in-Some-clause-good
+returns-in-Some-clause-good g c =
+    subst (λ (t : Table). IsInColour t.round.good c.of_place.result) c.self-in-Some.view_is
+    (subst (IsInColour c.self-in-Some.inside.round.good) (sym c.of_place.ensures)
+    (word_coloured c.self-in-Some.invariant c.self-in-Some.view_is c.leave-place.result (then_there g c)
+    c.self-in-Some.inside.round.good))
 
 pub returns-in-Some-clause-after : goal.returns-in-Some-clause-after
 returns-in-Some-clause-after g c = c.leave-place.ensures.after ∙ ap (brought c.args.self.now) (here g c).1

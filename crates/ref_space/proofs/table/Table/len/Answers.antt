@@ -3,6 +3,7 @@ use Rattle.ref_space.proofs.Common.{sym, ◌∙◌, ap}
 use Rattle.ref_space.proofs.Common.{subst, IsOrderlyTable, Table, length, length-map, by_number, target_by}
 use Rattle.ref_space.proofs.Common.{occupants_of}
 use Rattle.ref_space.proofs.Common.{tabled_by}
+use Rattle.ref_space.proofs.CellChanges.{free_seen, lie_once}
 use Rattle.ref_space.proofs.TableLemmas.{orderly}
 use Rattle.ref_space.proofs.BroughtLemmas.{settled_left}
 use Rattle.ref_space.proofs.table.Table.len.Goals as goal
@@ -21,3 +22,9 @@ returns-clause-orderly g c = subst IsOrderlyTable c.self.view_is
 
 pub returns-clause-settled : goal.returns-clause-settled
 returns-clause-settled g c is_tuned = settled_left c.self.invariant c.self.view_is is_tuned
+
+pub returns-clause-laid : goal.returns-clause-laid
+returns-clause-laid g c = lie_once c.self.invariant c.self.view_is
+
+pub returns-clause-free : goal.returns-clause-free
+returns-clause-free g c = free_seen c.self.invariant c.self.view_is

@@ -1,5 +1,5 @@
 use Rattle.ref_space.proofs.Common.{◌≡◌, ◌∙◌, ap, sym, subst, target_of}
-use Rattle.ref_space.specs.Naming.{IsHealed}
+use Rattle.ref_space.specs.Naming.{IsHealed, IsInColour}
 use Rattle.ref_space.specs.Tables.{Table, brought, left_of, without_if_any}
 use Rattle.ref_space.proofs.BroughtLemmas.{healed_named, referent_loaded_is}
 use Rattle.ref_space.proofs.table.Table.load_referent.Goals as goal
@@ -23,6 +23,10 @@ returns-clause-named g c =
 pub returns-clause-healed : goal.returns-clause-healed
 returns-clause-healed g c =
     subst (λ (t : Table). IsHealed t c.bring-healed.result) (sym (moved g c)) c.bring-healed.ensures.healed
+
+pub returns-clause-good : goal.returns-clause-good
+returns-clause-good g c =
+    subst (λ (t : Table). IsInColour t.round.good c.bring-healed.result) (sym (moved g c)) c.bring-healed.ensures.good
 
 pub returns-clause-after : goal.returns-clause-after
 returns-clause-after g c =
