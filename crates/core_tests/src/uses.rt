@@ -7,3 +7,4 @@ mod marking;
 mod objects;
 mod queues;
 mod values;
+mod worlds;
