@@ -5,17 +5,14 @@ use Rattle.ref_share.proofs.Common.{◌∙◌}
 use Rattle.ref_share.proofs.Common.{arith, get_or, length-append, map, zero, suc, Cycle, BadQueue, HoldName, ClearHeap}
 use Rattle.ref_share.proofs.Common.{HeldNotice, entry, Idle, GoesBack, Delivers, HeapView, HeapEntry, PutsNotice}
 use Rattle.ref_share.proofs.Common.{QueueEntry, queue_view, KeepsPace, Works, notices_put, references_of, Nothing}
-use Rattle.ref_share.proofs.Common.{Added, Busy, Dropped, Notice, QueueSeat, SharedQueue}
-use Rattle.ref_share.specs.Deliveries.{DeliversBatch, GoBack, Sends, SendsBatch, IsDeclinedWith, StopsWith}
+use Rattle.ref_share.proofs.Common.{Added, Dropped, Notice, QueueSeat, SharedQueue, ◌++◌}
+use Rattle.ref_share.specs.Deliveries.{DeliversAll, DeliversBatch, GoBack, Sends, SendsBatch}
 use Rattle.ref_share.specs.QueueCalls.{PutsBatch}
 use Rattle.ref_base.specs.Outs.{Outs}
-use Rattle.ref_base.specs.declared.fault.Fault.TheVariants.{ForeignHold, NoMemory, WrongPhase}
+use Rattle.ref_base.specs.declared.fault.Fault.TheVariants.{ForeignHold, NoMemory}
 use Rattle.ref_base.specs.declared.out.Done.TheVariants as done
 use Rattle.ref_clear.specs.declared.handed.Handed.{Handed}
-use Rattle.ref_base.specs.declared.plain_step.PlainStep.TheVariants.{Begin}
-use Rattle.ref_base.specs.declared.reply.Reply.{Reply}
 use Rattle.ref_base.specs.declared.reply.Reply.TheVariants as told
-use Rattle.ref_base.specs.declared.urgency.Urgency.TheVariants.{Normal}
 use Rattle.ref_share.specs.declared.answers.ShareFault.TheVariants.{Refused}
 use Rattle.ref_base.specs.declared.heap_step.HeapStep.TheVariants as heap
 use Rattle.ref_queue.specs.declared.queue.Put.TheVariants as puts
@@ -61,9 +58,12 @@ second_refused = record { before = 0; done = done.Added ∷ done.Refused NoMemor
 abbrev puts_in : ℕ → (position : ℕ) → QueueEntry
 puts_in n position = entry 0 (queue.Put (notice n)) (answers.Put (Ok (puts.Added position)))
 
--- a begin at the clock 5, with this reply
-abbrev begins : Reply → HeapEntry
-begins reply = entry 0 (heap.Plain (Begin 5 Normal)) (replies.Told reply)
+-- a hand that gives nothing
+abbrev hand_of : (number : ℕ) → HeapEntry
+hand_of number = entry number (heap.Hand 0) (replies.Told told.Nothing)
+
+abbrev hands_none : HeapEntry
+hands_none = hand_of 0
 
 module _ {A : Type 0} (start : Option ClearHeap) (first second : SharedQueue A) (s t u : QueueSeat) where
   -- the heap's one seat, which has made these calls
@@ -243,52 +243,22 @@ module _ {A : Type 0} (start : Option ClearHeap) (first second : SharedQueue A) 
         | inr first ↦ let other : Ok tt ≡ Err first.0 = first.1 in absurd cc
       ]
 
-  -- ---- a cycle that stops
+  -- ---- all that is pending
 
-  a_cycle_is_begun_already : IsDeclinedWith (seat []) (Begin 5 Normal) (Refused WrongPhase)
-      (seat (begins (told.Refused WrongPhase) ∷ []))
-  a_cycle_is_begun_already = inl ((refl, refl, refl), ([], refl), refl)
+  all_is_delivered : PutsNotice (queue_view t) (notice 2) (Ok (puts.Added 0)) (queue_view u)
+      → DeliversAll 0 queues (seat []) (s ∷ t ∷ []) (Ok tt) (seat (hands 2 ∷ hands_none ∷ [])) (s ∷ u ∷ [])
+  all_is_delivered called = (
+    1,
+    (seat (hands 2 ∷ []), s ∷ u ∷ []),
+    ((seat [], s ∷ t ∷ []), refl, (Added 2 1 0, (λ is. cc), it_is_delivered called)),
+    (((refl, refl, refl), ([], refl), refl), refl),
+  )
 
-  what_was_done_is_not_declined : ¬ (IsDeclinedWith (seat []) (Begin 5 Normal) (Refused WrongPhase)
-      (seat (begins told.Done ∷ [])))
-  what_was_done_is_not_declined declined =
-      elim declined [
-        | inl called ↦
-            let answer = ap (λ (calls : List HeapEntry). map (λ call. call.reply) calls) called.2 in
-            absurd cc
-        | inr spent ↦ let other = spent.0 in absurd cc
-      ]
-
-  it_stops_before_anything_is_done : StopsWith (seat []) queues (s ∷ t ∷ []) 0 5 Normal (Refused WrongPhase)
-      (seat (begins (told.Refused WrongPhase) ∷ [])) (s ∷ t ∷ [])
-  it_stops_before_anything_is_done = inl (inl a_cycle_is_begun_already, refl)
-
-  -- it waits for its turns
-  it_never_stops_as_busy : (w : HeapView) (after : List QueueSeat)
-      → ¬ (StopsWith (seat []) queues (s ∷ t ∷ []) 0 5 Normal Busy w after)
-  it_never_stops_as_busy w after stops =
-      elim stops [
-        | inl early ↦ elim early.0 [
-          | inl begin ↦ begin
-          | inr phase ↦ elim phase [
-            | inl mark ↦ elim mark.1 [
-              | inl work ↦ work
-              | inr end ↦ end.0
-            ]
-            | inr clearing ↦ elim clearing.1 [
-              | inl work ↦ work
-              | inr end ↦ end.0
-            ]
-          ]
-        ]
-        | inr late ↦ elim late [
-          | inl delivery ↦ delivery.2.3.1
-          | inr sweep ↦ elim sweep.1 [
-            | inl work ↦ work
-            | inr end ↦ end.0
-          ]
-        ]
-      ]
+  -- no hand gave nothing
+  nothing_was_tried : (after : List QueueSeat) → ¬ (DeliversAll 0 queues (seat []) (s ∷ t ∷ []) (Ok tt) (seat []) after)
+  nothing_was_tried after all =
+      let none : [] ≡ (all.1.0).mine ++ hand_of (all.1.0).number ∷ [] = all.3.0.2 in
+      absurd (omega (arith, ap length none, length-append (all.1.0).mine (hand_of (all.1.0).number ∷ [])))
 
   -- ---- a worker's thread
 

@@ -19,12 +19,16 @@ pub mod ProvenRuns
 pub mod MarkedRuns
 pub mod OrderRuns
 pub mod WorkerRuns
+pub mod CycleRuns
+pub mod Collections
 pub mod OnceCleared
 pub mod OnceRuns
 pub mod CleanCalls
+pub mod JobsLeft
 pub mod CleanRounds
 pub mod CleanRuns
 mod HeapExamples
 mod QueueCallExamples
 mod DeliveryExamples
+mod CycleExamples
 mod CleanerExamples

@@ -31,7 +31,7 @@ at_end [] x = refl
 at_end (z ∷ xs) x = at_end xs x
 
 -- a list of one is that one
-pub only_one : {T : Type 0} (xs : List T) (x : T) → length xs ≡ 1 → xs ≡ get_or xs 0 x ∷ []
+only_one : {T : Type 0} (xs : List T) (x : T) → length xs ≡ 1 → xs ≡ get_or xs 0 x ∷ []
 only_one [] x one = absurd (omega (arith, one))
 only_one (y ∷ []) x one = refl
 only_one (y ∷ z ∷ xs) x one = absurd (omega (arith, one))
@@ -50,6 +50,15 @@ module _ {A : Type 0} where
       → IsQueueSeat queue (get_or seats 0 seat)
   only_seat seats queue seat are one count =
       are 0 queue (get_or seats 0 seat) (ap (λ l. slice_get l 0) one) (slice_get-get_or seats 0 seat (omega arith))
+
+  -- what holds of a call's lists of one queue and of one seat, before the call and after it, holds of that one
+  pub of_one_queue : (P : List (SharedQueue A) → List QueueSeat → List QueueSeat → Type 0)
+      → {queues : List (SharedQueue A)} {seats : List QueueSeat} (after : List QueueSeat) (queue : SharedQueue A)
+      (seat : QueueSeat) → queues ≡ queue ∷ [] → seats ≡ seat ∷ [] → length after ≡ 1 → P queues seats after
+      → P (queue ∷ []) (seat ∷ []) (get_or after 0 seat ∷ [])
+  of_one_queue P after queue seat one own count =
+      subst (λ (z : List (SharedQueue A) × List QueueSeat × List QueueSeat). P z.0 z.1 z.2)
+      (λ i. (one i, own i, only_one after seat count i))
 
   -- one queue more, with its seat
   pub seat_more : (queues : List (SharedQueue A)) (seats : List QueueSeat) (queue : SharedQueue A)

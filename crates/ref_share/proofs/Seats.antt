@@ -72,6 +72,8 @@ module _ {M S R X : Type 0} (stands_for : M → X → Type 0) (steps_to : X → 
         record {
           log = ends.0;
           begins = ends.1;
+          own = ends.2;
+          turns = ends.4;
           last = reached.0;
           run = reached.1;
           stands = reached.2;

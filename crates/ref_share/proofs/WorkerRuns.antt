@@ -52,7 +52,7 @@ module _ (k q : ℕ) where
       ∙ ap (λ ns. notices_handed k q v.mine ++ ns) (append-nil (notice_handed k q step reply))
 
   -- or nothing
-  handed_same : (v w : HeapView) (step : NamedStep) (reply : HeapAnswer) → notice_handed k q step reply ≡ []
+  pub handed_same : (v w : HeapView) (step : NamedStep) (reply : HeapAnswer) → notice_handed k q step reply ≡ []
       → Called v step reply w → notices_handed k q w.mine ≡ notices_handed k q v.mine
   handed_same v w step reply none called =
       handed_then v w step reply called ∙ ap (λ ns. notices_handed k q v.mine ++ ns) none
@@ -150,7 +150,7 @@ module _ {A : Type 0} (k q : ℕ) (queues : List (SharedQueue A)) (seats after :
 
   -- a put that could not add the notice
   refused_put : (notice : HeldNotice) (fault : Fault) (back : HeldNotice) (w : HeapView)
-      → had_turn (Err (Notice back fault)) ≡ true → PutsAt notice queues seats (Err (fault, notice)) after
+      → had_turn {T = Delivery} (Err (Notice back fault)) ≡ true → PutsAt notice queues seats (Err (fault, notice)) after
       → notices_handed k q w.mine ≡ notices_handed k q v.mine ++ worked_notices k q (notice ∷ [])
       → notices_put k q (queue_view s).mine ≡ notices_handed k q w.mine
   refused_put notice BadQueue back w turn puts gives =

@@ -1,5 +1,6 @@
 -- What callers do about the faults of shared heaps and queues, and what is left in what ends (this project's profile).
 use Rattle.std.specs.Prelude.{ℕ, length, Option, Some, None, Result, Ok, Err}
+use Rattle.ref_queue.specs.CleanTables.{Registry, job_of}
 use Rattle.ref_base.specs.declared.fault.Fault.{Fault}
 use Rattle.ref_base.specs.declared.fault.Fault.TheVariants.{TurnsSpent}
 use Rattle.ref_share.specs.QueueStates.{NoticeLists}
@@ -27,3 +28,8 @@ found (Err left) = left
 abbrev pub count_standing : Option NoticeLists → ℕ
 count_standing None = 0
 count_standing (Some q) = length q.stands
+
+-- the job of this object in what a cleaner was ended with, with what goes with it
+abbrev pub job_left_in : {K J : Type 0} → Option (Registry K J) → ℕ → Option (K × J)
+job_left_in None n = None
+job_left_in (Some t) n = job_of t n

@@ -1,25 +1,23 @@
--- From the heap to a queue: which calls `enqueue`, `deliver_one` and `deliver_batch` have made, and what they answer;
--- and what stops a whole cycle (this project's profile; Java SE 17 has `Reference.enqueue`).
-use Rattle.std.specs.Prelude.{◌≡◌, ℕ, ◌<◌, ◌≤◌, ◌⊎◌, Bool, true, false, List, [], ◌∷◌, length, Option, Some, None}
+-- From the heap to a queue: which calls `enqueue`, `deliver_one`, `deliver_batch` and `deliver_all` have made, and what
+-- they answer (this project's profile; Java SE 17 has `Reference.enqueue`).
+use Rattle.std.specs.Prelude.{◌≡◌, ◌≢◌, ℕ, ◌<◌, ◌≤◌, ◌⊎◌, Bool, true, false, List, [], ◌∷◌, length, Option, Some, None}
 use Rattle.std.specs.Prelude.{Result, Ok, Err, slice_get, slice_set}
 use Rattle.ref_base.specs.HeapSteps.{HeldNotice, NamedStep}
 use Rattle.ref_base.specs.declared.fault.Fault.{Fault}
-use Rattle.ref_base.specs.declared.fault.Fault.TheVariants.{BadQueue, GreyLeft, ClearingLeft, SweepLeft}
+use Rattle.ref_base.specs.declared.fault.Fault.TheVariants.{BadQueue}
 use Rattle.ref_base.specs.declared.heap_step.HeapStep.TheVariants.{Hand}
 use Rattle.ref_base.specs.declared.heap_step.HoldName.{HoldName}
-use Rattle.ref_base.specs.declared.plain_step.PlainStep.{PlainStep}
-use Rattle.ref_base.specs.declared.plain_step.PlainStep.TheVariants as plain
-use Rattle.ref_base.specs.declared.urgency.Urgency.{Urgency}
 use Rattle.ref_queue.specs.declared.queue.Put.{Put}
 use Rattle.ref_queue.specs.declared.queue.Put.TheVariants as puts
 use Rattle.ref_base.specs.Outs.{Outs}
 use Rattle.ref_base.specs.declared.out.Done.{Done}
 use Rattle.ref_base.specs.declared.out.Done.TheVariants as done
 use Rattle.ref_clear.specs.declared.handed.Handed.{Handed}
-use Rattle.ref_share.specs.HeapCalls.{GivesNotice, GivesBatch, Releases, Declined}
+use Rattle.ref_share.specs.HeapCalls.{GivesNotice, GivesBatch, Releases}
 use Rattle.ref_share.specs.HeapSeats.{HeapView}
 use Rattle.ref_share.specs.QueueCalls.{PutsNotice, PutsBatch}
 use Rattle.ref_share.specs.QueueSeats.{SharedQueue, QueueSeat, queue_view, IsQueueSeat}
+use Rattle.ref_share.specs.Repeats.{Repeats}
 use Rattle.ref_share.specs.declared.answers.Delivery.{Delivery}
 use Rattle.ref_share.specs.declared.answers.Delivery.TheVariants.{Nothing, Added, Dropped}
 use Rattle.ref_share.specs.declared.answers.ShareFault.{ShareFault}
@@ -162,40 +160,22 @@ module _ {A : Type 0} (k max : ℕ) (v : HeapView) (queues : List (SharedQueue A
 
 -- ---- what stops a cycle
 
--- the step was declined, and the fault tells why
-abbrev pub IsDeclinedWith : HeapView → PlainStep → ShareFault → HeapView → Type 0
-IsDeclinedWith v step (Refused fault) w = Declined v step fault w
-IsDeclinedWith v step fault w = ⊥
+-- ---- all that is pending
 
--- work is left of a phase, which has not to end yet
-abbrev pub tells_of_work : ShareFault → Bool
-tells_of_work (Refused GreyLeft) = true
-tells_of_work (Refused ClearingLeft) = true
-tells_of_work (Refused SweepLeft) = true
-tells_of_work fault = false
+module _ {A : Type 0} (worker : ℕ) (queues : List (SharedQueue A)) where
+  -- the worker's hand gives a notice, and it is sent
+  abbrev pub DeliversOne : HeapView × List QueueSeat → HeapView × List QueueSeat → Type 0
+  DeliversOne a b =
+      (delivery : Delivery) × (delivery ≢ Nothing) × Delivers (Hand worker) a.0 queues a.1 (Ok delivery) b.0 b.1
 
--- of a phase its work was declined, or its end, and that not for work that is left
-abbrev pub StopsPhase : (work end : PlainStep) → ShareFault → HeapView → Type 0
-StopsPhase work end fault w =
-    (v : HeapView)
-    × (IsDeclinedWith v work fault w ⊎ (IsDeclinedWith v end fault w × (tells_of_work fault ≡ false)))
+  -- none is pending any more; or the delivery stops with this fault
+  abbrev pub DeliversLast : HeapView → List QueueSeat → Result (Unit {0}) ShareFault → HeapView → List QueueSeat
+      → Type 0
+  DeliversLast v seats (Ok _) w after = Delivers (Hand worker) v queues seats (Ok Nothing) w after
+  DeliversLast v seats (Err fault) w after = Delivers (Hand worker) v queues seats (Err fault) w after
 
-module _ {A : Type 0} (v : HeapView) (queues : List (SharedQueue A)) (seats : List QueueSeat) (worker now : ℕ)
-    (urgency : Urgency) where
-  -- before its deliveries: it was not begun, or its mark or its clearing stopped
-  abbrev pub StopsEarly : ShareFault → HeapView → Type 0
-  StopsEarly fault w =
-      IsDeclinedWith v (plain.Begin now urgency) fault w
-      ⊎ (StopsPhase (plain.Scan worker) plain.EndMark fault w
-      ⊎ StopsPhase (plain.ClearNext worker) plain.EndClear fault w)
-
-  -- at a delivery
-  abbrev pub StopsDelivering : ShareFault → HeapView → List QueueSeat → Type 0
-  StopsDelivering fault w after =
-      (u : HeapView) × (between : List QueueSeat) × Delivers (Hand worker) u queues between (Err fault) w after
-
-  -- the cycle stops with this fault only where one of its steps was declined so; early, no queue has done anything
-  abbrev pub StopsWith : ShareFault → HeapView → List QueueSeat → Type 0
-  StopsWith fault w after =
-      (StopsEarly fault w × (after ≡ seats))
-      ⊎ (StopsDelivering fault w after ⊎ StopsPhase (plain.Sweep worker) plain.EndSweep fault w)
+  -- notices are delivered one after the other, until the last
+  abbrev pub DeliversAll : HeapView → List QueueSeat → Result (Unit {0}) ShareFault → HeapView → List QueueSeat → Type 0
+  DeliversAll v seats result w after =
+      (count : ℕ) × (a : HeapView × List QueueSeat) × Repeats DeliversOne count (v, seats) a
+      × DeliversLast a.0 a.1 result w after

@@ -8,7 +8,10 @@ pub mod SharedSeats
 pub mod HeapSeats
 pub mod QueueSeats
 pub mod QueueCalls
+pub mod Repeats
 pub mod Deliveries
+pub mod Cycles
+pub mod WantsOfRoom
 pub mod WorkerCalls
 pub mod QueueStates
 pub mod QueueHistories

@@ -1,5 +1,5 @@
 -- The seats of a turn that began with a machine in a known state (this project's profile).
-use Rattle.std.specs.Prelude.{◌≡◌, ℕ, List, [], Some}
+use Rattle.std.specs.Prelude.{◌≡◌, ℕ, ◌+◌, ◌^◌, ◌<◌, List, [], length, Some}
 use Rattle.ref_turn.specs.History.{calls_by, StartsWith, Leads}
 use Rattle.ref_turn.specs.Turns.{view, IsSeatOf}
 use Rattle.ref_turn.specs.declared.history.Entry.{Entry}
@@ -30,10 +30,13 @@ module _ {M S R X : Type 0} (stands_for : M → X → Type 0) (steps_to : X → 
     pub seen : (view s).seen ≡ []
     pub mine : (view s).mine ≡ []
 
-  -- a history that begins with what the seat has seen leaves the machine
+  -- a history that begins with what the seat has seen leaves the machine: it has no further call of this seat, and no
+  -- more calls than there are tickets
   pub record IsLeftFrom (x : X) (v : View M S R) (m : M) : Type 0 where
     pub log : List (Entry S R)
     pub begins : StartsWith log v.seen
+    pub own : calls_by v.number log ≡ v.mine
+    pub turns : v.first + length log < 2 ^ 64
     pub last : X
     pub run : Leads steps_to x log last
     pub stands : stands_for m last

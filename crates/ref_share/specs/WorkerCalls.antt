@@ -54,8 +54,8 @@ notices_put k q (call ∷ calls) = notice_put k q call.step ++ notices_put k q c
 
 -- ---- a worker's thread, with one seat of the heap and one of each queue
 
--- the delivery didn't end at a queue without a turn
-abbrev pub had_turn : Result Delivery ShareFault → Bool
+-- no delivery ended at a queue without a turn
+abbrev pub had_turn : {T : Type 0} → Result T ShareFault → Bool
 had_turn (Err (Notice back TurnsSpent)) = false
 had_turn result = true
 

@@ -1,22 +1,23 @@
 //! All that a program of one thread uses: a heap with one queue, and the cleaner that the queue tells what is gone.
 
-ghost use Rattle.std.specs.Prelude.{◌≡◌, [], ◌∷◌, IfOk, IfErr};
+ghost use Rattle.std.specs.Prelude.{◌≡◌, ℕ, [], ◌∷◌, IfOk};
 ghost use Rattle.ref_base.specs.declared.plain_step.PlainStep.TheVariants.{New, Refer, Drop, RefersTo};
-ghost use Rattle.ref_base.specs.declared.plain_step.PlainStep.TheVariants.{Begin, EndSweep};
+ghost use Rattle.ref_base.specs.declared.urgency.Urgency.TheVariants.{Normal, Urgent};
 ghost use Rattle.ref_objects.specs.Grounds.{starting_refusal};
 ghost use Rattle.ref_share.specs.CleanSeats.{clean_view};
-ghost use Rattle.ref_share.specs.CleanedHeaps.{HasSeats};
+ghost use Rattle.ref_share.specs.CleanedHeaps.{HasSeats, IsNewCleanedHeap, IsEnded};
 ghost use Rattle.ref_share.specs.Cleanings.{RegistersJob};
 ghost use Rattle.ref_share.specs.CleanLoops.{GoesOn};
-ghost use Rattle.ref_share.specs.Deliveries.{StopsWith};
-ghost use Rattle.ref_share.specs.HeapCalls.{Performs, Accepted};
-ghost use Rattle.ref_share.specs.HeapSeats.{HeapView, heap_view};
+ghost use Rattle.ref_share.specs.Cycles.{Cycles};
+ghost use Rattle.ref_share.specs.HeapCalls.{Performs};
+ghost use Rattle.ref_share.specs.HeapSeats.{heap_view};
 ghost use Rattle.ref_share.specs.QueueSeats.{queue_view};
 ghost use Rattle.ref_share.specs.SeatCalls.{MakesUnless};
+ghost use Rattle.ref_share.specs.WantsOfRoom.{DoesAfter};
 
 use crate::{
     CleanMachine, Cleanable, Gate, HeapSeat, QueueSeat, SeatFor, ShareFault, Shared, SharedCleaner,
-    SharedHeap, SharedQueue, cycle, end_queue, run_jobs_left,
+    SharedHeap, SharedQueue, cycle, end_queue, make_or_collect, run_jobs_left,
 };
 use ref_base::{
     Config, Fault, MutNo, PlainStep, QueueNo, Reply, SlotNo, Strength, Urgency, WorkerNo,
@@ -51,7 +52,8 @@ impl CleanedHeap<Job> {
     /// A heap without objects, its number 0, with an empty queue and a cleaner without jobs. Tried in this order:
     /// `BadConfig`, `NoMemory`.
     pub fn new(alloc: Global, config: Config) -> Result<Self, Fault>
-        ensures made { IfOk result (λ made. HasSeats made × (made.heap.frame.config ≡ config)) }
+        ensures made { IfOk result (λ made. IsNewCleanedHeap config made) }
+        ensures seats { IfOk result (λ made. HasSeats made) }
         ensures refused { MakesUnless (starting_refusal config (record { obj = 1; cycle = 0; page = 1 })) result }
     {
         let (heap, heap_seat) = SharedHeap::new(alloc, config, 0)?;
@@ -78,6 +80,7 @@ impl CleanedHeap<Job> {
         requires { HasSeats self.old }
         ensures seats { HasSeats self.new }
         ensures performs { Performs (heap_view self.old.heap_seat) step result (heap_view self.new.heap_seat) }
+        ensures others { self.new ≡ record self.old { heap_seat = self.new.heap_seat } }
     {
         self.heap.perform(rt, &mut self.heap_seat, step)
     }
@@ -88,6 +91,7 @@ impl CleanedHeap<Job> {
         ensures seats { HasSeats self.new }
         ensures performs { Performs (heap_view self.old.heap_seat) (New 0 slot fields) result
             (heap_view self.new.heap_seat) }
+        ensures others { self.new ≡ record self.old { heap_seat = self.new.heap_seat } }
     {
         let mutator = MUTATOR;
         let step = PlainStep::New {
@@ -96,6 +100,42 @@ impl CleanedHeap<Job> {
             fields,
         };
         self.perform(rt, step)
+    }
+
+    /// Makes an object as `make` does. Where the heap is full a cycle comes first, and then an urgent one, as
+    /// `make_or_collect` tells. The notices of what they clear stand in the queue then, for `clean_some`.
+    pub fn make_or_collect<R: Wait>(
+        &mut self,
+        rt: &R,
+        slot: SlotNo,
+        fields: u32,
+        now: u64,
+    ) -> Result<Reply, ShareFault>
+        requires { HasSeats self.old }
+        ensures seats { HasSeats self.new }
+        ensures does { DoesAfter (self.old.queue ∷ []) 0 now (New 0 slot fields) (Normal ∷ Urgent ∷ [])
+            (heap_view self.old.heap_seat) (self.old.queue_seat ∷ []) result (heap_view self.new.heap_seat)
+            (self.new.queue_seat ∷ []) }
+        ensures others { self.new ≡ record self.old {
+            heap_seat = self.new.heap_seat; queue_seat = self.new.queue_seat } }
+    {
+        let queues = slice::from_ref(&self.queue);
+        let seats = slice::from_mut(&mut self.queue_seat);
+        let step = PlainStep::New {
+            mutator: MUTATOR,
+            slot,
+            fields,
+        };
+        make_or_collect(
+            rt,
+            &self.heap,
+            &mut self.heap_seat,
+            queues,
+            seats,
+            WORKER,
+            now,
+            step,
+        )
     }
 
     /// Makes a reference to what the source slot holds, and the slot then holds it. The reply is `Object`.
@@ -111,6 +151,7 @@ impl CleanedHeap<Job> {
         ensures seats { HasSeats self.new }
         ensures performs { Performs (heap_view self.old.heap_seat) (Refer 0 strength slot source queue 0) result
             (heap_view self.new.heap_seat) }
+        ensures others { self.new ≡ record self.old { heap_seat = self.new.heap_seat } }
     {
         let step = PlainStep::Refer {
             mutator: MUTATOR,
@@ -129,6 +170,7 @@ impl CleanedHeap<Job> {
         ensures seats { HasSeats self.new }
         ensures performs { Performs (heap_view self.old.heap_seat) (Drop 0 slot) result
             (heap_view self.new.heap_seat) }
+        ensures others { self.new ≡ record self.old { heap_seat = self.new.heap_seat } }
     {
         let mutator = MUTATOR;
         self.perform(rt, PlainStep::Drop { mutator, slot })
@@ -145,6 +187,7 @@ impl CleanedHeap<Job> {
         ensures seats { HasSeats self.new }
         ensures performs { Performs (heap_view self.old.heap_seat) (RefersTo 0 reference other) result
             (heap_view self.new.heap_seat) }
+        ensures others { self.new ≡ record self.old { heap_seat = self.new.heap_seat } }
     {
         let mutator = MUTATOR;
         let step = PlainStep::RefersTo {
@@ -169,6 +212,8 @@ impl CleanedHeap<Job> {
         ensures seats { HasSeats self.new }
         ensures registers { RegistersJob job (clean_view self.old.clean_seat) self.old.cleaner.frame 0 source slot
             (heap_view self.old.heap_seat) result (heap_view self.new.heap_seat) (clean_view self.new.clean_seat) }
+        ensures others { self.new ≡ record self.old {
+            heap_seat = self.new.heap_seat; clean_seat = self.new.clean_seat } }
     {
         let CleanedHeap {
             heap,
@@ -184,12 +229,10 @@ impl CleanedHeap<Job> {
     pub fn cycle<R: Wait>(&mut self, rt: &R, now: u64, urgency: Urgency) -> Result<(), ShareFault>
         requires { HasSeats self.old }
         ensures seats { HasSeats self.new }
-        ensures begins { IfOk result (λ _. (v : HeapView)
-            × Accepted (heap_view self.old.heap_seat) (Begin now urgency) v) }
-        ensures ends { IfOk result (λ _. (v : HeapView) × Accepted v EndSweep (heap_view self.new.heap_seat)) }
-        ensures stops { IfErr result (λ fault. StopsWith (heap_view self.old.heap_seat) (self.old.queue ∷ [])
-            (self.old.queue_seat ∷ []) 0 now urgency fault (heap_view self.new.heap_seat)
-            (self.new.queue_seat ∷ [])) }
+        ensures cycles { Cycles (self.old.queue ∷ []) 0 now urgency (heap_view self.old.heap_seat)
+            (self.old.queue_seat ∷ []) result (heap_view self.new.heap_seat) (self.new.queue_seat ∷ []) }
+        ensures others { self.new ≡ record self.old {
+            heap_seat = self.new.heap_seat; queue_seat = self.new.queue_seat } }
     {
         let queues = slice::from_ref(&self.queue);
         let seats = slice::from_mut(&mut self.queue_seat);
@@ -212,6 +255,8 @@ impl CleanedHeap<Job> {
         ensures goes { GoesOn (queue_view self.old.queue_seat) (heap_view self.old.heap_seat)
             (clean_view self.old.clean_seat) result (queue_view self.new.queue_seat) (heap_view self.new.heap_seat)
             (clean_view self.new.clean_seat) }
+        ensures others { self.new ≡ record self.old { heap_seat = self.new.heap_seat;
+            queue_seat = self.new.queue_seat; clean_seat = self.new.clean_seat } }
     {
         self.cleaner.clean_some(
             rt,
@@ -224,9 +269,12 @@ impl CleanedHeap<Job> {
         )
     }
 
-    /// Ends all of it: notices that stand are given up, and jobs that are still registered are run.
-    pub fn end(self)
+    /// Ends all of it: notices that stand are given up, and jobs that are still registered are run. How many notices
+    /// that were. Takes no memory but what the jobs take.
+    pub fn end(self) -> usize
         requires { HasSeats self }
+        ensures { IsEnded (λ job. (answer : ℕ)
+            × ⟦<Box<dyn FnOnce(u64) -> u64 + Send> as FnOnce(u64) -> u64>⟧.post job.action job.number answer) self result }
     {
         let CleanedHeap {
             heap: _heap,
@@ -236,7 +284,8 @@ impl CleanedHeap<Job> {
             cleaner,
             clean_seat,
         } = self;
-        end_queue(queue.finish(queue_seat));
+        let notices = end_queue(queue.finish(queue_seat));
         run_jobs_left(cleaner.finish(clean_seat));
+        notices
     }
 }

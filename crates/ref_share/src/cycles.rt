@@ -1,10 +1,10 @@
 //! One whole cycle of the collector, by one worker.
 
-ghost use Rattle.std.specs.Prelude.{IfOk, IfErr};
-ghost use Rattle.ref_base.specs.declared.plain_step.PlainStep.TheVariants.{Begin, EndSweep};
-ghost use Rattle.ref_share.specs.Deliveries.{AreSeats, StopsPhase, StopsWith};
-ghost use Rattle.ref_share.specs.HeapCalls.{Accepted};
-ghost use Rattle.ref_share.specs.HeapSeats.{HeapView, heap_view, IsHeapSeat};
+ghost use Rattle.ref_base.specs.declared.plain_step.PlainStep.TheVariants.{Begin, Scan, EndMark, ClearNext, EndClear};
+ghost use Rattle.ref_base.specs.declared.plain_step.PlainStep.TheVariants.{Sweep, EndSweep};
+ghost use Rattle.ref_share.specs.Cycles.{Cycles, GoesThrough, GoesRound};
+ghost use Rattle.ref_share.specs.Deliveries.{AreSeats};
+ghost use Rattle.ref_share.specs.HeapSeats.{heap_view, IsHeapSeat};
 
 use crate::{HeapSeat, QueueSeat, ShareFault, SharedHeap, SharedQueue, deliver_all};
 use ref_base::{Fault, PlainStep, Reply, Urgency, WorkerNo};
@@ -16,8 +16,9 @@ use std::sync::Wait;
 ///
 /// Its steps: a begin; scans until the mark's end is accepted, since what mutators read meanwhile has to be scanned
 /// too; looks at what was found, until the clearing's end is; what is pending of the worker, by `deliver_all`; sweeps,
-/// until the sweep's end is accepted. Other threads may use the heap meanwhile, and help with the worker's steps of
-/// other numbers. It may never return, as where others load without end. Takes no memory but what the queues take.
+/// until the sweep's end is accepted. The seats make no other call. Other threads may use the heap meanwhile, and help
+/// with the worker's steps of other numbers. It may never return, as where others load without end. Takes no memory but
+/// what the queues take.
 ///
 /// `Refused` with the faults of a begin, before which nothing was done; with those of the other steps where other
 /// threads end a phase meanwhile (`WrongPhase`); or `TurnsSpent`. With the faults of `deliver_one` the clearing has
@@ -34,38 +35,21 @@ pub fn cycle<R: Wait, A: Allocator + Copy>(
 ) -> Result<(), ShareFault>
     requires { IsHeapSeat heap.now heap_seat.old × AreSeats queues.now queue_seats.old }
     ensures seats { IsHeapSeat heap.now heap_seat.new × AreSeats queues.now queue_seats.new }
-    ensures begins { IfOk result (λ _. (v : HeapView) × Accepted (heap_view heap_seat.old) (Begin now urgency) v) }
-    ensures ends { IfOk result (λ _. (v : HeapView) × Accepted v EndSweep (heap_view heap_seat.new)) }
-    ensures stops { IfErr result (λ fault. StopsWith (heap_view heap_seat.old) queues.now queue_seats.old worker now
-        urgency fault (heap_view heap_seat.new) queue_seats.new) }
+    ensures cycles { Cycles queues.now worker now urgency (heap_view heap_seat.old) queue_seats.old result
+        (heap_view heap_seat.new) queue_seats.new }
 {
     heap.perform(rt, heap_seat, PlainStep::Begin { now, urgency })?;
-    end_phase(
-        rt,
-        heap,
-        heap_seat,
-        PlainStep::Scan { worker },
-        PlainStep::EndMark,
-    )?;
-    end_phase(
-        rt,
-        heap,
-        heap_seat,
-        PlainStep::ClearNext { worker },
-        PlainStep::EndClear,
-    )?;
+    let (scan, end_mark) = (PlainStep::Scan { worker }, PlainStep::EndMark);
+    phase(rt, heap, heap_seat, scan, end_mark)?;
+    let (clear, end_clear) = (PlainStep::ClearNext { worker }, PlainStep::EndClear);
+    phase(rt, heap, heap_seat, clear, end_clear)?;
     deliver_all(rt, heap, heap_seat, queues, queue_seats, worker)?;
-    end_phase(
-        rt,
-        heap,
-        heap_seat,
-        PlainStep::Sweep { worker },
-        PlainStep::EndSweep,
-    )
+    let (sweep, end_sweep) = (PlainStep::Sweep { worker }, PlainStep::EndSweep);
+    phase(rt, heap, heap_seat, sweep, end_sweep)
 }
 
 // Does the work of a phase until nothing is left of it and its end is accepted.
-fn end_phase<R: Wait, A: Allocator + Copy>(
+fn phase<R: Wait, A: Allocator + Copy>(
     rt: &R,
     heap: &SharedHeap<A>,
     seat: &mut HeapSeat<A>,
@@ -74,17 +58,37 @@ fn end_phase<R: Wait, A: Allocator + Copy>(
 ) -> Result<(), ShareFault>
     requires { IsHeapSeat heap.now seat.old }
     ensures seat { IsHeapSeat heap.now seat.new }
-    ensures ends { IfOk result (λ _. (v : HeapView) × Accepted v end (heap_view seat.new)) }
-    ensures stops { IfErr result (λ fault. StopsPhase work end fault (heap_view seat.new)) }
+    ensures goes { GoesThrough work end (heap_view seat.old) result (heap_view seat.new) }
 {
     for _ in rt.forever() {
-        if heap.perform(rt, seat, work)? == Reply::Nothing {
-            match heap.perform(rt, seat, end) {
-                Ok(_) => break,
-                Err(Fault::GreyLeft | Fault::ClearingLeft | Fault::SweepLeft) => {}
-                Err(fault) => return Err(ShareFault::Refused(fault)),
-            }
+        let (doing, ending) = (work, end);
+        if round(rt, heap, seat, doing, ending)? {
+            break;
         }
     }
     Ok(())
+}
+
+// Does the work once, and tries the phase's end where there was none. True where the phase has ended.
+fn round<R: Wait, A: Allocator + Copy>(
+    rt: &R,
+    heap: &SharedHeap<A>,
+    seat: &mut HeapSeat<A>,
+    work: PlainStep,
+    end: PlainStep,
+) -> Result<bool, ShareFault>
+    requires { IsHeapSeat heap.now seat.old }
+    ensures seat { IsHeapSeat heap.now seat.new }
+    ensures goes { GoesRound work end (heap_view seat.old) result (heap_view seat.new) }
+{
+    match heap.perform(rt, seat, work) {
+        Ok(Reply::Nothing) => {}
+        Ok(_) => return Ok(false),
+        Err(fault) => return Err(ShareFault::Refused(fault)),
+    }
+    match heap.perform(rt, seat, end) {
+        Ok(_) => Ok(true),
+        Err(Fault::GreyLeft | Fault::ClearingLeft | Fault::SweepLeft) => Ok(false),
+        Err(fault) => Err(ShareFault::Refused(fault)),
+    }
 }

@@ -1,17 +1,15 @@
 //! From the heap to a queue: a notice that the heap gives is put into its own queue, by one thread, in turns of its
 //! own. No lock is held between them.
 
-ghost use Rattle.std.specs.Prelude.{◌≡◌, [], List, Ok, Err, IfOk, IfErr};
+ghost use Rattle.std.specs.Prelude.{◌≡◌, []};
 ghost use Rattle.ref_base.specs.declared.heap_step.HeapStep.TheVariants as steps;
 ghost use Rattle.ref_base.specs.HeapSteps.{NamedStep};
 ghost use Rattle.ref_share.specs.HeapSeats.{HeapView, heap_view, IsHeapSeat};
 ghost use Rattle.ref_share.specs.HeapCalls.{GivesNotice};
 ghost use Rattle.ref_share.specs.Deliveries.{AreSeats, PutsAt, Sends, Delivers, GoesBack, was_added};
-ghost use Rattle.ref_share.specs.Deliveries.{DeliversBatch, GoBack, PutsBatchAt, SendsBatch, TellsReleased};
-ghost use Rattle.ref_share.specs.Deliveries.{refused_in};
+ghost use Rattle.ref_share.specs.Deliveries.{DeliversAll, DeliversBatch, GoBack, PutsBatchAt, SendsBatch};
+ghost use Rattle.ref_share.specs.Deliveries.{TellsReleased, refused_in};
 ghost use Rattle.ref_share.specs.QueueCalls.{ComesBack};
-ghost use Rattle.ref_share.specs.QueueSeats.{QueueSeat};
-ghost use Rattle.ref_share.specs.declared.answers.Delivery.TheVariants.{Nothing};
 
 use crate::{Delivery, HeapSeat, QueueSeat, ShareFault, SharedHeap, SharedQueue};
 use ref_base::{Batch, Done, Fault, MutNo, ObjNo, Outs, Parcel, QueueNo, SlotNo, WorkerNo};
@@ -129,7 +127,7 @@ pub fn deliver_batch<R: Wait, A: Allocator + Copy>(
 /// Hands on all that is pending of the worker, as `deliver_one` does one after the other, until there is `Nothing`.
 ///
 /// Turns, lists and faults are as those of `deliver_one`; with the first fault it ends, and what is pending then stays
-/// so.
+/// so. The seats make no other call.
 pub fn deliver_all<R: Wait, A: Allocator + Copy>(
     rt: &R,
     heap: &SharedHeap<A>,
@@ -140,10 +138,8 @@ pub fn deliver_all<R: Wait, A: Allocator + Copy>(
 ) -> Result<(), ShareFault>
     requires { IsHeapSeat heap.now heap_seat.old × AreSeats queues.now queue_seats.old }
     ensures seats { IsHeapSeat heap.now heap_seat.new × AreSeats queues.now queue_seats.new }
-    ensures ok { IfOk result (λ _. (v : HeapView) × (seats : List QueueSeat)
-        × Delivers (steps.Hand worker) v queues.now seats (Ok Nothing) (heap_view heap_seat.new) queue_seats.new) }
-    ensures err { IfErr result (λ fault. (v : HeapView) × (seats : List QueueSeat)
-        × Delivers (steps.Hand worker) v queues.now seats (Err fault) (heap_view heap_seat.new) queue_seats.new) }
+    ensures calls { DeliversAll worker queues.now (heap_view heap_seat.old) queue_seats.old result
+        (heap_view heap_seat.new) queue_seats.new }
 {
     for _ in rt.forever() {
         match deliver_one(rt, heap, heap_seat, queues, queue_seats, worker) {

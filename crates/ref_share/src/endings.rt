@@ -1,7 +1,9 @@
 //! The ends of queues and of cleaners' tables, once their threads have ended: what is left in them is given up.
 
-ghost use Rattle.std.specs.Prelude.{◌≡◌, []};
-ghost use Rattle.ref_share.specs.Answers.{found, count_standing};
+ghost use Rattle.std.specs.Prelude.{◌≡◌, ℕ, [], Some};
+ghost use Rattle.ref_base.specs.declared.heap_step.HoldName.{HoldName};
+ghost use Rattle.ref_queue.specs.CleanTables.{job_of};
+ghost use Rattle.ref_share.specs.Answers.{found, count_standing, job_left_in};
 
 use ref_clear::Notice;
 use ref_objects::Hold;
@@ -32,14 +34,30 @@ pub fn end_queue<A: Allocator + Copy>(
 /// reference is given up, as by `end_queue`. Takes no memory but what the jobs take.
 pub fn run_jobs_left<A: Allocator + Copy>(
     finished: Result<CleanTable<Hold, Job, A>, Option<CleanTable<Hold, Job, A>>>,
-) {
-    if let Ok(mut table) | Err(Some(mut table)) = finished {
-        while let Some((_, hold, job)) = table.take_any() {
-            hold.leak();
-            job.run();
-        }
-        end_empty(table);
+)
+    ensures { (n : ℕ) (hold : HoldName) (job : _) → job_left_in (found finished) n ≡ Some (hold, job)
+        → (answer : ℕ)
+        × ⟦<Box<dyn FnOnce(u64) -> u64 + Send> as FnOnce(u64) -> u64>⟧.post job.action job.number answer }
+{
+    match finished {
+        Ok(table) => run_all(table),
+        Err(Some(table)) => run_all(table),
+        Err(None) => {}
     }
+}
+
+// Runs each job of the table, and ends it. That a job was run is told by what its action answered.
+fn run_all<A: Allocator + Copy>(table: CleanTable<Hold, Job, A>)
+    ensures { (n : ℕ) (hold : HoldName) (job : _) → job_of table n ≡ Some (hold, job)
+        → (answer : ℕ)
+        × ⟦<Box<dyn FnOnce(u64) -> u64 + Send> as FnOnce(u64) -> u64>⟧.post job.action job.number answer }
+{
+    let mut table = table;
+    while let Some((_, hold, job)) = table.take_any() {
+        hold.leak();
+        job.run();
+    }
+    end_empty(table);
 }
 
 // Ends a table where nothing is registered.

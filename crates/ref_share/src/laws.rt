@@ -2,7 +2,7 @@
 //! lists of steps, turn by turn.
 
 ghost use Rattle.std.specs.Prelude.{◌≡◌, ℕ, ◌+◌, ◌<◌, true, List, [], ◌∷◌, ◌++◌, length, Option, Some, None};
-ghost use Rattle.std.specs.Prelude.{nat_eq, slice_get};
+ghost use Rattle.std.specs.Prelude.{nat_eq, slice_get, Result};
 ghost use Rattle.std.specs.List.{AllByRecursion, IsDistinct};
 ghost use Rattle.ref_base.specs.CollectorRows.{IsLeft, doomed_at, referent_of, is_subsequence};
 ghost use Rattle.ref_base.specs.Collectors.{State};
@@ -34,6 +34,8 @@ ghost use Rattle.ref_world.specs.HeapReplies.{HeapAnswer};
 ghost use Rattle.ref_world.specs.declared.heap_machine.HeapReply.TheVariants.{Told};
 ghost use Rattle.ref_share.specs.CleanHistories.{some_registers, job_left};
 ghost use Rattle.ref_share.specs.CleanSeats.{Jobs, CleanEntry, IsCleanRun};
+ghost use Rattle.ref_share.specs.Cycles.{Cycles};
+ghost use Rattle.ref_share.specs.Deliveries.{DeliversAll};
 ghost use Rattle.ref_share.specs.HeapHistories.{minted, spent, spent_by};
 ghost use Rattle.ref_share.specs.HeapMachines.{IsHeapTurn};
 ghost use Rattle.ref_share.specs.HeapSeats.{HeapEntry, HeapSeat, HeapView, SharedHeap, heap_view};
@@ -43,7 +45,9 @@ ghost use Rattle.ref_base.specs.Told.{named_by};
 ghost use Rattle.ref_share.specs.QueueHistories.{KeepsLists, added_by_call, all_put_in, is_closed_after};
 ghost use Rattle.ref_share.specs.QueueSeats.{QueueEntry, QueueSeat, SharedQueue, IsQueueRun, queue_view};
 ghost use Rattle.ref_share.specs.QueueStates.{NoticeLists};
-ghost use Rattle.ref_share.specs.WorkerCalls.{KeepsPace, Works, notices_put, references_of};
+ghost use Rattle.ref_share.specs.WorkerCalls.{KeepsPace, Works, had_turn, notices_put, references_of};
+ghost use Rattle.ref_base.specs.declared.urgency.Urgency.{Urgency};
+ghost use Rattle.ref_share.specs.declared.answers.ShareFault.{ShareFault};
 ghost use Rattle.ref_share.specs.declared.clean_machine.CleanStep.TheVariants.{Take};
 ghost use Rattle.ref_share.specs.declared.clean_machine.CleanReply.TheVariants.{Taken};
 
@@ -185,6 +189,21 @@ pub fn each_worker_hands_on_in_its_clearing_order()
 pub fn each_queue_gets_what_a_worker_hands_on<A>()
     ensures { (k : ℕ) (queues : List (SharedQueue A)) (count : ℕ) (v w : HeapView) (seats after : List QueueSeat)
         → Works k queues count v seats w after → KeepsPace k queues v seats → KeepsPace k queues w after }
+{}
+
+/// A delivery of all that is pending is such work, while turns are left, whichever worker's it is.
+pub fn a_delivery_of_all_is_a_workers_work<A>()
+    ensures { (k worker : ℕ) (queues : List (SharedQueue A)) (v w : HeapView) (seats after : List QueueSeat)
+        (result : Result (Unit {0}) ShareFault) → DeliversAll worker queues v seats result w after
+        → had_turn result ≡ true → (count : ℕ) × Works k queues count v seats w after }
+{}
+
+/// And a whole cycle is, wherever it stops: it hands on nothing but by its deliveries, and puts nothing else in.
+pub fn a_cycle_is_a_workers_work<A>()
+    ensures { (k worker now : ℕ) (urgency : Urgency) (queues : List (SharedQueue A)) (v w : HeapView)
+        (seats after : List QueueSeat) (result : Result (Unit {0}) ShareFault)
+        → Cycles queues worker now urgency v seats result w after
+        → had_turn result ≡ true → (count : ℕ) × Works k queues count v seats w after }
 {}
 
 /// So what it puts into a queue comes in the order in which the worker cleared it.

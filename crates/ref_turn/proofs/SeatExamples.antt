@@ -105,6 +105,7 @@ it_ends_with_15 = (
   ([], refl),
   refl,
   λ a x is stands. (15, led a x is stands, refl),
+  omega arith,
 )
 
 -- a count only grows

@@ -29,13 +29,15 @@ module _ {M S R : Type 0} where
   abbrev pub IsHistory : {X : Type 0} → (M → X → Type 0) → (X → S → R → X → Type 0) → View M S R → Type 0
   IsHistory stands_for steps_to w = IsLegalLog stands_for steps_to w.start w.seen × (calls_by w.number w.seen ≡ w.mine)
 
-  -- a machine stands for a state after some history that begins with what was seen, and has no further own call
+  -- a machine stands for a state after some history that begins with what was seen, has no further own call, and has
+  -- no more calls than there are tickets
   abbrev pub EndsAs : {X : Type 0} → (M → X → Type 0) → (X → S → R → X → Type 0) → View M S R → M → Type 0
   EndsAs stands_for steps_to v m =
       (log : List (Entry S R))
       × StartsWith log v.seen
       × (calls_by v.number log ≡ v.mine)
       × Reaches stands_for steps_to v.start log m
+      × (v.first + length log < 2 ^ 64)
 
   -- it looked at the ended turns in this call, and more tickets were drawn than turns had ended, but not the last
   abbrev pub SawBusy : View M S R → View M S R → Type 0

@@ -1,5 +1,12 @@
-use Rattle.ref_share.proofs.Common.{AreSeats, IsHeapSeat}
+use Rattle.ref_share.proofs.Common.{ℕ, AreSeats, IsHeapSeat, heap_view}
+use Rattle.ref_share.specs.Deliveries.{DeliversOne}
+use Rattle.ref_share.specs.Repeats.{Repeats}
 use Rattle.ref_share.proofs.delivery.deliver_all.Given as goal
 
+-- so many notices were delivered
 abbrev pub invariant-loop : goal.invariant-loop
-invariant-loop g l = IsHeapSeat l.heap l.heap_seat × AreSeats l.queues l.queue_seats
+invariant-loop g l = record {
+  seats : IsHeapSeat l.heap l.heap_seat × AreSeats l.queues l.queue_seats;
+  delivered : (count : ℕ) × Repeats (DeliversOne l.worker l.queues) count
+      (heap_view l.fn.heap_seat, l.fn.queue_seats) (heap_view l.heap_seat, l.queue_seats);
+}
