@@ -92,6 +92,14 @@ impl<K, J, A: Allocator + Copy> CleanTable<K, J, A> {
         self.jobs.swap_remove(&object)
     }
 
+    /// Whether the object has a job. Also of a closed table. In expected constant time. Takes no memory.
+    #[inline(always)]
+    pub fn has(&self, object: ObjNo) -> bool
+        ensures { result ≡ is_some (job_of self.now object) }
+    {
+        self.jobs.contains_key(&object)
+    }
+
     /// Takes any job out, with its object and what was kept beside it; none where the table is empty. So a table is
     /// emptied before it is ended. In expected constant time. Takes no memory.
     pub fn take_any(&mut self) -> Option<(ObjNo, K, J)>

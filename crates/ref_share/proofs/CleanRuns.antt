@@ -1,5 +1,6 @@
 -- The history of a cleaner: which job stands in its table is told by its entries.
-use Rattle.ref_share.proofs.Common.{arith, ◌≡◌, ℕ, true, List, [], ◌∷◌, ◌++◌, Option, Some, None, Ok, Err, refl, ap}
+use Rattle.std.proofs.Common.{is_some}
+use Rattle.ref_share.proofs.Common.{arith, ◌≡◌, ℕ, Bool, true, List, [], ◌∷◌, ◌++◌, Option, Some, None, Ok, Err, refl, ap}
 use Rattle.ref_share.proofs.Common.{◌∙◌, new_registry, Leads, entry, Entry}
 use Rattle.std.specs.Cmp.{nat_eq_equiv}
 use Rattle.ref_share.specs.CleanMachines.{IsCleanTurn}
@@ -20,9 +21,9 @@ module _ {K J : Type 0} (n : ℕ) where
   turn_leaves t u (steps.Register m kept job) (replies.Registered (Ok _)) turn = turn.1.0 n
   turn_leaves t u (steps.Register m kept job) (replies.Registered (Err (fault, kept_back, job_back))) turn =
       ap (λ (r : Registry K J). job_of r n) turn.3
-  turn_leaves t u (steps.Register m kept job) (replies.Taken taken) turn = absurd turn
   turn_leaves t u (steps.Take m) (replies.Taken taken) turn = turn.1.0 n
-  turn_leaves t u (steps.Take m) (replies.Registered answer) turn = absurd turn
+  turn_leaves t u (steps.Has m) (replies.Looked answer) turn = ap (λ (r : Registry K J). job_of r n) turn.1
+  turn_leaves t u step reply turn = absurd turn
 
   run_leaves : (t u : Registry K J) (calls : List (Entry (CleanStep K J) (CleanReply K J)))
       → Leads IsCleanTurn t calls u → job_of u n ≡ job_left n (job_of t n) calls
@@ -49,6 +50,12 @@ module _ {K J : Type 0} where
       → IsCleanRun (front ++ entry by (steps.Take n) (replies.Taken taken) ∷ back) last
       → taken ≡ job_left n None front
   take_gives_what_is_left front back by n taken last run = grind (arith, leads_cut, job_is_left)
+
+  -- a look tells whether they left one
+  pub look_tells_what_is_left : (front back : List (Entry (CleanStep K J) (CleanReply K J))) (by n : ℕ) (answer : Bool)
+      (last : Registry K J) → IsCleanRun (front ++ entry by (steps.Has n) (replies.Looked answer) ∷ back) last
+      → answer ≡ is_some (job_left n None front)
+  look_tells_what_is_left front back by n answer last run = grind (arith, leads_cut, job_is_left)
 
   -- between two takes that gave a job stands a register
   pub registered_between : (front between back : List (Entry (CleanStep K J) (CleanReply K J))) (by later n : ℕ)

@@ -1,12 +1,15 @@
 -- What `register`, `clean` and a cleaner's thread may have called, and what not: the job 30 of reference 2, whose
 -- notice comes once its object is gone.
-use Rattle.ref_share.proofs.Common.{◌≡◌, ℕ, List, [], ◌∷◌, Option, Some, None, Ok, true, inl, inr, refl, ap, ◌+◌, map}
+use Rattle.ref_share.proofs.Common.{◌≡◌, ℕ, length, length-append, List, [], ◌∷◌, Option, Some, None, Ok, true}
+use Rattle.ref_share.proofs.Common.{false, inl, inr, refl, ap, ◌+◌, map}
 use Rattle.ref_share.proofs.Common.{arith, Cycle, HoldName, ClearHeap, HeldNotice, new_registry, entry, Entry, Idle}
 use Rattle.ref_share.proofs.Common.{View, new_queue, Round, all_of, jobs_run, takes_in, CleanView, CleanEntry}
 use Rattle.ref_share.proofs.Common.{makes_phantom, CleansDead, HeapView, HeapEntry, QueueView, QueueEntry, Releases}
 use Rattle.ref_queue.specs.declared.job.Ran.{Ran}
 use Rattle.ref_share.specs.CleanLoops.{GoesRound, GoesOn}
-use Rattle.ref_share.specs.Cleanings.{RegistersJob, CleansNow}
+use Rattle.ref_queue.specs.CleanTables.{Registry}
+use Rattle.ref_share.specs.CleanMachines.{IsCleanTurn}
+use Rattle.ref_share.specs.Cleanings.{RegistersJob, RegistersApart, CleansNow, Unregisters, LooksOnce}
 use Rattle.ref_share.specs.declared.answers.Cleaned.TheVariants.{Gone, Ran as DidRun}
 use Rattle.ref_base.specs.declared.heap_step.HeapStep.TheVariants as heap
 use Rattle.ref_base.specs.declared.plain_step.PlainStep.TheVariants as plain
@@ -52,11 +55,25 @@ taken = entry 0 (steps.Take 2) (answers.Taken (Some (hold, 30)))
 abbrev none_taken : CleanEntry ℕ
 none_taken = entry 0 (steps.Take 2) (answers.Taken None)
 
+abbrev looked : CleanEntry ℕ
+looked = entry 0 (steps.Has 2) (answers.Looked true)
+
+-- nothing stands in a new table, whatever is looked for
+none_stands : (n : ℕ) → IsCleanTurn {K = HoldName} {J = ℕ} new_registry (steps.Has n) (answers.Looked false) new_registry
+none_stands n = (refl, refl)
+
+stands_in_a_new_table : (n : ℕ) (t : Registry HoldName ℕ)
+    → ¬ (IsCleanTurn new_registry (steps.Has n) (answers.Looked true) t)
+stands_in_a_new_table n t is = let no = is.0 in absurd cc
+
 abbrev makes : HeapEntry
 makes = entry 0 (heap.Plain (makes_phantom 0 0 1 2)) (replies.Told (told.Object 2))
 
 abbrev holds : HeapEntry
 holds = entry 0 (heap.Hold 0 2) (replies.Held hold)
+
+abbrev drops : HeapEntry
+drops = entry 0 (heap.Plain (plain.Drop 0 2)) (replies.Told told.Done)
 
 abbrev releases : HeapEntry
 releases = entry 0 (heap.Release hold) (replies.Told told.Done)
@@ -100,6 +117,33 @@ module _ (start : Option ClearHeap) where
       (calls_of (makes ∷ holds ∷ [])) (table (registered ∷ [])))
   told_by_another_number is = grind arith
 
+  -- ---- register apart
+
+  it_is_registered_apart : RegistersApart 30 (table []) 0 0 1 2 (calls_of []) (Ok (record { obj = 2 }))
+      (calls_of (makes ∷ holds ∷ drops ∷ [])) (table (registered ∷ []))
+  it_is_registered_apart = (
+    hold,
+    refl,
+    (
+      calls_of (makes ∷ holds ∷ []),
+      (
+        calls_of (makes ∷ []),
+        (told.Object 2, refl, ((refl, refl, refl), ([], refl), refl)),
+        ((refl, refl, refl), ([], refl), refl),
+      ),
+      (told.Done, refl, ((refl, refl, refl), ([], refl), refl)),
+    ),
+    ((refl, refl, refl), ([], refl), refl),
+  )
+
+  left_in_its_slot : ¬ (RegistersApart 30 (table []) 0 0 1 2 (calls_of []) (Ok (record { obj = 2 }))
+      (calls_of (makes ∷ holds ∷ [])) (table (registered ∷ [])))
+  left_in_its_slot is =
+      let first = ap length is.2.1.1.2.2 in
+      let second = ap length is.2.1.2.2 in
+      let third = ap length is.2.2.2.2 in
+      absurd (omega (arith, first, second, third, length-append {A = HeapEntry}))
+
   -- ---- clean
 
   it_ran : CleansNow ran_of 2 0 5 (calls_of []) (table []) (Ok (DidRun (record { number = 30; answer = 1030 }) None))
@@ -131,6 +175,27 @@ module _ (start : Option ClearHeap) where
 
   gone_without_a_look : (w : HeapView) → ¬ (CleansNow ran_of 2 0 5 (calls_of []) (table []) (Ok Gone) w (table []))
   gone_without_a_look w is = let none = is.0.2 in absurd cc
+
+  -- ---- unregister
+
+  its_job_came_out : Unregisters 2 (calls_of []) (table []) (Ok (Some (30, None))) (calls_of (releases ∷ []))
+      (table (taken ∷ []))
+  its_job_came_out = (hold, ((refl, refl, refl), ([], refl), refl), ((refl, refl, refl), ([], refl), refl))
+
+  left_in_the_table : (w : HeapView) → ¬ (Unregisters 2 (calls_of []) (table []) (Ok (Some (30, None))) w (table []))
+  left_in_the_table w is = let none = is.1.2 in absurd cc
+
+  out_with_its_hold_dropped : (d : CleanView ℕ)
+      → ¬ (Unregisters 2 (calls_of []) (table []) (Ok (Some (30, None))) (calls_of []) d)
+  out_with_its_hold_dropped d is = let none = is.2.2 in absurd cc
+
+  -- ---- a look
+
+  it_stands : LooksOnce (table (registered ∷ [])) 2 (Ok true) (table (registered ∷ looked ∷ []))
+  it_stands = ((refl, refl, refl), ([], refl), refl)
+
+  stands_without_a_look : ¬ (LooksOnce (table []) 2 (Ok true) (table []))
+  stands_without_a_look is = let none = is.2 in absurd cc
 
   -- ---- a cleaner's thread
 

@@ -44,6 +44,26 @@ module _ (queue m src dst : ℕ) (v : HeapView) where
       Declined v (makes_phantom queue m src dst) fault w
       ⊎ ((u : HeapView) × Accepted v (makes_phantom queue m src dst) u × HoldsSlot u m dst (Err fault) w)
 
+-- The hold that was taken before this refusal goes back to the heap, and the fault is that refusal. Or it comes back to
+-- the caller where the heap doesn't take it.
+abbrev pub TakesBack : HeapView → HoldName → Fault → ShareFault → HeapView → Type 0
+TakesBack v hold refused (Refused fault) w = (fault ≡ refused) × Releases v hold (Ok tt) w
+TakesBack v hold refused (Held kept fault) w = Releases v hold (Err (fault, kept)) w
+TakesBack v hold refused fault w = ⊥
+
+module _ (queue m src dst : ℕ) (v : HeapView) where
+  -- the reference was made, and a hold of it taken; and then `dst` was emptied, so that it is in no slot
+  abbrev pub HasMadeApart : HoldName → HeapView → Type 0
+  HasMadeApart hold w = (u : HeapView) × HasMade queue m src dst v hold u × Accepted u (plain.Drop m dst) w
+
+  -- The reference was not made, or its hold was not taken. Or `dst` was not emptied, and the hold is given back. In
+  -- each case the reference stays in `dst` if it was made.
+  abbrev pub HasNotMadeApart : ShareFault → HeapView → Type 0
+  HasNotMadeApart fault w =
+      ((refused : Fault) × (fault ≡ Refused refused) × HasNotMade queue m src dst v refused w)
+      ⊎ ((hold : HoldName) × (u : HeapView) × (x : HeapView) × (refused : Fault) × HasMade queue m src dst v hold u
+      × Declined u (plain.Drop m dst) refused x × TakesBack x hold refused fault w)
+
 module _ {J : Type 0} (job : J) (c : CleanView J) where
   -- the hold and the job go into the table
   abbrev pub Enters : HoldName → CleanView J → Type 0
@@ -79,7 +99,19 @@ module _ {J : Type 0} (job : J) (c : CleanView J) where
         × StaysOut hold refused d × Releases u hold (Err (fault, kept)) w)
     RegistersJob (Err (fault, back)) w d = ⊥
 
--- ---- clean
+    -- A register apart: the reference is made, a hold of it is taken, the slot that it was made in is emptied, and hold
+    -- and job go into the table. Each is called unless the one before is refused. Where the slot isn't emptied, or the
+    -- table doesn't take the hold, the hold is given back.
+    abbrev pub RegistersApart : Result Cleanable (ShareFault × J) → HeapView → CleanView J → Type 0
+    RegistersApart (Ok cleanable) w d =
+        (hold : HoldName) × (cleanable.obj ≡ hold.object) × HasMadeApart queue m src dst v hold w × Enters hold d
+    RegistersApart (Err (fault, back)) w d =
+        (back ≡ job)
+        × ((HasNotMadeApart queue m src dst v fault w × (d ≡ c))
+        ⊎ ((hold : HoldName) × (u : HeapView) × (refused : Fault) × HasMadeApart queue m src dst v hold u
+        × StaysOut hold refused d × TakesBack u hold refused fault w))
+
+-- ---- clean, unregister, and a look
 
 -- the object's job is taken, or there is none
 abbrev pub TakesJob : {J : Type 0} → CleanView J → ℕ → Option (HoldName × J) → CleanView J → Type 0
@@ -88,6 +120,7 @@ TakesJob c object taken d = Called c (steps.Take object) (answers.Taken taken) d
 -- what is told of a step of the table for which no turn is left
 abbrev pub IsWithoutTurn : {J : Type 0} → CleanStep HoldName J → ShareFault → Type 0
 IsWithoutTurn (steps.Take object) fault = fault ≡ Refused TurnsSpent
+IsWithoutTurn (steps.Has object) fault = fault ≡ Refused TurnsSpent
 IsWithoutTurn (steps.Register object hold job) fault = fault ≡ Held hold TurnsSpent
 
 -- the same; or no turn is left for it
@@ -95,6 +128,12 @@ abbrev pub TakesOnce : {J : Type 0} → CleanView J → ℕ → Result (Option (
 TakesOnce c object (Ok taken) d = TakesJob c object taken d
 TakesOnce c object (Err (Refused TurnsSpent)) d = RanOut c d
 TakesOnce c object result d = ⊥
+
+-- the table is asked whether the object has a job, and answers so; or no turn is left for it
+abbrev pub LooksOnce : {J : Type 0} → CleanView J → ℕ → Result Bool ShareFault → CleanView J → Type 0
+LooksOnce c object (Ok answer) d = Called c (steps.Has object) (answers.Looked answer) d
+LooksOnce c object (Err (Refused TurnsSpent)) d = RanOut c d
+LooksOnce c object result d = ⊥
 
 -- the step is the heap's one call, whatever it answers; or no turn is left for it
 abbrev pub Tries : HeapView → PlainStep → HeapView → Type 0
@@ -120,6 +159,19 @@ module _ {J : Type 0} (ran_of : J → Ran) (object m dst : ℕ) (v : HeapView) (
       × Retires m dst v hold kept w
   CleansNow (Err (Refused TurnsSpent)) w d = RanOut c d × (w ≡ v)
   CleansNow result w d = ⊥
+
+module _ {J : Type 0} (object : ℕ) (v : HeapView) (c : CleanView J) where
+  -- an unregister: the job is taken out, if there is one, and comes to the caller; the hold of its reference goes back
+  -- to the heap, or to the caller where the heap doesn't take it
+  abbrev pub Unregisters : Result (Option (J × Option HoldName)) ShareFault → HeapView → CleanView J → Type 0
+  Unregisters (Ok None) w d = TakesJob c object None d × (w ≡ v)
+  Unregisters (Ok (Some (job, None))) w d =
+      (hold : HoldName) × TakesJob c object (Some (hold, job)) d × Releases v hold (Ok tt) w
+  Unregisters (Ok (Some (job, Some back))) w d =
+      (hold : HoldName) × (fault : Fault) × TakesJob c object (Some (hold, job)) d
+      × Releases v hold (Err (fault, back)) w
+  Unregisters (Err (Refused TurnsSpent)) w d = RanOut c d × (w ≡ v)
+  Unregisters result w d = ⊥
 
 -- ---- a cleaner's thread
 

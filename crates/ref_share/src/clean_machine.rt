@@ -12,6 +12,8 @@ pub enum CleanStep<K, J> {
     Register(ObjNo, K, J),
     /// Takes the object's job out.
     Take(ObjNo),
+    /// Looks whether the object has a job.
+    Has(ObjNo),
 }
 
 /// What a step of a table answers: just what the table's own call does.
@@ -20,6 +22,8 @@ pub enum CleanReply<K, J> {
     Registered(Result<(), (Fault, K, J)>),
     /// To a take.
     Taken(Option<(K, J)>),
+    /// To a look.
+    Looked(bool),
 }
 
 /// A cleaner's table, whose turns are its steps.
@@ -77,6 +81,7 @@ impl<K, J, A: Allocator + Copy> Machine for CleanMachine<K, J, A> {
                 CleanReply::Registered(self.table.register(object, kept, job))
             }
             CleanStep::Take(object) => CleanReply::Taken(self.table.take(object)),
+            CleanStep::Has(object) => CleanReply::Looked(self.table.has(object)),
         }
     }
 

@@ -1,12 +1,14 @@
 //! All that a program of one thread uses: a heap with one queue, and the cleaner that the queue tells what is gone.
 
-ghost use Rattle.std.specs.Prelude.{◌≡◌, ℕ, [], ◌∷◌, IfOk};
+ghost use Rattle.std.specs.Prelude.{◌≡◌, ℕ, [], ◌∷◌, Err, IfOk};
+ghost use Rattle.ref_base.specs.declared.fault.Fault.TheVariants.{NoSuchActor};
 ghost use Rattle.ref_base.specs.declared.plain_step.PlainStep.TheVariants.{New, Refer, Drop, RefersTo};
 ghost use Rattle.ref_base.specs.declared.urgency.Urgency.TheVariants.{Normal, Urgent};
 ghost use Rattle.ref_objects.specs.Grounds.{starting_refusal};
 ghost use Rattle.ref_share.specs.CleanSeats.{clean_view};
 ghost use Rattle.ref_share.specs.CleanedHeaps.{HasSeats, IsNewCleanedHeap, IsEnded};
-ghost use Rattle.ref_share.specs.Cleanings.{RegistersJob};
+ghost use Rattle.ref_share.specs.Cleanings.{CleansNow, IsOutside, LooksOnce, RegistersApart, Unregisters};
+ghost use Rattle.ref_share.specs.declared.answers.ShareFault.TheVariants.{Refused};
 ghost use Rattle.ref_share.specs.CleanLoops.{GoesOn};
 ghost use Rattle.ref_share.specs.Cycles.{Cycles};
 ghost use Rattle.ref_share.specs.HeapCalls.{Performs};
@@ -16,8 +18,8 @@ ghost use Rattle.ref_share.specs.SeatCalls.{MakesUnless};
 ghost use Rattle.ref_share.specs.WantsOfRoom.{DoesAfter};
 
 use crate::{
-    CleanMachine, Cleanable, Gate, HeapSeat, QueueSeat, SeatFor, ShareFault, Shared, SharedCleaner,
-    SharedHeap, SharedQueue, cycle, end_queue, make_or_collect, run_jobs_left,
+    CleanMachine, Cleanable, Cleaned, Gate, HeapSeat, QueueSeat, SeatFor, ShareFault, Shared,
+    SharedCleaner, SharedHeap, SharedQueue, cycle, end_queue, make_or_collect, run_jobs_left,
 };
 use ref_base::{
     Config, Fault, MutNo, PlainStep, QueueNo, Reply, SlotNo, Strength, Urgency, WorkerNo,
@@ -38,14 +40,15 @@ const WORKER: WorkerNo = WorkerNo(0);
 /// thread. That thread is mutator 0, and worker 0 where it collects. It must be ended by `end`, since the holds in
 /// queue and cleaner must be given up.
 ///
-/// Calls that it has not are made of its parts, as `heap.heap.hold(rt, &mut heap.heap_seat, mutator, slot)`.
+/// Calls of the heap that it has not are made of its parts, as `heap.heap.hold(rt, &mut heap.heap_seat, mutator, slot)`.
+/// Queue and cleaner are its own: no call polls the queue but the cleaner's, so that no notice is lost to another.
 pub struct CleanedHeap<J = Job> {
     pub heap: SharedHeap,
     pub heap_seat: HeapSeat,
-    pub queue: SharedQueue,
-    pub queue_seat: QueueSeat,
-    pub cleaner: Shared<CleanMachine<Hold, J>>,
-    pub clean_seat: SeatFor<CleanMachine<Hold, J>>,
+    pub(crate) queue: SharedQueue,
+    pub(crate) queue_seat: QueueSeat,
+    pub(crate) cleaner: Shared<CleanMachine<Hold, J>>,
+    pub(crate) clean_seat: SeatFor<CleanMachine<Hold, J>>,
 }
 
 impl CleanedHeap<Job> {
@@ -198,9 +201,9 @@ impl CleanedHeap<Job> {
         self.perform(rt, step)
     }
 
-    /// Registers a job for what the source slot holds, as `SharedCleaner::register`: it runs once, in a `clean_some`
-    /// after a cycle found the object dead. A reference to the object stays in the other slot, which can be used for
-    /// something else then.
+    /// Registers a job for what the source slot holds, as `SharedCleaner::register_apart`: it runs once, in a
+    /// `clean_some` after a cycle found the object dead, or before that by `clean`. The other slot is used on the way,
+    /// and is empty afterwards: what it held is let go.
     pub fn register<R: Wait>(
         &mut self,
         rt: &R,
@@ -210,7 +213,7 @@ impl CleanedHeap<Job> {
     ) -> Result<Cleanable, (ShareFault, Job)>
         requires { HasSeats self.old }
         ensures seats { HasSeats self.new }
-        ensures registers { RegistersJob job (clean_view self.old.clean_seat) self.old.cleaner.frame 0 source slot
+        ensures registers { RegistersApart job (clean_view self.old.clean_seat) self.old.cleaner.frame 0 source slot
             (heap_view self.old.heap_seat) result (heap_view self.new.heap_seat) (clean_view self.new.clean_seat) }
         ensures others { self.new ≡ record self.old {
             heap_seat = self.new.heap_seat; clean_seat = self.new.clean_seat } }
@@ -222,7 +225,77 @@ impl CleanedHeap<Job> {
             clean_seat,
             ..
         } = self;
-        cleaner.register(rt, clean_seat, heap, heap_seat, MUTATOR, source, slot, job)
+        cleaner.register_apart(rt, clean_seat, heap, heap_seat, MUTATOR, source, slot, job)
+    }
+
+    /// Runs the job now, as `SharedCleaner::clean`, unless it was taken before. The slot is used on the way, and is empty
+    /// afterwards, as far as turns are left: what it held is let go.
+    pub fn clean<R: Wait>(
+        &mut self,
+        rt: &R,
+        slot: SlotNo,
+        cleanable: Cleanable,
+    ) -> Result<Cleaned, ShareFault>
+        requires { HasSeats self.old }
+        ensures seats { HasSeats self.new }
+        ensures others { self.new
+            ≡ record self.old { heap_seat = self.new.heap_seat; clean_seat = self.new.clean_seat } }
+        ensures outside { IsOutside self.old.heap.frame.config 0 slot → (result ≡ Err (Refused NoSuchActor))
+            × (clean_view self.new.clean_seat ≡ clean_view self.old.clean_seat)
+            × (heap_view self.new.heap_seat ≡ heap_view self.old.heap_seat) }
+        ensures cleans { ¬ (IsOutside self.old.heap.frame.config 0 slot)
+            → CleansNow (λ job. record { number = job.number; answer = job.note }) cleanable.obj 0 slot
+            (heap_view self.old.heap_seat) (clean_view self.old.clean_seat) result (heap_view self.new.heap_seat)
+            (clean_view self.new.clean_seat) }
+    {
+        let CleanedHeap {
+            heap,
+            heap_seat,
+            cleaner,
+            clean_seat,
+            ..
+        } = self;
+        cleaner.clean(rt, clean_seat, heap, heap_seat, MUTATOR, slot, cleanable)
+    }
+
+    /// Takes the job out, and doesn't run it, as `SharedCleaner::unregister`: it never runs then. None where it was taken
+    /// before.
+    pub fn unregister<R: Wait>(
+        &mut self,
+        rt: &R,
+        cleanable: Cleanable,
+    ) -> Result<Option<(Job, Option<Hold>)>, ShareFault>
+        requires { HasSeats self.old }
+        ensures seats { HasSeats self.new }
+        ensures others { self.new
+            ≡ record self.old { heap_seat = self.new.heap_seat; clean_seat = self.new.clean_seat } }
+        ensures unregisters { Unregisters cleanable.obj (heap_view self.old.heap_seat)
+            (clean_view self.old.clean_seat) result (heap_view self.new.heap_seat) (clean_view self.new.clean_seat) }
+    {
+        let CleanedHeap {
+            heap,
+            heap_seat,
+            cleaner,
+            clean_seat,
+            ..
+        } = self;
+        cleaner.unregister(rt, clean_seat, heap, heap_seat, cleanable)
+    }
+
+    /// Whether the job is still registered, as `SharedCleaner::is_registered`.
+    pub fn is_registered<R: Wait>(
+        &mut self,
+        rt: &R,
+        cleanable: Cleanable,
+    ) -> Result<bool, ShareFault>
+        requires { HasSeats self.old }
+        ensures seats { HasSeats self.new }
+        ensures others { self.new ≡ record self.old { clean_seat = self.new.clean_seat } }
+        ensures looks { LooksOnce (clean_view self.old.clean_seat) cleanable.obj result
+            (clean_view self.new.clean_seat) }
+    {
+        self.cleaner
+            .is_registered(rt, &mut self.clean_seat, cleanable)
     }
 
     /// One whole cycle, as `cycle`, by worker 0: what it finds dead is cleared, told to its queue, and freed.

@@ -1,4 +1,4 @@
-//! Registering a job with a cleaner, and cleaning by hand.
+//! Registering a job with a cleaner, taking it out again, and cleaning by hand.
 
 ghost use Rattle.std.specs.Prelude.{◌≡◌, Err, IfOk, IfErr};
 ghost use Rattle.ref_base.specs.declared.fault.Fault.TheVariants.{NoSuchActor};
@@ -6,6 +6,7 @@ ghost use Rattle.ref_share.specs.declared.answers.ShareFault.TheVariants.{Refuse
 ghost use Rattle.ref_share.specs.CleanSeats.{clean_view, IsCleanSeat};
 ghost use Rattle.ref_share.specs.Cleanings.{RegistersJob, HasMade, HasNotMade, EntersOnce};
 ghost use Rattle.ref_share.specs.Cleanings.{CleansNow, TakesOnce, IsOutside, IsWithoutTurn, Retires};
+ghost use Rattle.ref_share.specs.Cleanings.{Unregisters, LooksOnce};
 ghost use Rattle.ref_share.specs.HeapSeats.{heap_view, IsHeapSeat};
 
 use crate::{
@@ -28,6 +29,10 @@ impl<A: Allocator + Copy> SharedCleaner<A> {
     /// the two, with those of `CleanTable::register`, or `TurnsSpent` where heap or table has no turn left; the job
     /// comes back. Where the table refuses, the reference stays in `slot` and its hold was released by one more turn of
     /// the heap, or it is `Held` where the heap has no turn left for that. Only the table takes memory.
+    ///
+    /// While the slot holds the reference, an `enqueue` of that slot reports it, and then the job runs **though its
+    /// object lives**; after a `clear` of it nothing reports it, and the job runs by `clean` alone. `register_apart`
+    /// leaves it in no slot.
     ///
     /// By the caller: a cleaner is used with one heap, and no other call uses the mutator meanwhile.
     pub fn register<R: Wait>(
@@ -102,8 +107,59 @@ impl<A: Allocator + Copy> SharedCleaner<A> {
         }
     }
 
+    /// Takes the job out, and doesn't run it: it never runs by this cleaner then, neither by `clean` nor once its object
+    /// is gone. None where it was taken before. What its action would have done is left to the caller, as where a file
+    /// was closed by hand. As `PhantomCleanable.clear` of OpenJDK 17.
+    ///
+    /// Two turns at most: one of the table, which gives the job out, and one of the heap, by which the hold of its
+    /// reference is released. Where the heap has no turn left or doesn't count the hold, it comes back beside the job.
+    /// `Refused(TurnsSpent)` where the table has no turn left: then the job stays. Takes no memory.
+    pub fn unregister<R: Wait>(
+        &self,
+        rt: &R,
+        seat: &mut CleanSeat<A>,
+        heap: &SharedHeap<A>,
+        heap_seat: &mut HeapSeat<A>,
+        cleanable: Cleanable,
+    ) -> Result<Option<(Job, Option<Hold>)>, ShareFault>
+        requires { IsCleanSeat self.now seat.old × IsHeapSeat heap.now heap_seat.old }
+        ensures seat { IsCleanSeat self.now seat.new }
+        ensures heap_seat { IsHeapSeat heap.now heap_seat.new }
+        ensures unregisters { Unregisters cleanable.obj (heap_view heap_seat.old) (clean_view seat.old) result
+            (heap_view heap_seat.new) (clean_view seat.new) }
+    {
+        let Some((hold, job)) = self.take(rt, seat, cleanable.obj)? else {
+            return Ok(None);
+        };
+        match heap.release(rt, heap_seat, hold) {
+            Ok(()) => Ok(Some((job, None))),
+            Err((_fault, hold)) => Ok(Some((job, Some(hold)))),
+        }
+    }
+
+    /// Whether the job stands in the table in the turn of this call: whether it was taken neither by `clean`, nor by
+    /// `unregister`, nor by a cleaner's thread. Where threads share the cleaner, another may take it right afterwards.
+    ///
+    /// One turn of the table. `Refused(TurnsSpent)` where it has none left. Takes no memory.
+    pub fn is_registered<R: Wait>(
+        &self,
+        rt: &R,
+        seat: &mut CleanSeat<A>,
+        cleanable: Cleanable,
+    ) -> Result<bool, ShareFault>
+        requires { IsCleanSeat self.now seat.old }
+        ensures seat { IsCleanSeat self.now seat.new }
+        ensures looks { LooksOnce (clean_view seat.old) cleanable.obj result (clean_view seat.new) }
+    {
+        match self.step(rt, seat, CleanStep::Has(cleanable.obj)) {
+            Ok(CleanReply::Looked(answer)) => Ok(answer),
+            Err(TurnFault::Busy(step) | TurnFault::Spent(step)) => Err(without_turn(step)),
+            _answer => unreachable!(),
+        }
+    }
+
     // Registers the job in the table, with a hold of its reference.
-    fn enter<R: Wait>(
+    pub(crate) fn enter<R: Wait>(
         &self,
         rt: &R,
         seat: &mut CleanSeat<A>,
@@ -137,6 +193,7 @@ impl<A: Allocator + Copy> SharedCleaner<A> {
         match self.step(rt, seat, CleanStep::Take(object)) {
             Ok(CleanReply::Taken(taken)) => Ok(taken),
             Ok(CleanReply::Registered(_answer)) => unreachable!(),
+            Ok(CleanReply::Looked(_answer)) => unreachable!(),
             Err(TurnFault::Busy(step) | TurnFault::Spent(step)) => Err(without_turn(step)),
         }
     }
@@ -147,13 +204,13 @@ fn without_turn(step: CleanStep<Hold, Job>) -> ShareFault
     ensures { IsWithoutTurn step result }
 {
     match step {
-        CleanStep::Take(_) => ShareFault::Refused(Fault::TurnsSpent),
+        CleanStep::Take(_) | CleanStep::Has(_) => ShareFault::Refused(Fault::TurnsSpent),
         CleanStep::Register(_, hold, _job) => ShareFault::Held(hold, Fault::TurnsSpent),
     }
 }
 
 // Makes a phantom reference in the slot to what the source holds, and gives a hold of it.
-fn refer<R: Wait, A: Allocator + Copy>(
+pub(crate) fn refer<R: Wait, A: Allocator + Copy>(
     rt: &R,
     heap: &SharedHeap<A>,
     seat: &mut HeapSeat<A>,

@@ -2,7 +2,7 @@
 //! lists of steps, turn by turn.
 
 ghost use Rattle.std.specs.Prelude.{◌≡◌, ℕ, ◌+◌, ◌<◌, true, List, [], ◌∷◌, ◌++◌, length, Option, Some, None};
-ghost use Rattle.std.specs.Prelude.{nat_eq, slice_get, Result};
+ghost use Rattle.std.specs.Prelude.{Bool, is_some, nat_eq, slice_get, Result};
 ghost use Rattle.std.specs.List.{AllByRecursion, IsDistinct};
 ghost use Rattle.ref_base.specs.CollectorRows.{IsLeft, doomed_at, referent_of, is_subsequence};
 ghost use Rattle.ref_base.specs.Collectors.{State};
@@ -48,8 +48,8 @@ ghost use Rattle.ref_share.specs.QueueStates.{NoticeLists};
 ghost use Rattle.ref_share.specs.WorkerCalls.{KeepsPace, Works, had_turn, notices_put, references_of};
 ghost use Rattle.ref_base.specs.declared.urgency.Urgency.{Urgency};
 ghost use Rattle.ref_share.specs.declared.answers.ShareFault.{ShareFault};
-ghost use Rattle.ref_share.specs.declared.clean_machine.CleanStep.TheVariants.{Take};
-ghost use Rattle.ref_share.specs.declared.clean_machine.CleanReply.TheVariants.{Taken};
+ghost use Rattle.ref_share.specs.declared.clean_machine.CleanStep.TheVariants.{Take, Has};
+ghost use Rattle.ref_share.specs.declared.clean_machine.CleanReply.TheVariants.{Taken, Looked};
 
 /// After every history of a queue its lists are those of the entries: what was taken, followed by what stands, is what
 /// was put in, in order; nothing was put in twice; and it is closed where an entry closed it.
@@ -226,6 +226,12 @@ pub fn each_object_has_the_job_that_its_history_left<J>()
 pub fn each_take_gives_the_job_that_was_left<J>()
     ensures { (front back : List (CleanEntry J)) (by n : ℕ) (taken : Option (HoldName × J)) (last : Jobs J)
         → IsCleanRun (front ++ entry by (Take n) (Taken taken) ∷ back) last → taken ≡ job_left n None front }
+{}
+
+/// And an entry of a look answers whether one was left.
+pub fn each_look_tells_whether_a_job_was_left<J>()
+    ensures { (front back : List (CleanEntry J)) (by n : ℕ) (answer : Bool) (last : Jobs J)
+        → IsCleanRun (front ++ entry by (Has n) (Looked answer) ∷ back) last → answer ≡ is_some (job_left n None front) }
 {}
 
 /// So in every history of a cleaner, between two takes that both gave a job of one object, one was registered for it:

@@ -8,6 +8,7 @@
 #![tactic(auto)]
 
 mod answers;
+mod apart;
 mod bell;
 mod clean_loop;
 mod clean_machine;
