@@ -27,8 +27,12 @@ pub mod CleanCalls
 pub mod JobsLeft
 pub mod CleanRounds
 pub mod CleanRuns
+pub mod SlotRuns
+pub mod ApartRuns
+pub mod ApartRounds
 mod HeapExamples
 mod QueueCallExamples
 mod DeliveryExamples
 mod CycleExamples
 mod CleanerExamples
+mod ApartExamples

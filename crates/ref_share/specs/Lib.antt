@@ -21,6 +21,7 @@ pub mod CleanMachines
 pub mod CleanSeats
 pub mod HeapCalls
 pub mod Answers
+pub mod ApartHistories
 pub mod CleanedHeaps
 pub mod Cleanings
 pub mod CleanLoops

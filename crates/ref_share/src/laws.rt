@@ -33,6 +33,9 @@ ghost use Rattle.ref_world.specs.HeapReplies.{told_reply};
 ghost use Rattle.ref_world.specs.HeapReplies.{HeapAnswer};
 ghost use Rattle.ref_world.specs.declared.heap_machine.HeapReply.TheVariants.{Told};
 ghost use Rattle.ref_share.specs.CleanHistories.{some_registers, job_left};
+ghost use Rattle.ref_share.specs.ApartHistories.{AreOfOneApart, IsApart, IsOfDeath, PutInNoSlot, RegisterOwn};
+ghost use Rattle.ref_share.specs.CleanLoops.{HasGone, Round};
+ghost use Rattle.ref_share.specs.CleanSeats.{CleanSeat, CleanView, SharedCleaner, clean_view, IsCleanSeat};
 ghost use Rattle.ref_share.specs.CleanSeats.{Jobs, CleanEntry, IsCleanRun};
 ghost use Rattle.ref_share.specs.Cycles.{Cycles};
 ghost use Rattle.ref_share.specs.Deliveries.{DeliversAll};
@@ -43,7 +46,7 @@ ghost use Rattle.ref_share.specs.HeapSeats.{IsHeapRun, IsHeapSeat};
 ghost use Rattle.ref_share.specs.HeapTraces.{HeapMarkEnded, handed_in, all_handed_on, notices_given, rows_of};
 ghost use Rattle.ref_base.specs.Told.{named_by};
 ghost use Rattle.ref_share.specs.QueueHistories.{KeepsLists, added_by_call, all_put_in, is_closed_after};
-ghost use Rattle.ref_share.specs.QueueSeats.{QueueEntry, QueueSeat, SharedQueue, IsQueueRun, queue_view};
+ghost use Rattle.ref_share.specs.QueueSeats.{QueueEntry, QueueSeat, QueueView, SharedQueue, IsQueueRun, queue_view};
 ghost use Rattle.ref_share.specs.QueueStates.{NoticeLists};
 ghost use Rattle.ref_share.specs.WorkerCalls.{KeepsPace, Works, had_turn, notices_put, references_of};
 ghost use Rattle.ref_base.specs.declared.urgency.Urgency.{Urgency};
@@ -213,6 +216,41 @@ pub fn each_queue_gets_it_in_the_workers_clearing_order<A>()
         → KeepsPace k queues (heap_view heap_seat) seats → q < length queues → slice_get seats q ≡ Some s
         → is_subsequence (references_of (notices_put k q (queue_view s).mine))
         (clearing_order (rows_of (heap_view heap_seat).seen) k q) ≡ true }
+{}
+
+/// After a history of a heap in which a reference was registered apart, among calls that neither put it into a slot nor
+/// give a hold of it, it is in no slot, and of it one hold was given.
+pub fn what_is_registered_apart_is_in_no_slot()
+    ensures { (config : Config) (number queue m src dst n : ℕ) (calls : List HeapEntry) (last : State)
+        → IsHeapRun config number calls last → AreOfOneApart queue m src dst n calls
+        → IsApart config number calls n }
+{}
+
+/// And as long as no call puts it into a slot again, as an adopt of a hold of it would, each notice of it that a call
+/// gives is of a cycle, whose mark ended before, where its referent was dead.
+pub fn nothing_but_a_death_is_told_of_what_is_apart()
+    ensures { (config : Config) (number n : ℕ) (front between back : List HeapEntry) (call : HeapEntry) (last : State)
+        → IsHeapRun config number ((front ++ between) ++ call ∷ back) last
+        → IsApart config number front n → PutInNoSlot n between
+        → AllByRecursion (λ notice. notice.hold.object ≡ n → IsOfDeath config number (front ++ between) notice)
+        (notices_given call.step call.reply) }
+{}
+
+/// So a job that a cleaner's thread took in one of its rounds, of a reference that was apart, in the heap's history, from
+/// some call on and was put into no slot since, is of an object that was dead at a mark's end: that end stands among the
+/// calls that the thread's seat of the heap has seen by then. For the thread gave two holds of the reference back, of the
+/// notice and of the job, and a cleaner that registers each job with a hold of its own reference had but one.
+pub fn a_job_of_what_is_apart_runs_once_its_object_was_found_dead<J, A>()
+    ensures { (heap : SharedHeap A) (seat : HeapSeat) (cleaner : SharedCleaner J A) (own : CleanSeat J)
+        (q last : QueueView) (v : HeapView) (c : CleanView J) (rounds : List (Round J)) (r : Round J) (i : ℕ)
+        (hold : HoldName) (job : J)
+        → IsHeapSeat heap seat → IsCleanSeat cleaner own → RegisterOwn (clean_view own).seen
+        → HasGone q v c rounds last (heap_view seat) (clean_view own) → slice_get rounds i ≡ Some r
+        → r.taken ≡ Some (hold, job) → (front back : List HeapEntry) → (heap_view seat).seen ≡ front ++ back
+        → IsApart heap.frame.config heap.frame.heap_no front r.notice.hold.object
+        → PutInNoSlot r.notice.hold.object back
+        → (cycle : ℕ) × HeapMarkEnded heap.frame.config heap.frame.heap_no (heap_view seat).seen cycle
+        r.notice.hold.object }
 {}
 
 /// After every history of a cleaner, whatever its jobs are, each object has the job that was registered for it last,
