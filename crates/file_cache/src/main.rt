@@ -8,7 +8,7 @@ ghost use Rattle.ref_share.specs.CleanedHeaps.{HasSeats};
 use anyhow::Error;
 use ref_base::{Config, Reply, SlotNo, SpanRule, Strength, Urgency};
 use ref_queue::{Action, Job, Ran};
-use ref_share::{CleanedHeap, Gate};
+use ref_share::{Cleanable, CleanedHeap, Gate};
 use std::collections::VecDeque;
 use std::fs::File;
 use std::sync::Wait;
@@ -25,10 +25,7 @@ const CONFIG: Config = Config {
 /// The slots below this have the values, those from here on the weak references to them.
 const KEYS: u32 = 4;
 
-/// The slot that the cleaner's references are made in.
-const SPARE: SlotNo = SlotNo(14);
-
-/// A slot that stays empty.
+/// A slot that is empty between calls: a register uses one on the way.
 const EMPTY: SlotNo = SlotNo(15);
 
 /// Prints which files are closed.
@@ -66,8 +63,8 @@ fn main(rt: HostRuntime) -> Result<(), Error> {
     used
 }
 
-/// Adds an entry for each job, and lets the values of the odd keys go. Then it closes the files of what a cycle finds
-/// dead, and prints which values are left.
+/// Adds an entry for each job, closes the file of key 0 by hand, and lets the values of the odd keys go. Then it closes
+/// the files of what a cycle finds dead, and prints which values are left.
 fn use_cache<R: Print + Wait>(
     rt: &R,
     heap: &mut CleanedHeap,
@@ -76,7 +73,8 @@ fn use_cache<R: Print + Wait>(
     requires { HasSeats heap.old }
     ensures { HasSeats heap.new }
 {
-    fill(rt, heap, jobs)?;
+    let first = fill(rt, heap, jobs)?;
+    close(rt, heap, first)?;
     heap.empty(rt, SlotNo(1))?;
     heap.empty(rt, SlotNo(3))?;
     heap.cycle(rt, 0, Urgency::Normal)
@@ -86,22 +84,55 @@ fn use_cache<R: Print + Wait>(
     tell(rt, heap)
 }
 
-/// Makes a value for each job, with a weak reference to it, and registers the job.
-fn fill<R: Wait>(rt: &R, heap: &mut CleanedHeap, mut jobs: VecDeque<Job>) -> Result<(), Error>
+/// Makes a value for each job, with a weak reference to it, and registers the job. The first of them can be closed by
+/// what is returned.
+fn fill<R: Wait>(
+    rt: &R,
+    heap: &mut CleanedHeap,
+    mut jobs: VecDeque<Job>,
+) -> Result<Option<Cleanable>, Error>
     requires { HasSeats heap.old }
     ensures { HasSeats heap.new }
 {
+    let mut first = None;
     for key in 0..KEYS {
         let Some(job) = jobs.pop_front() else {
             break;
         };
         heap.make(rt, SlotNo(key), 0)?;
         heap.refer(rt, Strength::Weak, SlotNo(KEYS + key), SlotNo(key), None)?;
-        if let Err((fault, _job)) = heap.register(rt, SlotNo(key), SPARE, job) {
-            return Err(fault.into_fault().into());
+        match heap.register(rt, SlotNo(key), EMPTY, job) {
+            Ok(cleanable) if key == 0 => first = Some(cleanable),
+            Ok(_cleanable) => {}
+            Err((fault, _job)) => return Err(fault.into_fault().into()),
         }
     }
-    heap.empty(rt, SPARE)?;
+    Ok(first)
+}
+
+/// Closes a file by hand, if there is one: its job comes out of the cleaner, and is dropped with the file. So it is not
+/// closed again.
+fn close<R: Print + Wait>(
+    rt: &R,
+    heap: &mut CleanedHeap,
+    first: Option<Cleanable>,
+) -> Result<(), Error>
+    requires { HasSeats heap.old }
+    ensures { HasSeats heap.new }
+{
+    let Some(cleanable) = first else {
+        return Ok(());
+    };
+    let out = heap
+        .unregister(rt, cleanable)
+        .map_err(|fault| fault.into_fault())?;
+    let Some((job, back)) = out else {
+        return Ok(());
+    };
+    if let Some(hold) = back {
+        hold.leak();
+    }
+    println!(rt; "file {} is closed by hand", job.number())?;
     Ok(())
 }
 
