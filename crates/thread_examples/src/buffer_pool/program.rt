@@ -16,8 +16,9 @@ const PROGRAM: MutNo = MutNo(0);
 /// The queue by which the program learns what it lost.
 const LOST: QueueNo = QueueNo(0);
 
-/// The slot that the references of cleaners are made in, and cleaned by. Those before it have the buffers' objects.
-const REFERENCE: SlotNo = SlotNo(BUFFERS);
+/// A slot that is empty between calls: jobs are registered and cleaned by way of it. Those before it have the buffers'
+/// objects.
+const SPARE: SlotNo = SlotNo(BUFFERS);
 
 /// The program, with its way to the cleaner.
 #[derive(Drop)]
@@ -86,7 +87,7 @@ impl<'a> Program<'a> {
             heap,
             seat: heap_seat,
         } = user;
-        match cleaner.register(rt, seat, heap, heap_seat, PROGRAM, slot, REFERENCE, job) {
+        match cleaner.register_apart(rt, seat, heap, heap_seat, PROGRAM, slot, SPARE, job) {
             Ok(cleanable) => Ok(cleanable),
             // The job comes back: the buffer is given back at once.
             Err((fault, job)) => {
@@ -110,7 +111,7 @@ impl<'a> Program<'a> {
             heap,
             seat: heap_seat,
         } = user;
-        match cleaner.clean(rt, seat, heap, heap_seat, PROGRAM, REFERENCE, cleanable) {
+        match cleaner.clean(rt, seat, heap, heap_seat, PROGRAM, SPARE, cleanable) {
             Ok(Cleaned::Gone) => Ok(None),
             Ok(Cleaned::Ran(ran, None)) => Ok(Some(ran)),
             Ok(Cleaned::Ran(ran, Some(hold))) => {
