@@ -110,12 +110,11 @@ module _ {A : Type 0} (k : ℕ) (queues : List (SharedQueue A)) where
   works_on : (n : ℕ) (v u : HeapView) (seats between : List QueueSeat) → Works k queues n v seats u between
       → (m : ℕ) (w : HeapView) (after : List QueueSeat) → Works k queues m u between w after
       → (count : ℕ) × Works k queues count v seats w after
-  works_on n v u seats between works zero w after same =
-      (
-        n,
-        subst (λ (x : HeapView). Works k queues n v seats x after) (sym same.0)
+  works_on n v u seats between works zero w after same = (
+    n,
+    subst (λ (x : HeapView). Works k queues n v seats x after) (sym same.0)
         (subst (λ (x : List QueueSeat). Works k queues n v seats u x) (sym same.1) works),
-      )
+  )
   works_on n v u seats between works (suc m) w after more =
       let before = works_on n v u seats between works m more.0 more.1 more.2 in
       (suc before.0, (more.0, more.1, before.1, more.3))
@@ -124,16 +123,15 @@ module _ {A : Type 0} (k : ℕ) (queues : List (SharedQueue A)) where
   aside_works : (v w : HeapView) (seats after : List QueueSeat)
       → ((q : ℕ) → notices_handed k q w.mine ≡ notices_handed k q v.mine) → after ≡ seats
       → Works k queues 1 v seats w after
-  aside_works v w seats after none same =
-      (
-        v,
-        seats,
-        (refl, refl),
-        inr (inr (
-          none,
-          λ q s at. (s, subst (λ (l : List QueueSeat). slice_get l q ≡ Some s) same at, refl),
-        )),
-      )
+  aside_works v w seats after none same = (
+    v,
+    seats,
+    (refl, refl),
+    inr (inr (
+      none,
+      λ q s at. (s, subst (λ (l : List QueueSeat). slice_get l q ≡ Some s) same at, refl),
+    )),
+  )
 
   deliveries_work : (worker count : ℕ) (a b : HeapView × List QueueSeat)
       → Repeats (DeliversOne worker queues) count a b → Works k queues count a.0 a.1 b.0 b.1
@@ -176,10 +174,9 @@ module _ {A : Type 0} (k : ℕ) (queues : List (SharedQueue A)) where
                   let all = delivery_of_all_works worker y.0 w y.1 after (Err stopped.0) stopped.2 had in
                   works_on 1 v y.0 seats y.1 front all.0 w after all.1
             ]
-        | inr stopped ↦
-            (
-              1,
-              aside_works v w seats after
+        | inr stopped ↦ (
+          1,
+          aside_works v w seats after
               (λ q. mark_hands_nothing k q worker now how v (Err stopped.0) w stopped.2.0) stopped.2.1,
-            )
+        )
       ]

@@ -120,7 +120,9 @@ impl CleanedHeap<Job> {
             (heap_view self.old.heap_seat) (self.old.queue_seat ∷ []) result (heap_view self.new.heap_seat)
             (self.new.queue_seat ∷ []) }
         ensures others { self.new ≡ record self.old {
-            heap_seat = self.new.heap_seat; queue_seat = self.new.queue_seat } }
+          heap_seat = self.new.heap_seat;
+          queue_seat = self.new.queue_seat;
+        } }
     {
         let queues = slice::from_ref(&self.queue);
         let seats = slice::from_mut(&mut self.queue_seat);
@@ -216,7 +218,9 @@ impl CleanedHeap<Job> {
         ensures registers { RegistersApart job (clean_view self.old.clean_seat) self.old.cleaner.frame 0 source slot
             (heap_view self.old.heap_seat) result (heap_view self.new.heap_seat) (clean_view self.new.clean_seat) }
         ensures others { self.new ≡ record self.old {
-            heap_seat = self.new.heap_seat; clean_seat = self.new.clean_seat } }
+          heap_seat = self.new.heap_seat;
+          clean_seat = self.new.clean_seat;
+        } }
     {
         let CleanedHeap {
             heap,
@@ -305,7 +309,9 @@ impl CleanedHeap<Job> {
         ensures cycles { Cycles (self.old.queue ∷ []) 0 now urgency (heap_view self.old.heap_seat)
             (self.old.queue_seat ∷ []) result (heap_view self.new.heap_seat) (self.new.queue_seat ∷ []) }
         ensures others { self.new ≡ record self.old {
-            heap_seat = self.new.heap_seat; queue_seat = self.new.queue_seat } }
+          heap_seat = self.new.heap_seat;
+          queue_seat = self.new.queue_seat;
+        } }
     {
         let queues = slice::from_ref(&self.queue);
         let seats = slice::from_mut(&mut self.queue_seat);
@@ -328,8 +334,11 @@ impl CleanedHeap<Job> {
         ensures goes { GoesOn (queue_view self.old.queue_seat) (heap_view self.old.heap_seat)
             (clean_view self.old.clean_seat) result (queue_view self.new.queue_seat) (heap_view self.new.heap_seat)
             (clean_view self.new.clean_seat) }
-        ensures others { self.new ≡ record self.old { heap_seat = self.new.heap_seat;
-            queue_seat = self.new.queue_seat; clean_seat = self.new.clean_seat } }
+        ensures others { self.new ≡ record self.old {
+          heap_seat = self.new.heap_seat;
+          queue_seat = self.new.queue_seat;
+          clean_seat = self.new.clean_seat;
+        } }
     {
         self.cleaner.clean_some(
             rt,

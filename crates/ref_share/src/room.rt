@@ -40,14 +40,32 @@ pub fn make_or_collect<R: Wait, A: Allocator + Copy>(
         Err(fault) => return Err(fault),
     }
     let urgency = Urgency::Normal;
-    cycle(rt, heap, heap_seat, queues, queue_seats, worker, now, urgency)?;
+    cycle(
+        rt,
+        heap,
+        heap_seat,
+        queues,
+        queue_seats,
+        worker,
+        now,
+        urgency,
+    )?;
     match unless_full(rt, heap, heap_seat, second) {
         Ok(Some(reply)) => return Ok(reply),
         Ok(None) => {}
         Err(fault) => return Err(fault),
     }
     let urgency = Urgency::Urgent;
-    cycle(rt, heap, heap_seat, queues, queue_seats, worker, now, urgency)?;
+    cycle(
+        rt,
+        heap,
+        heap_seat,
+        queues,
+        queue_seats,
+        worker,
+        now,
+        urgency,
+    )?;
     match heap.perform(rt, heap_seat, last) {
         Ok(reply) => Ok(reply),
         Err(fault) => Err(ShareFault::Refused(fault)),
