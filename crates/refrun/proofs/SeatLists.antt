@@ -9,8 +9,7 @@ stays_on a b c first second = (second.0 ∙ first.0, second.1)
 
 module _ (shared : Shared) where
   -- one more thread that has its seats
-  pub seated_more : (old new : List Job) (job : Job) → All (λ j. IsSeatedAt shared j.station) old
-      → IsSeatedAt shared job.station → new ≡ old ++ job ∷ [] → All (λ j. IsSeatedAt shared j.station) new
+  pub seated_more : (old new : List Job) (job : Job) → All (IsSeatedAt shared) old → IsSeatedAt shared job
+      → new ≡ old ++ job ∷ [] → All (IsSeatedAt shared) new
   seated_more old new job before one more =
-      subst (All (λ (j : Job). IsSeatedAt shared j.station)) (sym more)
-      (All-push (λ (j : Job). IsSeatedAt shared j.station) old job before one)
+      subst (All (IsSeatedAt shared)) (sym more) (All-push (IsSeatedAt shared) old job before one)

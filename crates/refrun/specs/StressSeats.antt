@@ -4,15 +4,21 @@ use Rattle.ref_share.specs.HeapSeats.{IsHeapSeat}
 use Rattle.ref_share.specs.QueueSeats.{IsQueueSeat}
 use Rattle.refrun.specs.declared.roles.Shared.{Shared}
 use Rattle.refrun.specs.declared.roles.Station.{Station}
+use Rattle.refrun.specs.declared.threads.Job.{Job}
+use Rattle.refrun.specs.declared.threads.Left.{Left}
 
 -- a thread's seats are those of the heap and the queue that it works with
 abbrev pub IsSeated : Station → Type 0
-IsSeated s = IsHeapSeat s.shared.now.heap.now s.heap_seat × IsQueueSeat s.shared.now.queue.now s.queue_seat
-
--- the same, and it works with these
-abbrev pub IsSeatedAt : Shared → Station → Type 0
-IsSeatedAt shared s = (s.shared.now ≡ shared) × IsSeated s
+IsSeated s = IsHeapSeat s.shared.now.heap s.heap_seat × IsQueueSeat s.shared.now.queue s.queue_seat
 
 -- a thread works with the same heap and queue as before, in its seats
 abbrev pub StaysSeated : Station → Station → Type 0
 StaysSeated old new = (new.shared ≡ old.shared) × IsSeated new
+
+-- what a thread is given are seats of these
+abbrev pub IsSeatedAt : Shared → Job → Type 0
+IsSeatedAt shared job = IsHeapSeat shared.heap job.heap_seat × IsQueueSeat shared.queue job.queue_seat
+
+-- what a thread leaves are seats of these
+abbrev pub IsLeftAt : Shared → Left → Type 0
+IsLeftAt shared left = IsHeapSeat shared.heap left.heap_seat × IsQueueSeat shared.queue left.queue_seat

@@ -3,6 +3,7 @@
 
 mod declarations;
 mod evidence;
+mod gate;
 mod graph_text;
 mod jobs;
 pub mod laws;

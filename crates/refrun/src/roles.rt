@@ -1,5 +1,6 @@
 //! What the threads of a stress run do: mutators, workers and pollers over one heap and one queue.
 
+use crate::gate::Gate;
 use crate::tally::Tally;
 use ref_base::{
     Fault, MutNo, ObjNo, Parcel, PlainStep, QueueNo, Reply, SlotNo, Strength, Urgency, WorkerNo,
@@ -25,12 +26,11 @@ const TRIES: u32 = 1_000;
 const POLLS: u32 = 1_000;
 
 /// What all threads share.
-#[derive(Clone, Copy)]
-pub(crate) struct Shared<'a> {
-    pub(crate) heap: &'a SharedHeap,
-    pub(crate) queue: &'a SharedQueue,
-    pub(crate) running: &'a Running,
-    pub(crate) tally: &'a Tally,
+pub(crate) struct Shared {
+    pub(crate) heap: SharedHeap,
+    pub(crate) queue: SharedQueue,
+    pub(crate) gate: Gate,
+    pub(crate) running: Running,
 }
 
 /// How many threads have not ended.
@@ -44,7 +44,8 @@ pub(crate) struct Running {
 /// What one thread works with: what all share, and its own seats.
 #[derive(Drop)]
 pub(crate) struct Station<'a> {
-    shared: &'a Shared<'a>,
+    shared: &'a Shared,
+    tally: &'a Tally,
     heap_seat: HeapSeat,
     queue_seat: QueueSeat,
 }
@@ -54,11 +55,22 @@ impl<'a> Station<'a> {
     ghost use Rattle.refrun.specs.StressSeats.{IsSeated, StaysSeated};
 
     /// The station of one thread, with these seats.
-    pub(crate) fn new(shared: &'a Shared<'a>, heap_seat: HeapSeat, queue_seat: QueueSeat) -> Self
-        ensures { result ≡ record { shared = shared.entry; heap_seat = heap_seat; queue_seat = queue_seat } }
+    pub(crate) fn new(
+        shared: &'a Shared,
+        tally: &'a Tally,
+        heap_seat: HeapSeat,
+        queue_seat: QueueSeat,
+    ) -> Self
+        ensures { result ≡ record {
+          shared = shared.entry;
+          tally = tally.entry;
+          heap_seat = heap_seat;
+          queue_seat = queue_seat;
+        } }
     {
         Station {
             shared,
+            tally,
             heap_seat,
             queue_seat,
         }
@@ -76,6 +88,11 @@ impl<'a> Station<'a> {
         (heap_seat, queue_seat)
     }
 
+    /// Stops the rounds of all mutators, so that the run comes to its end.
+    pub(crate) fn stop(&self) {
+        self.tally.stop();
+    }
+
     /// A mutator's rounds, until the tally stops them. In each it makes an object and a weak reference to it, lets the
     /// object go, and every other time enqueues the reference. A round for which no cell is free is left out.
     pub(crate) fn mutate<R: Wait>(
@@ -88,7 +105,7 @@ impl<'a> Station<'a> {
         ensures { StaysSeated self.old self.new }
     {
         for round in 0..rounds {
-            if self.shared.tally.is_stopped() {
+            if self.tally.is_stopped() {
                 return Ok(());
             }
             let slot = SlotNo(1 + (round % 8) as u32);
@@ -96,7 +113,7 @@ impl<'a> Station<'a> {
             if is_made && round % 2 == 0 {
                 self.enqueue(rt, mutator, slot)?;
             }
-            self.shared.tally.count_round();
+            self.tally.count_round();
         }
         Ok(())
     }
@@ -156,9 +173,9 @@ impl<'a> Station<'a> {
     {
         let answer = enqueue(
             rt,
-            self.shared.heap,
+            &self.shared.heap,
             &mut self.heap_seat,
-            slice::from_ref(self.shared.queue),
+            slice::from_ref(&self.shared.queue),
             slice::from_mut(&mut self.queue_seat),
             mutator,
             slot,
@@ -200,7 +217,7 @@ impl<'a> Station<'a> {
         let _ = self.ask(rt, PlainStep::EndClear);
         let _ = self.ask(rt, PlainStep::EndMove);
         if self.ask(rt, PlainStep::EndSweep).is_ok() {
-            self.shared.tally.count_cycle();
+            self.tally.count_cycle();
         }
         if !is_last {
             let _ = self.ask(rt, PlainStep::Select);
@@ -218,7 +235,7 @@ impl<'a> Station<'a> {
         let _ = self.ask(rt, PlainStep::ClearNext { worker });
         let _ = self.ask(rt, PlainStep::Sweep { worker });
         if let Ok(Reply::Moved(_)) = self.ask(rt, PlainStep::MoveNext { worker }) {
-            self.shared.tally.count_move();
+            self.tally.count_move();
         }
     }
 
@@ -230,9 +247,9 @@ impl<'a> Station<'a> {
         self.collect(rt, worker);
         let answer = deliver_one(
             rt,
-            self.shared.heap,
+            &self.shared.heap,
             &mut self.heap_seat,
-            slice::from_ref(self.shared.queue),
+            slice::from_ref(&self.shared.queue),
             slice::from_mut(&mut self.queue_seat),
             worker,
         );
@@ -262,7 +279,7 @@ impl<'a> Station<'a> {
                 Ok(Polled::Took(notice)) => {
                     let noted = taken.push(notice.obj());
                     self.adopt(rt, mutator, notice.into_hold())?;
-                    self.shared.tally.count_notice();
+                    self.tally.count_notice();
                     noted.map_err(|_| Fault::NoMemory)?;
                 }
                 Ok(Polled::Closed) => return Ok(()),

@@ -5,11 +5,12 @@ ghost use Rattle.ref_share.specs.HeapSeats.{IsHeapSeat};
 ghost use Rattle.ref_share.specs.QueueSeats.{IsQueueSeat};
 ghost use Rattle.refrun.specs.StressChecks.{IsFirstFailure, Passes};
 ghost use Rattle.refrun.specs.StressEvidence.{IsEvidence};
-ghost use Rattle.refrun.specs.StressSeats.{IsSeated, IsSeatedAt};
+ghost use Rattle.refrun.specs.StressSeats.{IsLeftAt, IsSeated, IsSeatedAt, StaysSeated};
 ghost use Rattle.ref_base.specs.declared.fault.Fault.TheVariants.{BadConfig};
 ghost use Rattle.refrun.specs.StressRuns.{has_threads_in_range};
 
 use crate::evidence::{Evidence, evidence_of};
+use crate::gate::Gate;
 use crate::lists::{Check, check_lists};
 use crate::roles::{QUEUE, Running, Shared, Station};
 use crate::stress_options::StressOptions;
@@ -22,7 +23,7 @@ use std::alloc::{AllocError, Global};
 use std::sync::Wait;
 use std::sync::atomic::{AtomicU32, Ordering};
 use std::thread;
-use std::thread::Threads;
+use std::thread::{Promise, PromisedHandle, Scope, Threads};
 
 /// What one thread is for.
 #[derive(Clone, Copy)]
@@ -34,10 +35,10 @@ enum Role {
 
 /// What one thread is given.
 #[derive(Drop)]
-struct Job<'a> {
+struct Job {
     role: Role,
-    station: Station<'a>,
-    ending: Ending<'a>,
+    heap_seat: HeapSeat,
+    queue_seat: QueueSeat,
 }
 
 /// What one thread leaves: what it took, or why it gave up, and its seats.
@@ -48,7 +49,15 @@ struct Left {
     queue_seat: QueueSeat,
 }
 
-/// Counts its thread as ended when it is dropped, also where the thread never ran.
+/// That a thread leaves seats of these.
+#[derive(Clone, Copy)]
+struct SeatsOf<'a>(&'a Shared);
+
+impl<'a> Promise<Left> for SeatsOf<'a> {
+    ghost kept_by = { λ seats left. IsLeftAt seats.0.now left };
+}
+
+/// Counts its thread as ended when it is dropped.
 struct Ending<'a>(&'a AtomicU32);
 
 impl Drop for Ending<'_> {
@@ -145,12 +154,26 @@ pub fn stress_lists<R: Threads + Wait + Sync>(
         pollers: AtomicU32::new(options.pollers),
     };
     let shared = Shared {
-        heap: &heap,
-        queue: &queue,
-        running: &running,
-        tally,
+        heap,
+        queue,
+        gate: Gate::new(),
+        running,
     };
-    let lists = run(rt, alloc, &shared, &mut heap_seat, &mut queue_seat, options);
+    let lists = run(
+        rt,
+        alloc,
+        &shared,
+        tally,
+        &mut heap_seat,
+        &mut queue_seat,
+        options,
+    );
+    let Shared {
+        heap: _heap,
+        queue,
+        gate: _gate,
+        running: _running,
+    } = shared;
     match queue.finish(queue_seat) {
         Ok(queue) | Err(Some(queue)) => {
             let left = lists.and_then(|lists| lists_left(alloc, &queue, lists, options));
@@ -161,31 +184,113 @@ pub fn stress_lists<R: Threads + Wait + Sync>(
     }
 }
 
-/// Runs all threads to their ends, and gives what each took. Where no more threads can be made, mutators run before
-/// workers and these before pollers, so that nobody waits for one that has not begun.
+/// Runs all threads to their ends, and gives what each took. Where one can't be made, none begins, and the answer is
+/// `NoMemory`.
 fn run<R: Threads + Wait + Sync>(
     rt: &R,
     alloc: Global,
     shared: &Shared,
+    tally: &Tally,
     heap_seat: &mut HeapSeat,
     queue_seat: &mut QueueSeat,
     options: StressOptions,
 ) -> Result<Vec<Vec<ObjNo>>, Fault>
-    requires { IsHeapSeat shared.now.heap.now heap_seat.old × IsQueueSeat shared.now.queue.now queue_seat.old }
-    ensures { IsHeapSeat shared.now.heap.now heap_seat.new × IsQueueSeat shared.now.queue.now queue_seat.new }
+    requires { IsHeapSeat shared.now.heap heap_seat.old × IsQueueSeat shared.now.queue queue_seat.old }
+    ensures { IsHeapSeat shared.now.heap heap_seat.new × IsQueueSeat shared.now.queue queue_seat.new }
 {
     let Ok(jobs) = jobs(alloc, shared, heap_seat, queue_seat, options) else {
         return Err(Fault::NoMemory);
     };
-    let of_job = |job: Job| -> Left
-        requires { IsSeated job.station }
-        ensures { IsHeapSeat job.entry.station.shared.now.heap.now result.heap_seat
-            × IsQueueSeat job.entry.station.shared.now.queue.now result.queue_seat }
-    { left_by(rt, alloc, job) };
-    let Ok(left) = thread::map_vec(rt, jobs, &of_job) else {
-        return Err(Fault::NoMemory);
-    };
+    let left = run_together(rt, alloc, shared, tally, jobs)?;
     joined(alloc, shared, heap_seat, queue_seat, left)
+}
+
+/// Runs each job in a thread of its own, and gives what they leave. All threads are made before one begins, since each
+/// kind waits for another: where one can't be made, those that were made return at once.
+fn run_together<R: Threads + Wait + Sync>(
+    rt: &R,
+    alloc: Global,
+    shared: &Shared,
+    tally: &Tally,
+    jobs: Vec<Job>,
+) -> Result<Vec<Left>, Fault>
+    requires { All (λ job. IsSeatedAt shared.now job) jobs.items }
+    ensures { IfOk result (λ all. All (λ left. IsLeftAt shared.now left) all.items) }
+{
+    thread::scope(
+        thread::scope_env(),
+        rt,
+        move |scope| -> Result<Vec<Left>, Fault>
+            requires { All (λ job. IsSeatedAt shared.now job) jobs.items }
+            ensures { IfOk result (λ all. All (λ left. IsLeftAt shared.entry.now left) all.items) }
+        {
+            let threads = all_made(rt, alloc, scope, shared, tally, jobs);
+            shared.gate.open(rt, threads.is_ok());
+            ended(rt, shared, tally, threads?)
+        },
+    )
+}
+
+/// Makes a thread for each job. They wait at the gate.
+fn all_made<'s, E, R: Threads + Wait + Sync>(
+    rt: &'s R,
+    alloc: Global,
+    scope: &Scope<'s, E>,
+    shared: &'s Shared,
+    tally: &'s Tally,
+    jobs: Vec<Job>,
+) -> Result<Vec<PromisedHandle<Left, SeatsOf<'s>>>, Fault>
+    requires { All (λ job. IsSeatedAt shared.now job) jobs.items }
+    ensures { IfOk result (λ all. All (λ thread. thread.promise.0.now ≡ shared.now) all.items) }
+{
+    let mut threads = Vec::new(alloc);
+    for job in jobs {
+        let thread = made(rt, alloc, scope, shared, tally, job)?;
+        let Ok(()) = threads.push(thread) else {
+            return Err(Fault::NoMemory);
+        };
+    }
+    Ok(threads)
+}
+
+/// Makes a thread for the job.
+fn made<'s, E, R: Threads + Wait + Sync>(
+    rt: &'s R,
+    alloc: Global,
+    scope: &Scope<'s, E>,
+    shared: &'s Shared,
+    tally: &'s Tally,
+    job: Job,
+) -> Result<PromisedHandle<Left, SeatsOf<'s>>, Fault>
+    requires { IsSeatedAt shared.now job }
+    ensures { IfOk result (λ thread. thread.promise.0.now ≡ shared.now) }
+{
+    match scope.spawn_with(
+        SeatsOf(shared),
+        move || left_by(rt, alloc, shared, tally, job),
+    ) {
+        Ok(thread) => Ok(thread),
+        Err(_) => Err(Fault::NoMemory),
+    }
+}
+
+/// What the threads leave once they have ended. Where no memory is found for it, the run is stopped.
+fn ended<'s, R: Threads>(
+    rt: &R,
+    shared: &Shared,
+    tally: &Tally,
+    threads: Vec<PromisedHandle<Left, SeatsOf<'s>>>,
+) -> Result<Vec<Left>, Fault>
+    requires { All (λ thread. thread.promise.0.now ≡ shared.now) threads.items }
+    ensures { IfOk result (λ all. All (λ left. IsLeftAt shared.now left) all.items) }
+{
+    match thread::join_promised(rt, threads) {
+        Ok(left) => Ok(left),
+        Err(_) => {
+            tally.stop();
+            Err(Fault::NoMemory)
+        }
+    }
 }
 
 /// Takes in the seats of all that have ended, and gives what each took.
@@ -196,10 +301,9 @@ fn joined(
     queue_seat: &mut QueueSeat,
     all: Vec<Left>,
 ) -> Result<Vec<Vec<ObjNo>>, Fault>
-    requires seats { IsHeapSeat shared.now.heap.now heap_seat.old × IsQueueSeat shared.now.queue.now queue_seat.old }
-    requires left { All (λ left. IsHeapSeat shared.now.heap.now left.heap_seat
-        × IsQueueSeat shared.now.queue.now left.queue_seat) all.items }
-    ensures { IsHeapSeat shared.now.heap.now heap_seat.new × IsQueueSeat shared.now.queue.now queue_seat.new }
+    requires seats { IsHeapSeat shared.now.heap heap_seat.old × IsQueueSeat shared.now.queue queue_seat.old }
+    requires left { All (λ left. IsLeftAt shared.now left) all.items }
+    ensures { IsHeapSeat shared.now.heap heap_seat.new × IsQueueSeat shared.now.queue queue_seat.new }
 {
     let mut lists = Vec::new(alloc);
     for left in all {
@@ -218,84 +322,106 @@ fn joined(
 }
 
 /// What each thread is given, with seats that are split off these.
-fn jobs<'a>(
+fn jobs(
     alloc: Global,
-    shared: &'a Shared<'a>,
+    shared: &Shared,
     heap_seat: &mut HeapSeat,
     queue_seat: &mut QueueSeat,
     options: StressOptions,
-) -> Result<Vec<Job<'a>>, AllocError>
-    requires { IsHeapSeat shared.now.heap.now heap_seat.old × IsQueueSeat shared.now.queue.now queue_seat.old }
-    ensures seats { IsHeapSeat shared.now.heap.now heap_seat.new × IsQueueSeat shared.now.queue.now queue_seat.new }
-    ensures seated { IfOk result (λ jobs. All (λ job. IsSeatedAt shared.now job.station) jobs.items) }
+) -> Result<Vec<Job>, AllocError>
+    requires { IsHeapSeat shared.now.heap heap_seat.old × IsQueueSeat shared.now.queue queue_seat.old }
+    ensures seats { IsHeapSeat shared.now.heap heap_seat.new × IsQueueSeat shared.now.queue queue_seat.new }
+    ensures seated { IfOk result (λ jobs. All (λ job. IsSeatedAt shared.now job) jobs.items) }
 {
     let rounds = options.rounds;
     let mut jobs = Vec::new(alloc);
     for number in 0..options.mutators {
         let mutator = MutNo(number);
         let role = Role::Mutate { mutator, rounds };
-        jobs.push(job_of(
-            shared,
-            heap_seat,
-            queue_seat,
-            role,
-            &shared.running.mutators,
-        ))?;
+        jobs.push(job_of(shared, heap_seat, queue_seat, role))?;
     }
     for number in 0..options.workers {
         let role = Role::Work(WorkerNo(number));
-        jobs.push(job_of(shared, heap_seat, queue_seat, role, &shared.running.workers))?;
+        jobs.push(job_of(shared, heap_seat, queue_seat, role))?;
     }
     for number in 0..options.pollers {
         let role = Role::Poll(MutNo(options.mutators.saturating_add(number)));
-        jobs.push(job_of(shared, heap_seat, queue_seat, role, &shared.running.pollers))?;
+        jobs.push(job_of(shared, heap_seat, queue_seat, role))?;
     }
     Ok(jobs)
 }
 
 /// What one thread of this role is given.
-fn job_of<'a>(
-    shared: &'a Shared<'a>,
-    heap_seat: &mut HeapSeat,
-    queue_seat: &mut QueueSeat,
-    role: Role,
-    running: &'a AtomicU32,
-) -> Job<'a>
-    requires { IsHeapSeat shared.now.heap.now heap_seat.old × IsQueueSeat shared.now.queue.now queue_seat.old }
-    ensures seats { IsHeapSeat shared.now.heap.now heap_seat.new × IsQueueSeat shared.now.queue.now queue_seat.new }
-    ensures seated { IsSeatedAt shared.now result.station }
+fn job_of(shared: &Shared, heap_seat: &mut HeapSeat, queue_seat: &mut QueueSeat, role: Role) -> Job
+    requires { IsHeapSeat shared.now.heap heap_seat.old × IsQueueSeat shared.now.queue queue_seat.old }
+    ensures seats { IsHeapSeat shared.now.heap heap_seat.new × IsQueueSeat shared.now.queue queue_seat.new }
+    ensures seated { IsSeatedAt shared.now result }
 {
-    let own_heap_seat = shared.heap.split(heap_seat);
-    let own_queue_seat = shared.queue.split(queue_seat);
     Job {
         role,
-        station: Station::new(shared, own_heap_seat, own_queue_seat),
-        ending: Ending(running),
+        heap_seat: shared.heap.split(heap_seat),
+        queue_seat: shared.queue.split(queue_seat),
     }
 }
 
-/// What one thread leaves at its end.
-fn left_by<R: Wait>(rt: &R, alloc: Global, job: Job) -> Left
-    requires { IsSeated job.station }
-    ensures { IsHeapSeat job.entry.station.shared.now.heap.now result.heap_seat
-        × IsQueueSeat job.entry.station.shared.now.queue.now result.queue_seat }
+/// What one thread leaves at its end. A fault stops the whole run.
+fn left_by<'a, R: Wait>(
+    rt: &R,
+    alloc: Global,
+    shared: &'a Shared,
+    tally: &'a Tally,
+    job: Job,
+) -> Left
+    requires { IsSeatedAt shared.now job }
+    ensures { IsLeftAt shared.now result }
 {
     let Job {
         role,
-        mut station,
-        ending: _ending,
+        heap_seat,
+        queue_seat,
     } = job;
+    let _ending = Ending(count_of(&role, &shared.running));
+    let mut station = Station::new(shared, tally, heap_seat, queue_seat);
     let mut taken = Vec::new(alloc);
-    let answer = match role {
-        Role::Mutate { mutator, rounds } => station.mutate(rt, mutator, rounds),
-        Role::Work(worker) => station.work(rt, worker),
-        Role::Poll(mutator) => station.poll(rt, mutator, &mut taken),
-    };
+    let answer = act(rt, shared, &mut station, role, &mut taken);
+    if answer.is_err() {
+        station.stop();
+    }
     let (heap_seat, queue_seat) = station.into_seats();
     Left {
         taken: answer.map(|()| taken),
         heap_seat,
         queue_seat,
+    }
+}
+
+/// The count of the threads of this kind.
+fn count_of<'a>(role: &Role, running: &'a Running) -> &'a AtomicU32 {
+    match *role {
+        Role::Mutate { .. } => &running.mutators,
+        Role::Work(_) => &running.workers,
+        Role::Poll(_) => &running.pollers,
+    }
+}
+
+/// What one thread does once all are there; `NoMemory` where it is told to give up.
+fn act<R: Wait>(
+    rt: &R,
+    shared: &Shared,
+    station: &mut Station,
+    role: Role,
+    taken: &mut Vec<ObjNo>,
+) -> Result<(), Fault>
+    requires { IsSeated station.old }
+    ensures { StaysSeated station.old station.new }
+{
+    if !shared.gate.pass(rt) {
+        return Err(Fault::NoMemory);
+    }
+    match role {
+        Role::Mutate { mutator, rounds } => station.mutate(rt, mutator, rounds),
+        Role::Work(worker) => station.work(rt, worker),
+        Role::Poll(mutator) => station.poll(rt, mutator, taken),
     }
 }
 

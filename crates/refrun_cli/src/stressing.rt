@@ -1,6 +1,7 @@
 //! `refrun stress`.
 
 use crate::{WRONG_COMMAND_LINE, help, report};
+use clap::builder::ValueParser;
 use clap::{Arg, ArgAction, ArgMatches, Command, Error, value_parser};
 use ref_base::{Fault, ObjNo};
 use refrun::{Check, StressLists, StressOptions, Tally, TextFault, stress_lists};
@@ -32,6 +33,7 @@ pub fn command<'a>(alloc: Global) -> Result<Command<'a>, Error> {
         .long("keep")
         .value_name("FOLDER")
         .action(ArgAction::Set)
+        .value_parser(ValueParser::NonEmptyString)
         .help("Writes the run's lists into the folder");
     let command = Command::new(alloc, "stress")
         .about("Runs threads over one heap and one queue, and checks the queue's lists")
@@ -111,9 +113,9 @@ pub fn run<R: Threads + Wait + Clock + Files + Print + Eprint + AllocGlobal + Sy
         Err(fault) => return tell(rt, Err(fault)),
     };
     if let Some(folder) = matches.get_str("keep")
-        && keep(rt, rt.alloc(), folder, &lists).is_err()
+        && let Err(error) = keep(rt, rt.alloc(), folder, &lists)
     {
-        return report(rt, TextFault::CannotWrite);
+        return report(rt, fault_of(&error));
     }
     let failed = lists.check(rt.alloc());
     if let Ok(Some(check)) = failed
@@ -136,6 +138,15 @@ fn keep<R: Files>(rt: &R, alloc: Global, folder: &str, lists: &StressLists) -> i
         keep_list(rt, alloc, folder, name.as_str(), list.as_slice())?;
     }
     Ok(())
+}
+
+/// What is told of lists that could not be written.
+fn fault_of(error: &io::Error) -> TextFault {
+    if error.kind() == io::ErrorKind::OutOfMemory {
+        TextFault::NoMemory
+    } else {
+        TextFault::CannotWrite
+    }
 }
 
 /// Writes one list into the file of this name.
@@ -161,24 +172,22 @@ struct Pace {
     seconds: Option<u32>,
 }
 
-/// Runs the threads, and beside them one that looks on, about once a second.
+/// Runs the threads, and beside them one that looks on, about once a second. `NoMemory` where that one can't be made.
 fn watched<R: Threads + Wait + Clock + Eprint + AllocGlobal + Sync>(
     rt: &R,
     options: StressOptions,
     tally: &Tally,
     pace: Pace,
 ) -> Result<Option<StressLists>, Fault> {
-    let end = End::new();
-    let (answer, ()) = thread::join(
-        rt,
-        || {
-            let answer = stress_lists(rt, rt.alloc(), options, tally);
-            end.tell(rt);
-            answer
-        },
-        || watch(rt, tally, &end, pace),
-    );
-    answer
+    let end = &End::new();
+    thread::scope(thread::scope_env(), rt, |scope| {
+        if scope.spawn(move || watch(rt, tally, end, pace)).is_err() {
+            return Err(Fault::NoMemory);
+        }
+        let answer = stress_lists(rt, rt.alloc(), options, tally);
+        end.tell(rt);
+        answer
+    })
 }
 
 /// The end of a run, for which another thread waits.
