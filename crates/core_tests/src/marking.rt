@@ -99,6 +99,8 @@ enum Ask {
     HoldCount,
     /// The word that the object of this number has in this field.
     WordAt(u32, u32),
+    /// The word that the reference of this number has as its referent.
+    WordOfReferent(u32),
 }
 
 /// A call that takes a hold or gives one back.
@@ -276,6 +278,7 @@ fn asked(heap: &Marker, call: Ask) -> Told {
         Ask::StampOf(no) => Told::Time(heap.objects().stamp_of(ObjNo(no))),
         Ask::HoldCount => Told::Count(heap.objects().hold_count()),
         Ask::WordAt(no, field) => word(heap.objects().word_at(ObjNo(no), field)),
+        Ask::WordOfReferent(no) => word(heap.objects().word_of_referent(ObjNo(no))),
     }
 }
 

@@ -100,6 +100,8 @@ enum Ask {
     FieldOf(u32, usize),
     /// The word that the object of this number has in this field.
     WordAt(u32, u32),
+    /// The word that the reference of this number has as its referent.
+    WordOfReferent(u32),
     ReferenceOf(u32),
     ReferentOf(u32),
     StampOf(u32),
@@ -304,6 +306,7 @@ fn asked<A: Allocator + Copy>(heap: &Objects<A>, call: Ask) -> Told {
         Ask::FieldCount(no) => Told::Count(heap.fields_of(ObjNo(no)).len() as u64),
         Ask::FieldOf(no, field) => value(heap.fields_of(ObjNo(no)).get(field)),
         Ask::WordAt(no, field) => word(heap.word_at(ObjNo(no), field)),
+        Ask::WordOfReferent(no) => word(heap.word_of_referent(ObjNo(no))),
         Ask::ReferenceOf(no) => reference(heap.reference_of(ObjNo(no))),
         Ask::ReferentOf(no) => value(heap.referent_of(ObjNo(no))),
         Ask::StampOf(no) => Told::Time(heap.stamp_of(ObjNo(no))),

@@ -1,7 +1,7 @@
 //! Moves between cycles, by the words that fields hold. The word of cell c of the page at address p is 64 * p + c and
 //! 2^62 times the number of its colour: 1 is A, that of the first cycle, and 3 is R, that of moves.
 
-use super::Ask::{InPhase, SlotOf, WordAt};
+use super::Ask::{InPhase, SlotOf, WordAt, WordOfReferent};
 use super::Call::{Ask, Collect, Keep, Mutate};
 use super::Collect::{
     Begin, EndMark, EndMove, FreeAll, MoveNext, Scan, Select, ToIdle, ToSweeping,
@@ -142,8 +142,19 @@ fn a_get_moves_the_referent(rt: HostRuntime) -> Result<(), Fail> {
     let story = [
         // It lies behind object 2, in the first cell that is free.
         (Mutate(Refer(Strength::Weak, 5, 2, None)), Told::Object(66)),
+        // Colour A, page 1, cell 1.
+        (
+            Ask(WordOfReferent(66)),
+            Told::Word(4_611_686_018_427_387_969),
+        ),
         (Collect(Select), Told::Selected(4)),
         (Mutate(Get(6, 5)), Told::Object(2)),
+        // Colour R, page 3, cell 1, behind the one for object 1. The reference lies where it lay.
+        (
+            Ask(WordOfReferent(66)),
+            Told::Word(13_835_058_055_282_163_905),
+        ),
+        (Ask(WordOfReferent(2)), Told::Nothing),
         (Collect(MoveNext(0)), Told::Moved(1)),
         (Collect(MoveNext(0)), Told::Moved(66)),
         (Collect(MoveNext(0)), Told::Moved(65)),

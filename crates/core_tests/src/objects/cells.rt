@@ -2,10 +2,12 @@
 
 use super::Ask::{
     ClearedIn, FieldOf, HasObject, IsCondemned, IsMarked, KindOf, LinkOf, NextNo, ObjectCount,
-    ReferenceOf, ReferentOf, UnmarkedCount, WordAt,
+    ReferenceOf, ReferentOf, UnmarkedCount, WordAt, WordOfReferent,
 };
 use super::Call::{Ask, Do, Set};
-use super::Do::{DropSlot, Free, FreeNext, Load, LookAt, Mark, New, Refer, Store, Sweep};
+use super::Do::{
+    CutIn, DropSlot, Free, FreeNext, Get, Load, LookAt, Mark, New, Refer, Store, Sweep,
+};
 use super::Set::{BeginMarks, Cleared, ClockTo, Condemn, Cut, EndCycle, Link, Stamp};
 use super::{agree, agree_from, config};
 use crate::told::Told;
@@ -68,6 +70,40 @@ fn a_field_has_a_word_of_its_objects_cell(rt: HostRuntime) -> Result<(), Fail> {
         (Ask(WordAt(1, 1)), Told::Word(4_611_686_018_427_387_969)),
         (Do(Load(3, 0, 0)), Told::Object(3)),
         (Ask(WordAt(1, 0)), Told::Word(4_611_686_018_427_387_970)),
+    ];
+    agree(&rt, rt.alloc(), 4, &story)
+}
+
+#[test]
+fn a_get_heals_the_referents_word(rt: HostRuntime) -> Result<(), Fail> {
+    let story = [
+        (Do(New(0, 0)), Told::Object(1)),
+        (Do(Refer(Strength::Weak, 1, 0, None, 0)), Told::Object(2)),
+        (Do(Refer(Strength::Weak, 2, 0, None, 0)), Told::Object(3)),
+        // Colour R, page 1, cell 0: in hexadecimal c000000000000040.
+        (
+            Ask(WordOfReferent(2)),
+            Told::Word(13_835_058_055_282_163_776),
+        ),
+        (Ask(WordOfReferent(1)), Told::Nothing),
+        (Ask(WordOfReferent(4)), Told::Nothing),
+        // Colour A is good now: a referent has it as soon as it is got.
+        (Set(BeginMarks), Told::Done),
+        (
+            Ask(WordOfReferent(2)),
+            Told::Word(13_835_058_055_282_163_776),
+        ),
+        (Do(Get(3, 1, false)), Told::Object(1)),
+        (
+            Ask(WordOfReferent(2)),
+            Told::Word(4_611_686_018_427_387_968),
+        ),
+        (
+            Ask(WordOfReferent(3)),
+            Told::Word(13_835_058_055_282_163_776),
+        ),
+        (Do(CutIn(1, false)), Told::Done),
+        (Ask(WordOfReferent(2)), Told::Word(0)),
     ];
     agree(&rt, rt.alloc(), 4, &story)
 }

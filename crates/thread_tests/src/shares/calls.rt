@@ -13,8 +13,8 @@ use ref_clear::Notice;
 use ref_objects::Hold;
 use ref_queue::Put;
 use ref_share::{
-    Delivery, HeapSeat, Polled, QueueSeat, ShareFault, SharedHeap, SharedQueue, deliver_one,
-    enqueue,
+    Delivery, HeapSeat, Polled, QueueSeat, ShareFault, SharedHeap, SharedQueue, deliver_all,
+    deliver_one, enqueue,
 };
 use ref_turn::TurnFault;
 use ref_world::{HeapAnswer, HeapCall, HeapReply};
@@ -31,6 +31,10 @@ pub enum Do {
     Weak(u32, u32),
     /// The same without a queue.
     Alone(u32, u32),
+    /// The same, soft.
+    Soft(u32, u32),
+    /// The first slot gets the referent of the reference in the second.
+    Get(u32, u32),
     Drop(u32),
     Begin,
     Scan,
@@ -191,6 +195,12 @@ pub fn step_of(step: Do) -> PlainStep {
         },
         Do::Weak(slot, source) => weak(slot, source, Some(Q)),
         Do::Alone(slot, source) => weak(slot, source, None),
+        Do::Soft(slot, source) => refer(Strength::Soft, slot, source, None),
+        Do::Get(slot, reference) => PlainStep::Get {
+            mutator: M,
+            slot: SlotNo(slot),
+            reference: SlotNo(reference),
+        },
         Do::Drop(slot) => PlainStep::Drop {
             mutator: M,
             slot: SlotNo(slot),
@@ -208,9 +218,14 @@ pub fn step_of(step: Do) -> PlainStep {
 
 /// Makes a weak reference: its slot, that of its referent, and its queue.
 pub fn weak(slot: u32, source: u32, queue: Option<QueueNo>) -> PlainStep {
+    refer(Strength::Weak, slot, source, queue)
+}
+
+/// Makes a reference of this strength.
+fn refer(strength: Strength, slot: u32, source: u32, queue: Option<QueueNo>) -> PlainStep {
     PlainStep::Refer {
         mutator: M,
-        strength: Strength::Weak,
+        strength,
         slot: SlotNo(slot),
         source: SlotNo(source),
         queue,
@@ -444,6 +459,25 @@ fn delivered<R: Wait, A: Allocator + Copy>(
     match deliver_one(rt, heap, &mut seats.heap, queues, own, WorkerNo(worker)) {
         Ok(delivery) => Told::Delivered(delivery),
         Err(fault) => refused(rt, heap, &mut seats.heap, fault),
+    }
+}
+
+/// A delivery of all that is pending of worker 0. Why it is refused.
+pub fn all_delivered<R: Wait, A: Allocator + Copy>(
+    rt: &R,
+    heap: &SharedHeap<A>,
+    queue: &SharedQueue<A>,
+    seats: &mut Seats<A>,
+) -> Option<Told>
+    requires seats { IsHeapSeat heap.now seats.old.heap × IsQueueSeat queue.now seats.old.queue }
+    requires fits { FitsInMemory (queue_row A.row A.Allocator A.Clone) }
+    ensures { IsHeapSeat heap.now seats.new.heap × IsQueueSeat queue.now seats.new.queue }
+{
+    let queues = slice::from_ref(queue);
+    let own = slice::from_mut(&mut seats.queue);
+    match deliver_all(rt, heap, &mut seats.heap, queues, own, W) {
+        Ok(()) => None,
+        Err(fault) => Some(refused(rt, heap, &mut seats.heap, fault)),
     }
 }
 

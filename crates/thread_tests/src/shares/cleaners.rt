@@ -126,9 +126,25 @@ fn agree<R: Threads + Wait + Abort + Sync>(
     story: &Story,
 ) -> Result<(), Fail> {
     let called = Arc::new(alloc, AtomicU64::new(0))?;
+    let jobs = counting_jobs(alloc, story.jobs, &called)?;
+    let left = left_behind(rt, alloc, jobs, story)?;
+    assert!(rt;
+        called.load(Ordering::SeqCst) == story.called,
+        "actions called"
+    );
+    assert!(rt; left == story.left, "jobs registered in the end");
+    Ok(())
+}
+
+/// Jobs of these numbers, in order, which count how often their actions are called.
+fn counting_jobs(
+    alloc: Global,
+    numbers: &[u32],
+    called: &Arc<AtomicU64>,
+) -> Result<VecDeque<Job>, Fail> {
     let mut jobs = VecDeque::new(alloc);
-    for &number in story.jobs {
-        let calls = Arc::try_clone(&called)?;
+    for &number in numbers {
+        let calls = Arc::try_clone(called)?;
         let action: Action = Box::new(
             alloc,
             move |number: u64| -> u64
@@ -142,13 +158,7 @@ fn agree<R: Threads + Wait + Abort + Sync>(
         let number = u64::from(number);
         jobs.push_back(Job::new(number, number + 1000, action))?;
     }
-    let left = left_behind(rt, alloc, jobs, story)?;
-    assert!(rt;
-        called.load(Ordering::SeqCst) == story.called,
-        "actions called"
-    );
-    assert!(rt; left == story.left, "jobs registered in the end");
-    Ok(())
+    Ok(jobs)
 }
 
 /// The story with these jobs, and how many of them are registered in the end.

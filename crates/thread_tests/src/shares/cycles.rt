@@ -6,8 +6,10 @@ ghost use Rattle.thread_tests.specs.QueueLists.{AreSeated};
 
 use super::calls::{Do, step_of};
 use super::many_queues::{Lists, make_references, with};
-use ref_base::{Fault, QueueNo, Urgency, WorkerNo};
-use ref_share::{HeapSeat, QueueSeat, ShareFault, SharedHeap, SharedQueue, cycle, deliver_all};
+use ref_base::{Config, Fault, Reply, Urgency, WorkerNo};
+use ref_share::{
+    HeapSeat, QueueSeat, ShareFault, SharedHeap, SharedQueue, cycle, deliver_all, make_or_collect,
+};
 use std::alloc::Global;
 use std::process::Abort;
 use std::sync::Wait;
@@ -18,6 +20,8 @@ use std::test::Fail;
 enum Call {
     /// A whole cycle at this clock, by this worker.
     Cycle(u64, u32),
+    /// The same, urgent.
+    Urgent(u64, u32),
     /// The same with no queue in the lists.
     CycleNowhere(u64, u32),
     /// A delivery of all that is pending of this worker.
@@ -26,11 +30,15 @@ enum Call {
     DeliverNowhere(u32),
     /// A step alone.
     Step(Do),
+    /// A step that makes something, behind cycles of worker 0 at this clock where the heap is full.
+    MakeOrCollect(Do, u64),
 }
 
 /// A story on a heap with two queues, an object, and a weak reference to it for each of the queues.
 #[derive(Drop)]
 struct Story<'a> {
+    /// How many cells the heap has.
+    cells: u32,
     /// The heap's first ticket.
     heap_first: u64,
     /// The first ticket of each queue.
@@ -44,6 +52,7 @@ struct Story<'a> {
 /// Nobody calls anything, and then each queue is told.
 fn quiet<'a>() -> Story<'a> {
     Story {
+        cells: 32,
         heap_first: 0,
         first: 0,
         calls: &[],
@@ -64,10 +73,13 @@ fn refusal<R: Wait>(
 {
     let no_queues: [SharedQueue; 0] = [];
     let mut no_seats: [QueueSeat; 0] = [];
-    let normal = Urgency::Normal;
+    let (normal, urgent) = (Urgency::Normal, Urgency::Urgent);
     let Lists { queues, seats } = lists;
     match call {
         Call::Cycle(now, w) => told(cycle(rt, heap, seat, queues, seats, WorkerNo(w), now, normal)),
+        Call::Urgent(now, w) => {
+            told(cycle(rt, heap, seat, queues, seats, WorkerNo(w), now, urgent))
+        }
         Call::CycleNowhere(now, w) => told(cycle(
             rt,
             heap,
@@ -91,6 +103,17 @@ fn refusal<R: Wait>(
             Ok(_) => None,
             Err(fault) => Some(fault),
         },
+        Call::MakeOrCollect(step, now) => {
+            let step = step_of(step);
+            made(make_or_collect(rt, heap, seat, queues, seats, WorkerNo(0), now, step))
+        }
+    }
+}
+
+fn made(answer: Result<Reply, ShareFault>) -> Option<Fault> {
+    match answer {
+        Ok(_) => None,
+        Err(fault) => Some(fault.into_fault()),
     }
 }
 
@@ -103,7 +126,11 @@ fn told(answer: Result<(), ShareFault>) -> Option<Fault> {
 
 /// The story's calls in turn, and what is in the queues then.
 fn agree<R: Wait + Abort>(rt: &R, alloc: Global, story: &Story) -> Result<(), Fail> {
-    let (heap, mut seat) = SharedHeap::starting(alloc, with(2), 0, story.heap_first)?;
+    let config = Config {
+        cells: story.cells,
+        ..with(2)
+    };
+    let (heap, mut seat) = SharedHeap::starting(alloc, config, 0, story.heap_first)?;
     let mut lists = Lists::new(rt, alloc, 2, story.first);
     make_references(rt, &heap, &mut seat, 2);
     for (row, &(call, want)) in story.calls.iter().enumerate() {
@@ -198,6 +225,80 @@ fn a_cycle_stops_where_the_heap_has_no_turn_left(rt: HostRuntime) -> Result<(), 
             (Call::DeliverAll(0), Some(Fault::TurnsSpent)),
         ],
         is_told: false,
+        ..quiet()
+    };
+    agree(&rt, rt.alloc(), &story)
+}
+
+/// Slot 7 gets the referent of the reference in slot 5.
+const GET: (Call, Option<Fault>) = (Call::Step(Do::Get(7, 5)), None);
+
+/// That referent is there, or it was null: then there is nothing to refer to.
+const fn refer(refusal: Option<Fault>) -> (Call, Option<Fault>) {
+    (Call::Step(Do::Alone(6, 7)), refusal)
+}
+
+const LET_GO: (Call, Option<Fault>) = (Call::Step(Do::Drop(7)), None);
+
+const fn step(step: Do) -> (Call, Option<Fault>) {
+    (Call::Step(step), None)
+}
+
+const fn make_or_collect_in(slot: u32, refusal: Option<Fault>) -> (Call, Option<Fault>) {
+    (Call::MakeOrCollect(Do::New(slot), 6), refusal)
+}
+
+#[test]
+fn an_urgent_cycle_keeps_no_soft_reference(rt: HostRuntime) -> Result<(), Fail> {
+    let story = Story {
+        calls: &[
+            step(Do::New(4)),
+            step(Do::Soft(5, 4)),
+            step(Do::Drop(4)),
+            (Call::Cycle(6, 0), None),
+            GET,
+            refer(None),
+            LET_GO,
+            (Call::Urgent(6, 0), None),
+            GET,
+            refer(Some(Fault::EmptySlot)),
+            (Call::Urgent(5, 0), Some(Fault::ClockBack)),
+        ],
+        ..quiet()
+    };
+    agree(&rt, rt.alloc(), &story)
+}
+
+#[test]
+fn where_a_heap_is_full_a_cycle_comes_first_and_then_an_urgent_one(
+    rt: HostRuntime,
+) -> Result<(), Fail> {
+    let story = Story {
+        cells: 8,
+        calls: &[
+            step(Do::New(4)),
+            step(Do::Soft(5, 4)),
+            step(Do::New(4)),
+            step(Do::Soft(6, 4)),
+            step(Do::New(4)),
+            // All eight cells are taken, and nothing but weak references keeps object 1.
+            (Call::Step(Do::New(8)), Some(Fault::NoCell)),
+            make_or_collect_in(8, None),
+            GET,
+            LET_GO,
+            // Only an urgent cycle frees what soft references kept.
+            make_or_collect_in(9, None),
+            GET,
+            (Call::Step(Do::Alone(10, 7)), Some(Fault::EmptySlot)),
+            make_or_collect_in(10, None),
+            make_or_collect_in(11, Some(Fault::NoCell)),
+            (Call::Step(Do::Drop(10)), None),
+            make_or_collect_in(11, None),
+            (
+                Call::MakeOrCollect(Do::New(16), 6),
+                Some(Fault::NoSuchActor),
+            ),
+        ],
         ..quiet()
     };
     agree(&rt, rt.alloc(), &story)

@@ -5,10 +5,10 @@ ghost use Rattle.ref_share.specs.HeapSeats.{IsHeapSeat};
 ghost use Rattle.ref_share.specs.QueueSeats.{IsQueueSeat};
 ghost use Rattle.std.specs.Prelude.{◌≡◌, ◌<◌, ◌^◌};
 
-use super::calls::{Ask, Call, Do, Seats, Told, answer, refused, step_of};
-use super::{CONFIG, M, Q, death, make_calls};
+use super::calls::{Ask, Call, Do, Seats, Told, all_delivered, answer, refused, step_of};
+use super::{CONFIG, M, Q, death, heap, make_calls, new, weak};
 use rationed::Rationed;
-use ref_base::{Fault, ObjNo, SlotNo};
+use ref_base::{Fault, ObjNo, Reply, SlotNo};
 use ref_queue::{Action, Job};
 use ref_share::{Delivery, SharedCleaner, SharedHeap, SharedQueue, end_queue, run_jobs_left};
 use std::alloc::{AllocError, Allocator, Global};
@@ -247,28 +247,25 @@ fn a_notice_that_finds_no_memory_comes_back(rt: HostRuntime) -> Result<(), Fail>
     Ok(())
 }
 
-/// What a register is told with so many requests for memory met, on a new heap with object 1 in slot 0 and a new
-/// cleaner, whether a request was refused, and the job where it came back.
+/// What a register, or a register apart, is told with so many requests for memory met, on a new heap with object 1 in
+/// slot 0 and a new cleaner, whether a request was refused, and the job where it came back.
 fn register_with<R: Wait>(
     rt: &R,
     memory: &Rationed<Global>,
+    is_apart: bool,
     met: u64,
     job: Job,
 ) -> Result<(Told, bool, Option<Job>), Fail> {
     let (heap, mut heap_seat) = SharedHeap::new(memory, CONFIG, 0)?;
     let (cleaner, mut seat) = SharedCleaner::new(memory, Q)?;
     let _object = heap.ask(rt, &mut heap_seat, step_of(Do::New(0)));
+    let (from, to) = (SlotNo(0), SlotNo(1));
     memory.ration(met);
-    let answer = cleaner.register(
-        rt,
-        &mut seat,
-        &heap,
-        &mut heap_seat,
-        M,
-        SlotNo(0),
-        SlotNo(1),
-        job,
-    );
+    let answer = if is_apart {
+        cleaner.register_apart(rt, &mut seat, &heap, &mut heap_seat, M, from, to, job)
+    } else {
+        cleaner.register(rt, &mut seat, &heap, &mut heap_seat, M, from, to, job)
+    };
     let was_refused = memory.lift();
     let (told, back) = match answer {
         Ok(_cleanable) => (Told::Added(0), None),
@@ -297,10 +294,11 @@ fn register_each<R: Wait + Abort>(
     rt: &R,
     alloc: Global,
     memory: &Rationed<Global>,
+    is_apart: bool,
 ) -> Result<u64, Fail> {
     for met in 0..MOST {
         let given = job(alloc, 1)?;
-        let (told, was_refused, back) = register_with(rt, memory, met, given)?;
+        let (told, was_refused, back) = register_with(rt, memory, is_apart, met, given)?;
         let Some(back) = back else {
             assert!(rt; !was_refused, "it is registered with {met} requests met");
             return Ok(met);
@@ -315,10 +313,96 @@ fn register_each<R: Wait + Abort>(
 #[test]
 fn a_job_that_finds_no_memory_comes_back(rt: HostRuntime) -> Result<(), Fail> {
     let memory = Rationed::new(rt.alloc());
-    let requests = register_each(&rt, rt.alloc(), &memory)?;
-    assert!(rt;
-        1 < requests && requests < MOST,
-        "register makes {requests} requests"
-    );
+    for is_apart in [false, true] {
+        let requests = register_each(&rt, rt.alloc(), &memory, is_apart)?;
+        assert!(rt;
+            1 < requests && requests < MOST,
+            "register makes {requests} requests"
+        );
+    }
+    Ok(())
+}
+
+/// A cycle finds object 1 dead. References 2 to 6 to it are in slots 1 to 5, and pending in this order.
+fn death_of_five() -> [(Call, Told); 21] {
+    let scanned = |no: u32| heap(Do::Scan, Reply::Scanned(ObjNo(no)));
+    let cleared = |no: u32| heap(Do::ClearNext, Reply::Cleared(ObjNo(no)));
+    [
+        new(0, 1),
+        weak(1, 0, 2),
+        weak(2, 0, 3),
+        weak(3, 0, 4),
+        weak(4, 0, 5),
+        weak(5, 0, 6),
+        heap(Do::Drop(0), Reply::Done),
+        heap(Do::Begin, Reply::Cycle(1)),
+        scanned(2),
+        scanned(3),
+        scanned(4),
+        scanned(5),
+        scanned(6),
+        heap(Do::Scan, Reply::Nothing),
+        heap(Do::EndMark, Reply::Doomed(1)),
+        cleared(2),
+        cleared(3),
+        cleared(4),
+        cleared(5),
+        cleared(6),
+        heap(Do::EndClear, Reply::Done),
+    ]
+}
+
+/// Why handing on the notices of the five is refused with so many requests for memory met, on a new heap and queue, and
+/// how many of them stand then.
+fn handed_on_with<R: Wait + Abort>(
+    rt: &R,
+    memory: &Rationed<Global>,
+    met: u64,
+) -> Result<(Option<Told>, usize), Fail> {
+    let (heap, heap_seat) = SharedHeap::new(memory, CONFIG, 0)?;
+    let (queue, queue_seat) = SharedQueue::new(memory, Q)?;
+    let mut seats = Seats {
+        heap: heap_seat,
+        queue: queue_seat,
+    };
+    make_calls(rt, &heap, &queue, &mut seats, &death_of_five());
+    memory.ration(met);
+    let refusal = all_delivered(rt, &heap, &queue, &mut seats);
+    memory.lift();
+    Ok((refusal, end_queue(queue.finish(seats.queue))))
+}
+
+/// Hands on the notices of the five with so many requests for memory met. How many stand where it is refused: the first
+/// that doesn't stand came back then.
+fn refused_behind<R: Wait + Abort>(
+    rt: &R,
+    memory: &Rationed<Global>,
+    met: u64,
+) -> Result<Option<usize>, Fail> {
+    let (refusal, standing) = handed_on_with(rt, memory, met)?;
+    match refusal {
+        Some(told) => {
+            let want = Told::NotPut(2 + (standing % 5) as u32, Fault::NoMemory);
+            assert!(rt; told.is(&want), "{told:?} with {met} requests met");
+            Ok(Some(standing))
+        }
+        None => {
+            assert!(rt; standing == 5, "{standing} stand");
+            Ok(None)
+        }
+    }
+}
+
+#[test]
+fn where_memory_ends_in_the_middle_what_came_before_stands(rt: HostRuntime) -> Result<(), Fail> {
+    let memory = Rationed::new(rt.alloc());
+    let mut is_in_the_middle = false;
+    for met in 0..MOST {
+        match refused_behind(&rt, &memory, met)? {
+            Some(standing) => is_in_the_middle = is_in_the_middle || standing > 0,
+            None => break,
+        }
+    }
+    assert!(rt; is_in_the_middle);
     Ok(())
 }
