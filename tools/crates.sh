@@ -4,13 +4,19 @@
 # the repository, and teller, the word that its messages begin with; and it has a function `prove`, for `prove_all`.
 root=${root:?} teller=${teller:?}
 
-# How many seconds the proof of a crate takes from nothing on four cores, one crate with another. The fourteen crates of
+# How many seconds the proof of a crate takes from nothing on four cores, one crate with another: the thirteen crates of
 # the program take about half an hour.
-seconds_a_crate=180
+seconds_a_crate=140
 
 # Asks the toolchain what it is. Where it can't be asked the answer is empty, and what is built counts as built by it.
 ask_version() {
     version=$(rt version 2>/dev/null) || version=''
+}
+
+# Ends with this said, and status 1.
+fail() {
+    echo "$teller: $1" >&2
+    exit 1
 }
 
 # Reads crates.txt: the crates in the order of its lines, and below each what it stands on.
@@ -73,17 +79,46 @@ is_among() {
     case " $* " in *" $sought "*) ;; *) return 1 ;; esac
 }
 
-# Whether the crate was built by this toolchain, since it last changed, and since the crates behind it here were built.
+# What a crate stands on by its line in crates.txt, in one line.
+line_of() {
+    awk -v crate="$1" "$read_crates"'END { print below[crate] }' "$root/crates.txt"
+}
+
+# The sum of what a proof of the crate reads: of the crate and all that it stands on, each line in crates.txt, and the
+# names and the text of its files.
+sum_of() {
+    (
+        cd "$root" || exit
+        # shellcheck disable=SC2046 # a list of words
+        set -- $(ordered "$1" | cut -d ' ' -f 1)
+        for it; do line_of "$it"; done
+        # A crate may have no specs or no proofs.
+        for it; do
+            find "crates/$it/src" "crates/$it/specs" "crates/$it/proofs" -type f -print0 2>/dev/null || true
+        done | sort -z | xargs -0 -r sha256sum
+    ) | sha256sum | cut -d ' ' -f 1
+}
+
+# The sum of a file.
+sum_of_file() {
+    sha256sum <"$1" | cut -d ' ' -f 1
+}
+
+# What a crate was built from, in a line each: the toolchain, the sum of what its proof reads, and of a program what was
+# built.
+stamp_of() {
+    echo "$version"
+    sum_of "$1"
+    [ ! -e "$root/crates/$1/src/main.rt" ] || sum_of_file "$root/crates/$1/out/$1"
+}
+
+# Whether the crate was built by this toolchain from what stands here now.
 is_built() {
-    at=crates/$1 stamp=$root/crates/$1/out/built
+    stamp=$root/crates/$1/out/built
     [ -e "$stamp" ] || return 1
-    [ ! -e "$root/$at/src/main.rt" ] || [ -x "$root/$at/out/$1" ] || return 1
-    [ -z "$version" ] || [ "$version" = "$(cat "$stamp")" ] || return 1
-    shift
-    for lower; do set -- "$@" "crates/$lower/out/built"; shift; done
-    changed=$(cd "$root" && find crates.txt "$at/src" "$at/specs" "$at/proofs" "$@" -newer "$stamp" 2>/dev/null |
-        head -n 1)
-    [ -z "$changed" ]
+    [ ! -e "$root/crates/$1/src/main.rt" ] || [ -x "$root/crates/$1/out/$1" ] || return 1
+    [ -z "$version" ] || [ "$version" = "$(head -n 1 "$stamp")" ] || return 1
+    [ "$(stamp_of "$1" | tail -n +2)" = "$(tail -n +2 "$stamp")" ]
 }
 
 # Of crates as `ordered` lists them, on standard input, those that are not built and those above them, in one line.
@@ -92,8 +127,7 @@ unbuilt() {
     while read -r crate below; do
         is_old=''
         for lower in $below; do ! is_among "$lower" "$found" || is_old=yes; done
-        # shellcheck disable=SC2086 # $below is a list of words
-        if [ -n "$is_old" ] || ! is_built "$crate" $below; then found="$found $crate"; fi
+        if [ -n "$is_old" ] || ! is_built "$crate"; then found="$found $crate"; fi
     done
     echo "$found"
 }
@@ -119,6 +153,11 @@ say_how_far() {
     elapsed=$(($(date +%s) - began))
     line="$teller: $doing $crate, crate $number of $count: ${functions:+$functions functions, }"
     line=$line$(time_of "$elapsed")$(time_left "${functions%% *}" "${functions##* }")
+    # rt says so on its last line, and works on only once the other run is done with the crate.
+    case $(tail -n 1 "$log") in
+        *'waiting for another rt to finish in'*)
+            line="$teller: $crate, crate $number of $count, waits for another run: $(time_of "$elapsed")" ;;
+    esac
     if [ -t 2 ]; then
         [ ${#line} -lt 80 ] || line="${line%% functions*}${line#* functions}"
         printf '\r%-79.79s' "$line" >&2
@@ -136,7 +175,7 @@ clear_line() {
 stop() {
     kill "$build" 2>/dev/null || true
     clear_line
-    grep -E '^(error|fn .*: no)|FAILED' "$log" | head -n 5 >&2
+    grep -E '^(error|fn .*: no)|FAILED|^[^ ]*:[0-9]+:[0-9]+: error' "$log" | head -n 5 >&2
     echo "$teller: $doing $crate $2; the log is $log" >&2
     exit "$1"
 }
@@ -145,7 +184,7 @@ stop() {
 step() {
     doing=$1 due=0
     shift
-    : >"$log"
+    { printf "" >"$log"; } 2>/dev/null || fail "can't write $log"
     (cd "$root/crates/$crate" && exec rt "$@") >"$log" 2>&1 </dev/null &
     build=$!
     trap 'stop 129 stopped' HUP; trap 'stop 130 stopped' INT; trap 'stop 143 stopped' TERM
@@ -159,26 +198,26 @@ step() {
 prove_all() {
     count=$# number=0 began=$(date +%s)
     [ "$count" -gt 0 ] || return 0
-    if [ -z "$version" ] && ! command -v rt >/dev/null; then
-        echo "$teller: no rt is on the path, to prove crates with" >&2
-        exit 1
-    fi
+    command -v rt >/dev/null || fail 'no rt is on the path, to prove crates with'
     how_many="$count crates"
     [ "$count" -gt 1 ] || how_many='1 crate'
     minutes=$(((count * seconds_a_crate + 30) / 60))
     echo "$teller: proves $how_many, which takes about $minutes minutes on four cores from nothing" >&2
     for crate; do
         number=$((number + 1)) out=$root/crates/$crate/out
-        log=$out/build.log
-        mkdir -p "$out"
+        log=$out/build.$$.log
+        mkdir -p "$out" 2>/dev/null || fail "can't write in $root/crates/$crate"
         prove "$crate"
+        rm -f "$log"
     done
 }
 
-# Proves the crate that is on and builds it, a library for the crates above it, and a program to be run.
+# Proves the crate that is on and builds it, a library for the crates above it, and a program to be run. Runs at the
+# same time have a log and a stamp of their own, and none stamps what has changed since it began.
 prove_and_build() {
-    echo "$version" >"$out/begun"
+    before=$(sum_of "$crate")
     step proving check
     if [ -e "$root/crates/$crate/src/main.rt" ]; then step building run -- --version; else step building lib; fi
-    mv "$out/begun" "$out/built"
+    [ "$(sum_of "$crate")" = "$before" ] || fail "$crate has changed while it was proved: begin again"
+    { stamp_of "$crate" >"$out/built.$$" && mv "$out/built.$$" "$out/built"; } 2>/dev/null || fail "can't write in $out"
 }
