@@ -64,7 +64,7 @@ impl<A: Allocator + Copy> Heap<A> {
         Self::starting(alloc, config, heap_no, Start::FIRST)
     }
 
-    /// The same, where numbers begin as they are told. `BadConfig` also where they can't begin so.
+    /// A heap whose numbers begin at `start`, and else as `new` makes it. `BadConfig` also where they can't begin so.
     pub fn starting(alloc: A, config: Config, heap_no: u64, start: Start) -> Result<Self, Fault>
         ensures made { IsMade (starting_refusal config start)
             (first_clear_heap config heap_no start) result }

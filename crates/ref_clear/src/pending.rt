@@ -51,7 +51,7 @@ impl Pending {
         self.queue == first.queue && self.cycle == first.cycle
     }
 
-    /// The same of the one that is told, if one is.
+    /// Whether it may be handed on at once with the other, if one is told: with none it may.
     #[inline(always)]
     pub(crate) fn may_go(self, with: Option<Pending>) -> bool
         ensures { result ≡ may_go with self }

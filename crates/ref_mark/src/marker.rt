@@ -72,7 +72,7 @@ impl<A: Allocator + Copy> Marker<A> {
         Self::starting(alloc, config, heap_no, Start::FIRST)
     }
 
-    /// The same, where numbers begin as they are told. `BadConfig` also where they can't begin so.
+    /// A marker whose numbers begin at `start`, and else as `new` makes it. `BadConfig` also where they can't begin so.
     pub fn starting(alloc: A, config: Config, heap_no: u64, start: Start) -> Result<Self, Fault>
         ensures made { IsMade (starting_refusal config start)
             (first_cycle_heap config heap_no start) result }

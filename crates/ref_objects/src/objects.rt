@@ -82,7 +82,8 @@ impl<A: Allocator + Copy> Objects<A> {
         Self::starting(alloc, config, heap_no, Start::FIRST)
     }
 
-    /// The same, where numbers begin as they are told. `BadConfig` also where they can't begin so.
+    /// A heap without objects whose numbers begin at `start`, and else as `new` makes it. `BadConfig` also where they
+    /// can't begin so.
     pub fn starting(alloc: A, config: Config, heap_no: u64, start: Start) -> Result<Self, Fault>
         ensures { IsMade (starting_refusal config start) (first_ground config heap_no start) result }
     {

@@ -54,7 +54,7 @@ impl<A: Allocator + Copy> World<A> {
         Self::starting(alloc, config, Start::FIRST)
     }
 
-    /// The same, where numbers begin as they are told. `BadConfig` also where they can't begin so.
+    /// A world whose numbers begin at `start`, and else as `new` makes it. `BadConfig` also where they can't begin so.
     pub fn starting(alloc: A, config: Config, start: Start) -> Result<Self, Fault>
         ensures made { IsMade (starting_refusal config start) (starting_core config start) result }
         ensures stands { IfOk result (λ world. Stands world (starting_state config 0 start.obj start.cycle)) }

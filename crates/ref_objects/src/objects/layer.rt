@@ -91,7 +91,8 @@ impl<A: Allocator + Copy> Objects<A> {
         self.write(no, Change::Link(to));
     }
 
-    /// The same, of the object of this entry: in constant time where it lies at the entry's place.
+    /// Writes the link of the object of this entry, as `set_link`; nothing changes where there is no such object. In
+    /// constant time where the object lies at the entry's place, and else in logarithmic time.
     #[inline(always)]
     pub fn set_link_near(&mut self, entry: Entry, to: u32)
         ensures { self.new ≡ record self.old { tags = with_link self.old.tags entry.no to } }

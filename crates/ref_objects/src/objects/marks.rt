@@ -64,7 +64,8 @@ impl<A: Allocator + Copy> Objects<A> {
         Ok(self.mark_slot_at(place))
     }
 
-    /// The same of the slot at this place among those of all mutators, from 0 on.
+    /// Marks the object that the slot at this place holds, and answers it where it wasn't marked before; else nothing
+    /// changes. The slots of all mutators are counted from 0 on. In constant time.
     #[inline(always)]
     pub fn mark_slot_at(&mut self, place: usize) -> Option<Entry>
         requires { place < length self.old.heap.slots }
