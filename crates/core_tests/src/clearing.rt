@@ -79,7 +79,7 @@ enum Give {
     Hand(u32),
     /// Of the reference in this slot.
     Unhook(u32),
-    /// The same, by this mutator.
+    /// An unhook as `Unhook`, by this mutator.
     UnhookOf(u32, u32),
 }
 
@@ -296,7 +296,7 @@ const CONFIG: Config = Config {
     rule: SpanRule::Fixed,
 };
 
-/// The same, with two workers.
+/// A configuration with two workers.
 const TWO_WORKERS: Config = Config {
     workers: 2,
     ..CONFIG
@@ -326,7 +326,7 @@ fn finish<A: Allocator + Copy>(bench: Bench<A>) {
     leak(pocket);
 }
 
-/// The same, on heap 1, which is so large and begins so, and with nothing in the pocket.
+/// Tells a story on heap 1, which is so large and begins so, with nothing in the pocket.
 fn agree_from(
     rt: &impl Abort,
     alloc: Global,
@@ -339,7 +339,7 @@ fn agree_from(
     Ok(())
 }
 
-/// The same, where numbers begin at one.
+/// Tells a story on a heap where numbers begin at one.
 fn agree(
     rt: &impl Abort,
     alloc: Global,

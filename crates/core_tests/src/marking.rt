@@ -47,7 +47,7 @@ enum Mutate {
     Store(u32, u32, u32),
     /// Into this slot, of the object in this slot, what this field holds.
     Load(u32, u32, u32),
-    /// The same, by this mutator.
+    /// Loads as `Load`, by this mutator.
     LoadOf(u32, u32, u32, u32),
     /// Into this slot what this one holds.
     CopySlot(u32, u32),
@@ -68,7 +68,7 @@ enum Collect {
     EndMark,
     /// Of this worker.
     TakeFound(u32),
-    /// It isn't made but in Marking.
+    /// A shade of a root; none is made but in Marking.
     GreyRoot(u32),
     /// The object of this number, wherever it lies.
     Free(u32),
@@ -76,9 +76,10 @@ enum Collect {
     FreeNext,
     /// All of that list.
     FreeAll,
-    /// It isn't made but in Clearing, once all that was found was looked at, where nothing refers to the doomed.
+    /// The step to Sweeping; none is made but in Clearing, once all that was found was looked at, where nothing refers
+    /// to the doomed.
     ToSweeping,
-    /// It isn't made but in Sweeping, once all that is doomed was freed.
+    /// The step to Idle; none is made but in Sweeping, once all that is doomed was freed.
     ToIdle,
     Select,
     /// By this worker.
@@ -351,7 +352,7 @@ fn agree_on(
     Ok(())
 }
 
-/// The same, on a small heap.
+/// Tells a story on a small heap that begins so.
 fn agree_from(
     rt: &impl Abort,
     alloc: Global,
@@ -361,7 +362,7 @@ fn agree_from(
     agree_on(rt, alloc, CONFIG, start, story)
 }
 
-/// The same, where numbers begin at one.
+/// Tells a story on a small heap where numbers begin at one.
 fn agree(rt: &impl Abort, alloc: Global, story: &[(Call, Told)]) -> Result<(), Fail> {
     agree_from(rt, alloc, Start::FIRST, story)
 }

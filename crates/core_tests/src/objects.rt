@@ -32,7 +32,7 @@ enum Call {
 enum Do {
     /// Makes an object, in this slot and with so many fields.
     New(u32, u32),
-    /// The same, by this mutator.
+    /// Makes an object as `New`, by this mutator.
     NewOf(u32, u32, u32),
     /// Makes a reference: of this strength, in this slot, to what this slot holds, for this queue, with so many fields.
     Refer(Strength, u32, u32, Option<u32>, u32),
@@ -72,7 +72,7 @@ enum Set {
     /// The object of this number links to this one.
     Link(u32, u32),
     BeginMarks,
-    /// It isn't made where something that is marked, a slot or a hold refers to what isn't.
+    /// A condemn; none is made where something that is marked, a slot or a hold refers to what isn't.
     Condemn,
     EndCycle,
 }
@@ -400,7 +400,7 @@ fn make_calls<A: Allocator + Copy>(
     leak(hand);
 }
 
-/// The same, on heap 1, which is so large and begins so, and with nothing in the hand.
+/// Tells a story on heap 1, which is so large and begins so, with nothing in the hand.
 fn agree_from(
     rt: &impl Abort,
     alloc: Global,
@@ -414,7 +414,7 @@ fn agree_from(
     Ok(())
 }
 
-/// The same, with so many cells, where numbers begin at one.
+/// Tells a story on a heap of so many cells, where numbers begin at one.
 fn agree(rt: &impl Abort, alloc: Global, cells: u32, story: &[(Call, Told)]) -> Result<(), Fail> {
     agree_from(rt, alloc, config(cells), Start::FIRST, story)
 }

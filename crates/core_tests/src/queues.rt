@@ -112,7 +112,7 @@ fn make_calls<A: Allocator + Copy, B: Allocator + Copy>(
     }
 }
 
-/// The same, on a new queue, which then ends and gives these.
+/// Tells a story on a new queue, which then ends and gives these.
 fn agree(rt: &impl Abort, alloc: Global, story: &[(Call, Told)], left: &[Slip]) {
     let mut queue = Queue::new(alloc, QueueNo(0));
     make_calls(rt, alloc, &mut queue, story);

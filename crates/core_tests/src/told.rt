@@ -12,17 +12,17 @@ use std::process::Abort;
 pub enum Told {
     Done,
     Refused(Fault),
-    /// This object was made, or is in a slot or a field now, or is a referent, or stands in a list.
+    /// An object that was made, or is in a slot or a field now, or is a referent, or stands in a list.
     Object(u32),
     /// A slot, a field or a referent is null.
     Null,
-    /// This object was found, or is the first that was sought.
+    /// An object that was found, or is the first that was sought.
     Found(u32),
     /// There is no such thing.
     Nothing,
     Yes,
     No,
-    /// So many.
+    /// A count.
     Count(u64),
     /// The bits of a word: 0 of null.
     Word(u64),
@@ -39,38 +39,38 @@ pub enum Told {
     /// A hold of this object, of the heap of this number.
     Held(u32, u64),
     EmptyHand,
-    /// This cycle began, or is the one of a clear: 0 where none was.
+    /// A cycle that began, or is the one of a clear: 0 where none was.
     Began(u64),
-    /// This object was scanned.
+    /// The object that was scanned.
     Scanned(u32),
-    /// So many are doomed.
+    /// How many are doomed.
     Doomed(u32),
     In(Phase),
-    /// This reference was cleared.
+    /// The reference that was cleared.
     Cleared(u32),
-    /// This reference was looked at, and its referent lives.
+    /// A reference that was looked at, and whose referent lives.
     Kept(u32),
-    /// This reference was looked at, and the program had cleared it.
+    /// A reference that was looked at, and that the program had cleared.
     Skipped(u32),
-    /// So many were freed.
+    /// How many were freed.
     Swept(u32),
-    /// So many are to move.
+    /// How many are to move.
     Selected(u32),
-    /// This object moved.
+    /// The object that moved.
     Moved(u32),
     /// A notice of this reference, for this queue, and why there is one.
     Notice(u32, u32, Cause),
-    /// This reference is pending, for this queue, since this cycle.
+    /// A reference that is pending, with its queue and the cycle since which it is.
     Pending(u32, u32, u64),
-    /// It stands last in the queue now, and so many were put in before it.
+    /// What was put stands last in the queue now, behind so many that were put in before.
     Added(u64),
-    /// It was put in before, and came back.
+    /// What was put in before, and came back.
     Already(Slip),
     /// The queue takes nothing any more, and it came back.
     TooLate(Slip),
-    /// It came back with an error.
+    /// What came back with an error.
     NotPut(Fault, Slip),
-    /// This stood first.
+    /// What stood first.
     Took(Slip),
     /// Nothing stands.
     Empty,
@@ -84,17 +84,17 @@ pub enum Told {
     PastTheEnd,
     /// What was to be kept, and the job, came back.
     NotKept(Fault, u64, u64),
-    /// This was kept beside this job.
+    /// What was kept beside a job.
     Job(u64, u64),
-    /// The same, of this object.
+    /// An object, and what was kept beside its job.
     JobOf(u32, u64, u64),
-    /// It was added to the graph.
+    /// An object that was added to the graph.
     New,
-    /// It was in the graph, and stays as it is.
+    /// An object that was in the graph, and stays as it is.
     Before,
-    /// So strongly reachable.
+    /// How strongly an object is reachable.
     Strength(Reach),
-    /// This object, which is so strongly reachable.
+    /// An object, and how strongly it is reachable.
     Listed(u32, Reach),
 }
 
@@ -137,7 +137,7 @@ impl Told {
         }
     }
 
-    /// The same, of what queues, tables and graphs answer.
+    /// A word of its own for each answer of queues, tables and graphs.
     fn word_of_the_rest(&self) -> &'static str {
         match *self {
             Told::Added(_) => "added",

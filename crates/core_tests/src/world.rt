@@ -27,7 +27,7 @@ const CONFIG: Config = Config {
     rule: SpanRule::Fixed,
 };
 
-/// The same, with two workers.
+/// A configuration with two workers.
 const TWO_WORKERS: Config = Config {
     workers: 2,
     ..CONFIG

@@ -81,7 +81,7 @@ fn crowd<R: Threads + Wait + Clock + Sync, T: Till + Send + Drop>(
     Ok(sample)
 }
 
-/// So many notices, in a pile for each thread that puts, and then a task for each that takes.
+/// A task for each thread that puts, with its pile of the notices, and then one for each that takes.
 fn tasks(alloc: Global, pairs: u32, count: u32) -> Result<Vec<Task>, Fault> {
     let mut tasks = Vec::new(alloc);
     let each = count / pairs.max(1);

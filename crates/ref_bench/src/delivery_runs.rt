@@ -19,7 +19,7 @@ use std::slice;
 use std::sync::Wait;
 use std::time::Clock;
 
-/// So many references to one dead object there are: as many as the heap has room for.
+/// How many references there are to one dead object: as many as the heap has room for.
 const DEAD: u32 = CONFIG.cells - 1;
 
 /// As many notices as go at once.

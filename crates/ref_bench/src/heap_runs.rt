@@ -19,7 +19,7 @@ pub const MUTATOR: MutNo = MutNo(0);
 
 pub const WORKER: WorkerNo = WorkerNo(0);
 
-/// So many references to one dead object there are: as many as the heap has room for.
+/// How many references there are to one dead object: as many as the heap has room for.
 const DEAD: u32 = CONFIG.cells - 1;
 
 /// Scans, each of which finds a reference to the dead object.
@@ -169,7 +169,7 @@ impl<'a> Caller<'a> {
     }
 }
 
-/// So many calls of a shared heap, by so many threads, at most 8.
+/// Calls of a shared heap, as many as `count`, by so many threads, at most 8.
 pub fn heap_calls<R: Threads + Wait + Clock + Sync>(
     rt: &R,
     alloc: Global,
@@ -188,7 +188,7 @@ pub fn heap_calls<R: Threads + Wait + Clock + Sync>(
     Ok(timer.stop(rt, u64::from(count)))
 }
 
-/// So many callers, each of a mutator of its own.
+/// A caller for each thread, each of a mutator of its own.
 fn callers<'a>(
     alloc: Global,
     heap: &'a SharedHeap,

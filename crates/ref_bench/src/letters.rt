@@ -18,7 +18,7 @@ pub const CONFIG: Config = Config {
     rule: SpanRule::Fixed,
 };
 
-/// So many notices one heap gives.
+/// How many notices one heap gives.
 const FROM_ONE_HEAP: u32 = 4_000;
 
 /// A notice that may be dropped: its heap is gone.
@@ -56,7 +56,7 @@ impl Parcel for Letter {
     }
 }
 
-/// So many notices, each of another reference.
+/// As many notices as `count`, each of another reference.
 pub fn letters(alloc: Global, first: u32, count: u32) -> Result<Vec<Letter>, Fault> {
     let mut letters = Vec::new(alloc);
     let mut left = count;

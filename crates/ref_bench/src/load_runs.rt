@@ -57,7 +57,7 @@ impl Dead {
     }
 }
 
-/// So many times as many reads as there are objects to read, or once as many in a mark.
+/// Reads each object again and again, or once in a mark.
 pub fn reads<R: Clock>(
     rt: &R,
     heap: &mut Heap,

@@ -20,7 +20,7 @@ mod timing;
 use measure::ALL;
 use std::env;
 
-/// So often each run is made.
+/// How often each run is made.
 const RUNS: u32 = 9;
 
 /// The full size of a run.

@@ -21,7 +21,7 @@ use std::time::Clock;
 pub enum Measure {
     /// Puts and polls of a queue.
     Queue,
-    /// The same of a shared queue by one thread.
+    /// Puts and polls of a shared queue by one thread.
     SharedQueue,
     /// A put and a poll of a shared queue, by so many putters and as many takers.
     SharedQueueAmong(u32),

@@ -10,7 +10,7 @@ use std::alloc::Global;
 use std::sync::Wait;
 use std::time::Clock;
 
-/// So many puts of notices into a queue, and as many polls.
+/// Puts of as many notices as `count` into a queue, and as many polls.
 pub fn queue_alone<R: Clock>(rt: &R, alloc: Global, count: u32) -> Result<Sample, Fault> {
     let letters = letters(alloc, 1, count)?;
     let mut queue = Queue::new(alloc, QUEUE);
@@ -31,7 +31,7 @@ fn calls(count: u32) -> u64 {
     u64::from(count).saturating_mul(2)
 }
 
-/// The same calls of a shared queue.
+/// Puts of as many notices as `count` into a shared queue, and as many polls.
 pub fn shared_queue_alone<R: Wait + Clock>(
     rt: &R,
     alloc: Global,

@@ -41,9 +41,9 @@ pub enum Scale {
     Cycle,
     /// Loads, each of the object before the one that was loaded last.
     Load,
-    /// The same by gets.
+    /// Gets, each of the object before the one that was got last.
     Get,
-    /// The same loads, each with a store that writes back what it answered.
+    /// Loads, each with a store that writes back what it answered.
     Store,
 }
 

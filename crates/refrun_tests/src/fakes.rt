@@ -42,7 +42,7 @@ impl Failing {
         Failing::often(before, 1, 0)
     }
 
-    /// So many calls, the first behind so many others, and each next one behind so many more.
+    /// Fails as many calls as `times`, the first behind so many others, and each next one behind so many more.
     pub fn often(before: usize, times: u32, between: usize) -> Self {
         Failing {
             before,

@@ -142,7 +142,7 @@ fn tell<R: Wait + Abort>(
     assert!(rt; heap.config() == CONFIG && queue.number() == story.queue);
 }
 
-/// The same on a new heap and a new queue, and what is left then.
+/// The story on a new heap and a new queue, and what is left then.
 fn agree<R: Wait + Abort>(rt: &R, alloc: Global, story: &Story) -> Result<(), Fail> {
     let (heap, heap_seat) = SharedHeap::starting(alloc, CONFIG, 0, story.heap_first)?;
     let (queue, queue_seat) = SharedQueue::starting(alloc, story.queue, story.first)?;

@@ -79,7 +79,7 @@ fn clear_all<A: Allocator + Copy>(rt: &impl Abort, bench: &mut Bench<A>, worker:
     );
 }
 
-/// It hands on what it cleared, in the same order.
+/// The worker hands on what it cleared, in the same order.
 fn hand_all<A: Allocator + Copy>(rt: &impl Abort, bench: &mut Bench<A>, worker: u32)
     requires { worker < 8 }
 {

@@ -33,7 +33,7 @@ const SMALL: Config = Config {
     rule: SpanRule::Fixed,
 };
 
-/// The same, with cells that fill two pages: so there are four.
+/// A configuration with cells that fill two pages: so there are four.
 const TWO_PAGES: Config = Config {
     cells: 128,
     ..SMALL

@@ -87,7 +87,7 @@ fn an_add_without_memory_changes_nothing(rt: HostRuntime) {
     assert!(rt; 1 < requests && requests < MOST, "{requests} requests");
 }
 
-/// The same of roots, each of which is an object.
+/// Adds roots, each of which is an object, with each request refused in turn.
 fn root_each<'a>(
     rt: &impl Abort,
     alloc: Global,

@@ -43,7 +43,7 @@ const SPARSE: [(Call, Told); 14] = [
     (Collect(ToIdle), Told::Done),
 ];
 
-/// This story goes on where pages are sparse. The first page has this address.
+/// Tells a story that goes on where pages are sparse. The first page has the address.
 fn agree_where_sparse(
     rt: &impl Abort,
     alloc: Global,

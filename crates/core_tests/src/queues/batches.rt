@@ -174,7 +174,7 @@ fn a_batch_with_an_item_for_another_queue_comes_back_whole(rt: HostRuntime) -> R
     refuses_all(&rt, rt.alloc(), &mut queue)
 }
 
-/// So many items are put in for the first time: more than the room that a queue takes first.
+/// How many items are put in for the first time: more than the room that a queue takes first.
 const NEW: usize = 24;
 
 /// An item that was put in before, and then new ones.
@@ -215,7 +215,7 @@ fn put_with(rt: &impl Abort, alloc: Global, met: u64) -> Result<bool, Fail> {
     put_twice(rt, alloc, &memory, &mut queue, met)
 }
 
-/// The same, of this queue, which is new.
+/// Puts them twice into the queue, which is new.
 fn put_twice<'a>(
     rt: &impl Abort,
     alloc: Global,

@@ -42,7 +42,7 @@ enum Told {
     No,
     Number(u64),
     Refused(Fault),
-    /// It asks for a page or a cell that isn't there, or for a second choice.
+    /// A call that asks for a page or a cell that isn't there, or for a second choice.
     NotAsked,
 }
 

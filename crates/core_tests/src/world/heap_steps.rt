@@ -42,11 +42,11 @@ enum Ask {
 /// What a step is answered.
 #[derive(Clone, Copy, Debug, PartialEq, Eq)]
 enum Told {
-    /// This reply, and nothing was given out.
+    /// A reply with which nothing was given out.
     Only(Reply),
     /// A notice of this reference, and why there is one. The hand has its hold.
     Notice(u32, Cause),
-    /// This reply, and the notices of these references in the batch, which are given up.
+    /// A reply, and the references of the notices in the batch, which are given up.
     Batch(Reply, Nos),
     /// A hold of this object, of the heap of this number. The hand has it.
     Held(u32, u64),
@@ -204,12 +204,12 @@ fn agree<A: Allocator + Copy>(
     leak(hand);
 }
 
-/// This reply alone.
+/// A reply alone.
 const fn only(reply: Reply) -> Told {
     Told::Only(reply)
 }
 
-/// This object was made, or is in a slot now.
+/// An object that was made, or is in a slot now.
 const fn object(no: u32) -> Told {
     Told::Only(Reply::Object(ObjNo(no)))
 }

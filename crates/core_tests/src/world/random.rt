@@ -42,7 +42,7 @@ const SMALL: Config = Config {
     rule: SpanRule::Fixed,
 };
 
-/// The same, with 16 cells.
+/// A configuration as `SMALL`, with 16 cells.
 const ROOMY: Config = Config { cells: 16, ..SMALL };
 
 /// Sizes of worlds that objects fill two pages of and more, each with the seed of its draws.

@@ -10,7 +10,7 @@ use ref_world::World;
 use std::process::Abort;
 use std::test::Fail;
 
-/// So many cells, and as long a span.
+/// How many cells the heap has, and how long its span is.
 const CELLS: u32 = 65_536;
 
 const LARGEST: Config = Config {

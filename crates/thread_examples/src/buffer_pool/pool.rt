@@ -24,7 +24,7 @@ impl Buffer {
         Ok(Buffer { state })
     }
 
-    /// The same buffer, for one owner more.
+    /// A handle of this buffer for one owner more.
     pub fn share(&self) -> Result<Self, AllocError> {
         let state = Arc::try_clone(&self.state)?;
         Ok(Buffer { state })

@@ -23,7 +23,7 @@ impl<'a> HeapUser<'a> {
         HeapUser { heap, seat }
     }
 
-    /// The same for one thread more.
+    /// A user of the same heap for one thread more.
     pub fn split(&mut self) -> HeapUser<'a>
         requires { IsUser self.old }
         ensures { IsUser self.new × IsUser result }

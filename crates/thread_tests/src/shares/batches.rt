@@ -57,7 +57,7 @@ impl Came {
     }
 }
 
-/// The same, with the references of the notices that are in the batch then.
+/// What a call was answered, with the references of the notices that are in the batch then.
 #[derive(Clone, Copy, PartialEq, Eq)]
 struct Answered {
     came: Came,
@@ -80,7 +80,7 @@ impl fmt::Debug for Answered {
 enum Batching {
     /// A delivery by the worker of this number.
     Deliver(u32, u32),
-    /// The same by the worker of number 0, with no queue in the lists.
+    /// A delivery by the worker of number 0, with no queue in the lists.
     DeliverNowhere(u32),
     /// A hand, and a put of what it gives.
     HandAndPut(u32),
@@ -215,7 +215,7 @@ fn delivered<R: Wait, A: Allocator + Copy>(
     told_of(answer, batch)
 }
 
-/// The same with no queue in the lists.
+/// A delivery of a batch with no queue in the lists.
 fn delivered_nowhere<R: Wait, A: Allocator + Copy>(
     rt: &R,
     heap: &SharedHeap<A>,
@@ -378,7 +378,7 @@ fn agree<R: Wait + Abort>(rt: &R, alloc: Global, starts: Starts, acts: &[Act]) -
     Ok(())
 }
 
-/// So many turns of the queue were made.
+/// How many turns of the queue were made.
 const fn queue_served(count: u64) -> Act {
     Act::Call(Call::Queue(Ask::Served), Told::Served(count))
 }
@@ -557,7 +557,7 @@ fn told_with<R: Wait + Abort>(
     Ok(told)
 }
 
-/// The same, on this heap and this queue, which are new.
+/// What a call with a batch is told on this heap and this queue, which are new.
 fn told_on<'a, R: Wait + Abort>(
     rt: &R,
     memory: &'a Rationed<Global>,

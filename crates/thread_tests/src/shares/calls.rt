@@ -29,9 +29,9 @@ pub enum Do {
     New(u32),
     /// A weak reference with the queue: its slot, and that of its referent.
     Weak(u32, u32),
-    /// The same without a queue.
+    /// A weak reference without a queue.
     Alone(u32, u32),
-    /// The same, soft.
+    /// A soft reference without a queue.
     Soft(u32, u32),
     /// The first slot gets the referent of the reference in the second.
     Get(u32, u32),
@@ -65,7 +65,7 @@ pub struct Seats<A: Allocator + Copy = Global> {
 pub enum Call {
     /// A step of the heap, by `try_call`.
     Try(Do),
-    /// The same by `call`.
+    /// A step of the heap, by `call`.
     Step(Do),
     HeapServed,
     Queue(Ask),
@@ -73,13 +73,13 @@ pub enum Call {
     Put(u32),
     /// An enqueue of the reference in this slot.
     Enqueue(u32),
-    /// The same through a second seat of the queue, which is joined then.
+    /// An enqueue through a second seat of the queue, which is joined then.
     EnqueueApart(u32),
-    /// The same with no queue in the lists.
+    /// An enqueue with no queue in the lists.
     EnqueueNowhere(u32),
     /// A delivery by this worker.
     Deliver(u32),
-    /// The same with no queue in the lists.
+    /// A delivery with no queue in the lists.
     DeliverNowhere,
 }
 
@@ -422,7 +422,7 @@ fn enqueued<R: Wait, A: Allocator + Copy>(
     }
 }
 
-/// The same through a second seat of the queue, which is joined then.
+/// An enqueue through a second seat of the queue, which is joined then.
 fn enqueued_apart<R: Wait, A: Allocator + Copy>(
     rt: &R,
     heap: &SharedHeap<A>,

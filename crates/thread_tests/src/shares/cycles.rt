@@ -20,13 +20,13 @@ use std::test::Fail;
 enum Call {
     /// A whole cycle at this clock, by this worker.
     Cycle(u64, u32),
-    /// The same, urgent.
+    /// An urgent cycle at this clock, by this worker.
     Urgent(u64, u32),
-    /// The same with no queue in the lists.
+    /// A whole cycle with no queue in the lists.
     CycleNowhere(u64, u32),
     /// A delivery of all that is pending of this worker.
     DeliverAll(u32),
-    /// The same with no queue in the lists.
+    /// A delivery of all that is pending, with no queue in the lists.
     DeliverNowhere(u32),
     /// A step alone.
     Step(Do),

@@ -23,7 +23,7 @@ pub struct Lists {
 }
 
 impl Lists {
-    /// So many queues, numbered from 0, whose turns are counted from `first` on.
+    /// New queues, numbered from 0, whose turns are counted from `first` on.
     pub fn new<R: Abort>(rt: &R, alloc: Global, count: u32, first: u64) -> Lists
         ensures { AreSeated result.queues.items result.seats.items }
     {
@@ -201,7 +201,7 @@ fn is_enqueued<R: Wait>(
     }
 }
 
-/// So many queues.
+/// A configuration with this many queues.
 pub const fn with(queues: u32) -> Config {
     Config {
         queues,

@@ -151,7 +151,7 @@ fn told_with<R: Wait + Abort>(
     Ok(told)
 }
 
-/// The same, on this heap and this queue, which are new.
+/// What a call is told on this heap and this queue, which are new, and what is told next.
 fn told_on<'a, R: Wait + Abort>(
     rt: &R,
     memory: &Rationed<Global>,

@@ -10,7 +10,7 @@ use std::fmt;
 use std::process::Abort;
 use std::test::Fail;
 
-/// It prints so.
+/// The value prints as this text.
 fn prints(
     rt: &impl Abort,
     alloc: Global,

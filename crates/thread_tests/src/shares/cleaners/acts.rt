@@ -55,15 +55,15 @@ pub enum Answer {
     Share(Told),
     /// The job is registered with this reference.
     Registered(u32),
-    /// This job came back, for this reason.
+    /// The job that came back, and why.
     NotRegistered(u64, Told),
     /// There is no job any more.
     Gone,
     /// The job of this number ran, with this answer.
     Ran(u64, u64),
-    /// So it did, and the hold of this reference came back.
+    /// The job of this number ran, with this answer, and the hold of this reference came back.
     RanUnheld(u64, u64, u32),
-    /// So many jobs had run as the queue was closed, or nothing stood in it any more.
+    /// How many jobs had run as the queue was closed, or nothing stood in it any more.
     Ended(u64),
     /// The story has no job left.
     NoJob,

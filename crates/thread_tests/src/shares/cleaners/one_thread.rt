@@ -52,13 +52,13 @@ enum Told {
     /// The object, or the reference of a job, has this number.
     Object(u32),
     Is(bool),
-    /// So many jobs were run.
+    /// How many jobs were run.
     Ran(u64),
     /// The job of this number was run, or came out.
     Job(u64),
     NoJob,
     Refused(Fault),
-    /// This job came back.
+    /// The job that came back, and why.
     Back(u64, Fault),
 }
 
