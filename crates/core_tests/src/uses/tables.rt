@@ -26,7 +26,7 @@ fn a_loaded_word_is_good(table: &mut Table, from: usize, field: usize, good: Col
     }
 }
 
-/// So is the word of its referent, once that is got.
+/// Once the referent of what a slot holds is got, its word is null or has the good colour.
 fn a_got_word_is_good(table: &mut Table, from: usize, good: Colour) -> bool
     requires from { from < length table.old.slots }
     requires good { table.old.round.good ≡ good }
