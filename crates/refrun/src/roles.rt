@@ -7,7 +7,8 @@ use ref_base::{
 };
 use ref_objects::Hold;
 use ref_share::{
-    HeapSeat, Polled, QueueSeat, ShareFault, SharedHeap, SharedQueue, deliver_one, enqueue,
+    HeapSeat, Polled, QueueSeat, ShareFault, SharedHeap, SharedQueue, deliver_all, deliver_one,
+    enqueue,
 };
 use std::sync::Wait;
 use std::sync::atomic::{AtomicU32, Ordering};
@@ -24,6 +25,12 @@ const TRIES: u32 = 1_000;
 
 /// So often a poller polls before it looks whether the run is at its end.
 const POLLS: u32 = 1_000;
+
+/// So many of its references a mutator keeps to the end at most.
+const MOST_KEPT: usize = 64;
+
+/// So often the last worker goes on with a cycle before it gives it up. Many times what a full heap takes.
+const MOST_TURNS: u32 = 100_000;
 
 /// What all threads share.
 pub(crate) struct Shared {
@@ -94,12 +101,15 @@ impl<'a> Station<'a> {
     }
 
     /// A mutator's rounds, until the tally stops them. In each it makes an object and a weak reference to it, lets the
-    /// object go, and every other time enqueues the reference. A round for which no cell is free is left out.
+    /// object go, and every other time enqueues the reference. A round for which no cell is free is left out. Some of
+    /// the references it holds from then on, and notes their numbers.
     pub(crate) fn mutate<R: Wait>(
         &mut self,
         rt: &R,
         mutator: MutNo,
         rounds: u64,
+        kept: &mut Vec<ObjNo>,
+        holds: &mut Vec<Hold>,
     ) -> Result<(), Fault>
         requires { IsSeated self.old }
         ensures { StaysSeated self.old self.new }
@@ -108,14 +118,85 @@ impl<'a> Station<'a> {
             if self.tally.is_stopped() {
                 return Ok(());
             }
-            let slot = SlotNo(1 + (round % 8) as u32);
-            let is_made = self.make(rt, mutator, slot)?;
-            if is_made && round % 2 == 0 {
-                self.enqueue(rt, mutator, slot)?;
-            }
+            self.do_round(rt, mutator, round, kept, holds)?;
             self.tally.count_round();
         }
         Ok(())
+    }
+
+    /// One round.
+    fn do_round<R: Wait>(
+        &mut self,
+        rt: &R,
+        mutator: MutNo,
+        round: u64,
+        kept: &mut Vec<ObjNo>,
+        holds: &mut Vec<Hold>,
+    ) -> Result<(), Fault>
+        requires { IsSeated self.old }
+        ensures { StaysSeated self.old self.new }
+    {
+        if !self.make(rt, mutator, slot_of(round))? {
+            return Ok(());
+        }
+        self.keep(rt, mutator, round, kept, holds)?;
+        if round % 2 == 0 {
+            return self.enqueue(rt, mutator, slot_of(round));
+        }
+        Ok(())
+    }
+
+    /// Holds the reference of this round and notes its number, if it is one to keep and not enough are held.
+    fn keep<R: Wait>(
+        &mut self,
+        rt: &R,
+        mutator: MutNo,
+        round: u64,
+        kept: &mut Vec<ObjNo>,
+        holds: &mut Vec<Hold>,
+    ) -> Result<(), Fault>
+        requires { IsSeated self.old }
+        ensures { StaysSeated self.old self.new }
+    {
+        if !is_kept(round) || holds.len() >= MOST_KEPT {
+            return Ok(());
+        }
+        let slot = slot_of(round);
+        let hold = self
+            .shared
+            .heap
+            .hold(rt, &mut self.heap_seat, mutator, slot)?;
+        let noted = kept.push(hold.obj());
+        if let Err(refused) = holds.push(hold) {
+            self.release(rt, refused.value);
+            return Err(Fault::NoMemory);
+        }
+        noted.map_err(|_| Fault::NoMemory)
+    }
+
+    /// Gives all holds back, once no worker runs any more.
+    pub(crate) fn release_all<R: Wait>(&mut self, rt: &R, holds: Vec<Hold>)
+        requires { IsSeated self.old }
+        ensures { StaysSeated self.old self.new }
+    {
+        let mut holds = holds;
+        if !holds.is_empty() {
+            self.wait_for_workers(rt, 0);
+        }
+        while let Some(hold) = holds.pop() {
+            self.release(rt, hold);
+        }
+        holds.destroy_empty();
+    }
+
+    /// Waits until no more workers run than this.
+    fn wait_for_workers<R: Wait>(&self, rt: &R, most: u32) {
+        for _ in rt.forever() {
+            if self.shared.running.workers.load(Ordering::SeqCst) <= most {
+                return;
+            }
+            thread::yield_now();
+        }
     }
 
     /// Makes an object, and in the slot a weak reference to it. False where no cell was free at each try.
@@ -187,7 +268,8 @@ impl<'a> Station<'a> {
     }
 
     /// A worker's share of the cycles, until the mutators have ended. The first worker begins and ends the cycles,
-    /// their phases and the moves between them; what comes at the wrong time is refused, which is no matter.
+    /// their phases and the moves between them; what comes at the wrong time is refused, which is no matter. It ends as
+    /// the last one, behind one more cycle.
     pub(crate) fn work<R: Wait>(&mut self, rt: &R, worker: WorkerNo) -> Result<(), Fault>
         requires { IsSeated self.old }
         ensures { StaysSeated self.old self.new }
@@ -200,6 +282,9 @@ impl<'a> Station<'a> {
                 self.lead(rt, now, is_last);
             }
             self.assist(rt, worker)?;
+            if is_last && worker == WorkerNo(0) {
+                return self.end_cycles(rt, now);
+            }
             if is_last {
                 return Ok(());
             }
@@ -213,16 +298,108 @@ impl<'a> Station<'a> {
         requires { IsSeated self.old }
         ensures { StaysSeated self.old self.new }
     {
-        let _ = self.ask(rt, PlainStep::EndMark);
-        let _ = self.ask(rt, PlainStep::EndClear);
-        let _ = self.ask(rt, PlainStep::EndMove);
-        if self.ask(rt, PlainStep::EndSweep).is_ok() {
-            self.tally.count_cycle();
-        }
+        let _ = self.end_phase(rt);
         if !is_last {
             let _ = self.ask(rt, PlainStep::Select);
             let urgency = Urgency::Normal;
             let _ = self.ask(rt, PlainStep::Begin { now, urgency });
+        }
+    }
+
+    /// Ends the phase that can end. Whether that was the cycle's last.
+    fn end_phase<R: Wait>(&mut self, rt: &R) -> bool
+        requires { IsSeated self.old }
+        ensures { StaysSeated self.old self.new }
+    {
+        let _ = self.ask(rt, PlainStep::EndMark);
+        let _ = self.ask(rt, PlainStep::EndClear);
+        let _ = self.ask(rt, PlainStep::EndMove);
+        let has_ended = self.ask(rt, PlainStep::EndSweep).is_ok();
+        if has_ended {
+            self.tally.count_cycle();
+        }
+        has_ended
+    }
+
+    /// What the last worker does for all of them: it brings the open cycle and the moves to their end, and then one
+    /// more cycle, which finds dead what the mutators dropped. Then it hands on all that is pending. A cycle that does
+    /// not end is given up, so that the run ends.
+    fn end_cycles<R: Wait>(&mut self, rt: &R, now: u64) -> Result<(), Fault>
+        requires { IsSeated self.old }
+        ensures { StaysSeated self.old self.new }
+    {
+        self.wait_for_workers(rt, 1);
+        self.begin_last(rt, now)?;
+        self.end_last(rt)?;
+        self.deliver_pending(rt)
+    }
+
+    /// Goes on with what is open until a cycle can begin, and begins it.
+    fn begin_last<R: Wait>(&mut self, rt: &R, now: u64) -> Result<(), Fault>
+        requires { IsSeated self.old }
+        ensures { StaysSeated self.old self.new }
+    {
+        let urgency = Urgency::Urgent;
+        for _ in 0..MOST_TURNS {
+            self.go_on(rt)?;
+            if self.ask(rt, PlainStep::Begin { now, urgency }).is_ok() {
+                return Ok(());
+            }
+        }
+        Ok(())
+    }
+
+    /// Goes on with the cycle until it has ended.
+    fn end_last<R: Wait>(&mut self, rt: &R) -> Result<(), Fault>
+        requires { IsSeated self.old }
+        ensures { StaysSeated self.old self.new }
+    {
+        for _ in 0..MOST_TURNS {
+            if self.go_on(rt)? {
+                return Ok(());
+            }
+        }
+        Ok(())
+    }
+
+    /// A step of each kind of each worker, and the end of the phase that can end. Whether a cycle has ended.
+    fn go_on<R: Wait>(&mut self, rt: &R) -> Result<bool, Fault>
+        requires { IsSeated self.old }
+        ensures { StaysSeated self.old self.new }
+    {
+        for number in 0..self.shared.heap.config().workers {
+            self.assist(rt, WorkerNo(number))?;
+        }
+        Ok(self.end_phase(rt))
+    }
+
+    /// Hands on what is pending of each worker.
+    fn deliver_pending<R: Wait>(&mut self, rt: &R) -> Result<(), Fault>
+        requires { IsSeated self.old }
+        ensures { StaysSeated self.old self.new }
+    {
+        for number in 0..self.shared.heap.config().workers {
+            self.deliver_all(rt, WorkerNo(number))?;
+        }
+        Ok(())
+    }
+
+    /// Hands on what is pending of the worker.
+    fn deliver_all<R: Wait>(&mut self, rt: &R, worker: WorkerNo) -> Result<(), Fault>
+        requires { IsSeated self.old }
+        ensures { StaysSeated self.old self.new }
+    {
+        let answer = deliver_all(
+            rt,
+            &self.shared.heap,
+            &mut self.heap_seat,
+            slice::from_ref(&self.shared.queue),
+            slice::from_mut(&mut self.queue_seat),
+            worker,
+        );
+        match answer {
+            Ok(()) => Ok(()),
+            Err(fault) => Err(self.settle(rt, fault)),
         }
     }
 
@@ -357,4 +534,14 @@ impl<'a> Station<'a> {
             }
         }
     }
+}
+
+/// Where a mutator makes the reference of this round.
+fn slot_of(round: u64) -> SlotNo {
+    SlotNo(1 + (round % 8) as u32)
+}
+
+/// Whether a mutator keeps the reference of this round: each that it doesn't enqueue, and a few that it does.
+fn is_kept(round: u64) -> bool {
+    round % 2 == 1 || round % 16 == 0
 }
