@@ -1,6 +1,7 @@
 -- What the rows of jobs and the checks of a stress run may say at worked states, and what they may not.
-use Rattle.refrun.proofs.Common.{ℕ, zero, suc, ◌+◌, ◌<◌, List, [], ◌∷◌, None, Some, get_or, refl, sym, arith, nat_eq, false}
-use Rattle.refrun.proofs.Common.{State, StageJobs, first_jobs, RegistersStageJob, TookInOrder, IsFirstFailure, true≢false}
+use Rattle.refrun.proofs.Common.{ℕ, zero, suc, ◌+◌, ◌<◌, List, [], ◌∷◌, None, Some, get_or, refl, sym, arith, nat_eq}
+use Rattle.refrun.proofs.Common.{false, true≢false, State, StageJobs, first_jobs, RegistersStageJob, TookInOrder}
+use Rattle.refrun.proofs.Common.{IsFirstFailure}
 use Rattle.std.proofs.Common.{◌≢◌}
 use Rattle.std.specs.List.{IsDistinct}
 use Rattle.ref_base.specs.CollectorRows.{IsRow}

@@ -70,14 +70,12 @@ impl fmt::Display for Evidence {
             } => write!(f, "{number} was put in at {first} and at {again}"),
             Evidence::OutOfOrder {
                 poller,
-                before: Some(before),
+                before,
                 number,
-            } => write!(f, "poller {poller} took {number} behind {before}"),
-            Evidence::OutOfOrder {
-                poller,
-                before: None,
-                number,
-            } => write!(f, "poller {poller} took {number} first"),
+            } => match before {
+                Some(before) => write!(f, "poller {poller} took {number} behind {before}"),
+                None => write!(f, "poller {poller} took {number} first"),
+            },
             Evidence::NotGiven { poller, number } => {
                 write!(
                     f,

@@ -44,8 +44,8 @@ impl fmt::Display for Check {
     }
 }
 
-/// The first check that fails, in the order of `Check`; `None` where all hold. `lists` has what each poller took, `kept`
-/// what each mutator kept to the end.
+/// The first check that fails, in the order of `Check`; `None` where all hold. `lists` has what each poller took, and
+/// `kept` what each mutator kept to the end.
 ///
 /// The one error is `NoMemory`. In expected linear time of all numbers, and for each poller of `enqueued` once more. It
 /// takes memory for the numbers of `enqueued`, then of `taken`, and then of `enqueued` again.

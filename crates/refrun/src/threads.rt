@@ -138,10 +138,11 @@ pub fn stress<R: Threads + Wait + Sync>(
 /// Runs threads over one shared heap and one shared queue, and gives the queue's lists and those of the pollers. `None`
 /// where a turn of the queue is open, so that nobody can say what stands.
 ///
-/// Mutators make weak references, enqueue every other one, and keep some to the end; workers run the collector and hand
-/// on what it cleared; pollers take what arrives. When the mutators have ended the workers bring the cycle to its end
-/// and one more behind it, so that each reference that was kept is reported; then they end, the queue is closed, and
-/// the pollers take what is left. The tally says meanwhile how far the run is, and can stop the mutators.
+/// Mutators make references of each strength, enqueue every other one, and keep some to the end; workers run the
+/// collector and hand on what it cleared; pollers take what arrives. When the mutators have ended the workers bring the
+/// cycle to its end and one more behind it, so that each reference that was kept is reported; then they end, the queue
+/// is closed, and the pollers take what is left. The tally says meanwhile how far the run is, and can stop the
+/// mutators.
 ///
 /// `BadConfig` where mutators and pollers together, or workers, are not 1 to 8. `NoMemory` where a growth is refused,
 /// or the memory for threads. All its memory is of this allocator.
@@ -191,8 +192,8 @@ pub fn stress_lists<R: Threads + Wait + Sync>(
     }
 }
 
-/// Runs all threads to their ends, and gives what each kept or took. Where one can't be made, none begins, and the answer is
-/// `NoMemory`.
+/// Runs all threads to their ends, and gives what each kept or took. Where one can't be made, none begins, and the
+/// answer is `NoMemory`.
 fn run<R: Threads + Wait + Sync>(
     rt: &R,
     alloc: Global,
@@ -371,7 +372,8 @@ fn job_of(shared: &Shared, heap_seat: &mut HeapSeat, queue_seat: &mut QueueSeat,
     }
 }
 
-/// What one thread leaves at its end. A fault stops the whole run. It counts as ended before it gives back what it holds.
+/// What one thread leaves at its end. A fault stops the whole run. It counts as ended before it gives back what it
+/// holds.
 fn left_by<'a, R: Wait>(
     rt: &R,
     alloc: Global,
@@ -388,7 +390,7 @@ fn left_by<'a, R: Wait>(
         queue_seat,
     } = job;
     let ending = Ending(count_of(&role, &shared.running));
-    let mut station = Station::new(shared, tally, heap_seat, queue_seat);
+    let mut station = Station::new(alloc, shared, tally, heap_seat, queue_seat);
     let mut noted = Vec::new(alloc);
     let mut holds = Vec::new(alloc);
     let answer = act(rt, shared, &mut station, role, &mut noted, &mut holds);
@@ -436,8 +438,7 @@ fn act<R: Wait>(
     }
 }
 
-/// The lists of the queue, with those of the mutators and the pollers: the ones are the first of all threads, the others
-/// the last.
+/// The lists of the queue, with those of the mutators and the pollers: these are the first and the last of all threads.
 fn lists_left(
     alloc: Global,
     queue: &Queue<Notice>,
