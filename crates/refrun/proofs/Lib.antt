@@ -22,5 +22,6 @@ pub mod ListingLemmas
 pub mod ReadLemmas
 pub mod ListChecks
 pub mod NoEvidence
+pub mod Reports
 pub mod SeatLists
 mod ScriptExamples

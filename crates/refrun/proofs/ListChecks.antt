@@ -109,10 +109,9 @@ is_left true true left = absurd (true≢false (sym left))
 is_left true false left = (refl, refl)
 is_left false given left = absurd (true≢false (sym left))
 
-pub nothing_given : {keys : List ℕ} (taken : List ℕ) (i : ℕ) → length taken ≤ i
-    → ((q : ℕ) → has keys q ≡ has (take i taken) q) → Left taken [] keys
+pub nothing_given : {keys : List ℕ} (taken : List ℕ) → ((q : ℕ) → has keys q ≡ has taken q) → Left taken [] keys
 unfolding IsDistinct
-nothing_given taken i past so_far = grind (arith, take_all)
+nothing_given taken all = grind arith
 
 -- the next number of a list is given
 after_one : (taken given same : Bool) {before after all : Bool} → before ≡ (taken && not given)

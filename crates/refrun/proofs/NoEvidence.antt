@@ -79,7 +79,7 @@ distinct-append xs (y ∷ ys) first second none =
 module _ {X : Type 0} (numbers : X → List ℕ) (xs : List X) where
   module _ (i : ℕ) (x : X) (ns : List ℕ) (within : i < length xs) (is_x : x ≡ get_or xs i x)
       (are : ns ≡ numbers x) where
-    next_list : flat_map numbers (take (i + 1) xs) ≡ flat_map numbers (take i xs) ++ ns
+    pub next_list : flat_map numbers (take (i + 1) xs) ≡ flat_map numbers (take i xs) ++ ns
     next_list =
         ap (flat_map numbers) (take_more xs i x within ∙ ap (λ (y : X). take i xs ++ y ∷ []) (sym is_x))
         ∙ flat_map-append numbers (take i xs) (x ∷ [])

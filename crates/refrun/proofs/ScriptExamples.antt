@@ -1,13 +1,18 @@
 -- What the rows of jobs and the checks of a stress run may say at worked states, and what they may not.
-use Rattle.refrun.proofs.Common.{ℕ, zero, suc, ◌+◌, ◌<◌, List, [], ◌∷◌, None, Some, get_or, refl, arith, nat_eq, false}
-use Rattle.refrun.proofs.Common.{State, StageJobs, first_jobs, RegistersStageJob, TookInOrder, IsFirstFailure}
+use Rattle.refrun.proofs.Common.{ℕ, zero, suc, ◌+◌, ◌<◌, List, [], ◌∷◌, None, Some, get_or, refl, sym, arith, nat_eq}
+use Rattle.refrun.proofs.Common.{false, true≢false, State, StageJobs, first_jobs, RegistersStageJob, TookInOrder}
+use Rattle.refrun.proofs.Common.{IsFirstFailure}
 use Rattle.std.proofs.Common.{◌≢◌}
 use Rattle.std.specs.List.{IsDistinct}
 use Rattle.ref_base.specs.CollectorRows.{IsRow}
 use Rattle.ref_base.specs.declared.reply.Reply.TheVariants.{Done}
 use Rattle.ref_base.specs.declared.plain_step.PlainStep.TheVariants.{Clear}
 use Rattle.refrun.specs.ScriptRuns.{RunsJob}
-use Rattle.refrun.specs.declared.lists.Check.TheVariants.{Order, Rest}
+use Rattle.refrun.specs.declared.lists.Check.TheVariants.{Order, Rest, Reports}
+use Rattle.refrun.specs.declared.evidence.Evidence.TheVariants.{NoReport}
+use Rattle.refrun.specs.StressChecks.{PutInAll}
+use Rattle.refrun.specs.StressEvidence.{ShowsReports}
+use Rattle.refrun.proofs.NoEvidence.{contained}
 use Rattle.ref_queue.proofs.TableLemmas.{first_out}
 use Rattle.ref_base.specs.declared.step.Step.TheVariants as world
 use Rattle.refrun.specs.declared.script_step.ScriptReply.TheVariants as replies
@@ -72,17 +77,43 @@ a_repeat_is_not_distinct : ¬ (IsDistinct nat_eq (2 ∷ 2 ∷ []))
 unfolding IsDistinct
 a_repeat_is_not_distinct distinct = let apart = distinct.0.0 in absurd cc
 
-all_checks_pass : IsFirstFailure (2 ∷ 3 ∷ []) (2 ∷ 3 ∷ []) [] lists None
-all_checks_pass = (two_are_distinct, in_order, (two_are_distinct, λ n. refl), (refl, refl))
+-- what the mutators kept was put in
+lists_are_put_in : PutInAll (2 ∷ 3 ∷ []) lists
+lists_are_put_in n there = there
+
+all_checks_pass : IsFirstFailure (2 ∷ 3 ∷ []) (2 ∷ 3 ∷ []) [] lists lists None
+all_checks_pass = (two_are_distinct, in_order, (two_are_distinct, λ n. refl), (refl, refl), lists_are_put_in)
 
 -- one is left over
 one_in_order : TookInOrder (2 ∷ 3 ∷ []) ((2 ∷ []) ∷ [])
 one_in_order zero d below = refl
 one_in_order (suc k) d below = absurd (omega (arith, below))
 
-the_last_check_fails : IsFirstFailure (2 ∷ 3 ∷ []) (2 ∷ []) (3 ∷ []) ((2 ∷ []) ∷ []) (Some Rest)
-the_last_check_fails = grind (arith, two_are_distinct, one_is_distinct)
+what_stands_fails : IsFirstFailure (2 ∷ 3 ∷ []) (2 ∷ []) (3 ∷ []) ((2 ∷ []) ∷ []) [] (Some Rest)
+what_stands_fails = grind (arith, two_are_distinct, one_is_distinct)
 
 -- 2 was put in twice, which is told before all else
-an_order_is_not_told_before_a_repeat : ¬ (IsFirstFailure (2 ∷ 2 ∷ []) (2 ∷ 2 ∷ []) [] lists (Some Order))
+an_order_is_not_told_before_a_repeat : ¬ (IsFirstFailure (2 ∷ 2 ∷ []) (2 ∷ 2 ∷ []) [] lists [] (Some Order))
 an_order_is_not_told_before_a_repeat fails = a_repeat_is_not_distinct fails.0
+
+-- the second mutator kept 5, which was not put in
+abbrev kept : List (List ℕ)
+kept = (2 ∷ []) ∷ (5 ∷ []) ∷ []
+
+not_put_in : ¬ (PutInAll (2 ∷ 3 ∷ []) kept)
+not_put_in all = true≢false (sym (all 5 refl))
+
+a_missing_report_fails : IsFirstFailure (2 ∷ 3 ∷ []) (2 ∷ 3 ∷ []) [] lists kept (Some Reports)
+a_missing_report_fails = (two_are_distinct, in_order, (two_are_distinct, λ n. refl), (refl, refl), not_put_in)
+
+a_missing_report_is_shown : ShowsReports (λ ns. ns) (2 ∷ 3 ∷ []) kept (NoReport 5)
+a_missing_report_is_shown = (
+  1,
+  5 ∷ [],
+  refl,
+  (0, omega arith, refl),
+  λ among. true≢false (sym (contained (2 ∷ 3 ∷ []) 5 among)),
+)
+
+what_was_put_in_is_not_missing : ¬ (ShowsReports (λ ns. ns) (2 ∷ 3 ∷ []) kept (NoReport 2))
+what_was_put_in_is_not_missing shows = shows.4 (0, omega arith, refl)

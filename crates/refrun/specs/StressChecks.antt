@@ -1,11 +1,11 @@
 -- What a queue's lists must be once all threads of a stress run have ended: what was put in, what was taken, what
--- stands, and what each poller took (this project's own).
+-- stands, what each poller took, and what each mutator kept to the end (this project's own).
 use Rattle.std.specs.Prelude.{◌≡◌, ℕ, true, nat_eq, List, [], codes, Option, None, Some}
 use Rattle.std.specs.List.{All, IsDistinct, concat}
 use Rattle.ref_base.specs.Members.{has}
 use Rattle.ref_base.specs.CollectorRows.{is_subsequence}
 use Rattle.refrun.specs.declared.lists.Check.{Check}
-use Rattle.refrun.specs.declared.lists.Check.TheVariants.{Twice, Order, Total, Rest}
+use Rattle.refrun.specs.declared.lists.Check.TheVariants.{Twice, Order, Total, Rest, Reports}
 
 -- each poller took its numbers in the order in which they were put in
 abbrev pub TookInOrder : List ℕ → List (List ℕ) → Type 0
@@ -15,13 +15,18 @@ TookInOrder enqueued lists = All (λ list. is_subsequence list enqueued ≡ true
 abbrev pub GivesEachOnce : List ℕ → List (List ℕ) → Type 0
 GivesEachOnce taken lists = IsDistinct nat_eq (concat lists) × ((n : ℕ) → has (concat lists) n ≡ has taken n)
 
-module _ (enqueued taken stands : List ℕ) (lists : List (List ℕ)) where
+-- each number that a mutator kept was put in
+abbrev pub PutInAll : List ℕ → List (List ℕ) → Type 0
+PutInAll enqueued kept = (n : ℕ) → has (concat kept) n ≡ true → has enqueued n ≡ true
+
+module _ (enqueued taken stands : List ℕ) (lists kept : List (List ℕ)) where
   -- what each check asks
   abbrev pub Passes : Check → Type 0
   Passes Twice = IsDistinct nat_eq enqueued
   Passes Order = TookInOrder enqueued lists
   Passes Total = GivesEachOnce taken lists
   Passes Rest = (stands ≡ []) × (taken ≡ enqueued)
+  Passes Reports = PutInAll enqueued kept
 
   -- the first check that fails, in this order; none where all hold
   abbrev pub IsFirstFailure : Option Check → Type 0
@@ -29,7 +34,8 @@ module _ (enqueued taken stands : List ℕ) (lists : List (List ℕ)) where
   IsFirstFailure (Some Order) = Passes Twice × ¬ Passes Order
   IsFirstFailure (Some Total) = Passes Twice × Passes Order × ¬ Passes Total
   IsFirstFailure (Some Rest) = Passes Twice × Passes Order × Passes Total × ¬ Passes Rest
-  IsFirstFailure None = Passes Twice × Passes Order × Passes Total × Passes Rest
+  IsFirstFailure (Some Reports) = Passes Twice × Passes Order × Passes Total × Passes Rest × ¬ Passes Reports
+  IsFirstFailure None = Passes Twice × Passes Order × Passes Total × Passes Rest × Passes Reports
 
 -- the name of a check, as it is printed
 abbrev pub name_of_check : Check → List ℕ
@@ -37,3 +43,4 @@ name_of_check Twice = codes "twice"
 name_of_check Order = codes "order"
 name_of_check Total = codes "total"
 name_of_check Rest = codes "rest"
+name_of_check Reports = codes "reports"

@@ -47,13 +47,20 @@ module _ {V : Type 0} (items : V → List ℕ) where
   ShowsTotal taken lists (evidence.NotTaken n) = Contains taken n × All (λ v. ¬ (Contains (items v) n)) lists
   ShowsTotal taken lists e = ⊥
 
+  -- a mutator kept the number, and it was not put in
+  abbrev pub ShowsReports : List ℕ → List V → Evidence → Type 0
+  ShowsReports enqueued kept (evidence.NoReport n) =
+      (m : ℕ) × (v : V) × (slice_get kept m ≡ Some v) × Contains (items v) n × ¬ (Contains enqueued n)
+  ShowsReports enqueued kept e = ⊥
+
   -- one of these
-  abbrev pub IsEvidence : (enqueued taken stands : List ℕ) → List V → Evidence → Type 0
-  IsEvidence enqueued taken stands lists (evidence.PutTwice n first again) =
+  abbrev pub IsEvidence : (enqueued taken stands : List ℕ) → (lists kept : List V) → Evidence → Type 0
+  IsEvidence enqueued taken stands lists kept (evidence.PutTwice n first again) =
       ShowsTwice enqueued (evidence.PutTwice n first again)
-  IsEvidence enqueued taken stands lists (evidence.OutOfOrder p before n) =
+  IsEvidence enqueued taken stands lists kept (evidence.OutOfOrder p before n) =
       ShowsOrder enqueued lists (evidence.OutOfOrder p before n)
-  IsEvidence enqueued taken stands lists (evidence.Stands n) = ShowsRest enqueued taken stands (evidence.Stands n)
-  IsEvidence enqueued taken stands lists (evidence.TakenInPlaceOf place put got) =
+  IsEvidence enqueued taken stands lists kept (evidence.Stands n) = ShowsRest enqueued taken stands (evidence.Stands n)
+  IsEvidence enqueued taken stands lists kept (evidence.TakenInPlaceOf place put got) =
       ShowsRest enqueued taken stands (evidence.TakenInPlaceOf place put got)
-  IsEvidence enqueued taken stands lists e = ShowsTotal taken lists e
+  IsEvidence enqueued taken stands lists kept (evidence.NoReport n) = ShowsReports enqueued kept (evidence.NoReport n)
+  IsEvidence enqueued taken stands lists kept e = ShowsTotal taken lists e

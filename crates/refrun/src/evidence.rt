@@ -7,7 +7,7 @@ ghost use Rattle.ref_base.specs.CollectorRows.{is_subsequence};
 ghost use Rattle.ref_base.specs.Members.{has};
 ghost use Rattle.refrun.specs.StressChecks.{Passes, GivesEachOnce};
 ghost use Rattle.refrun.specs.StressEvidence.{before_place, IsEvidence, ShowsTwice, ShowsOrder, ShowsTotal};
-ghost use Rattle.refrun.specs.StressEvidence.{ShowsAgain, ShowsRest};
+ghost use Rattle.refrun.specs.StressEvidence.{ShowsAgain, ShowsRest, ShowsReports};
 
 use crate::lists::{Check, is_in_order};
 use ref_base::ObjNo;
@@ -54,6 +54,10 @@ pub enum Evidence {
         put: Option<ObjNo>,
         taken: Option<ObjNo>,
     },
+    /// Of `reports`: a mutator kept the number to the end, and it was not put in.
+    NoReport {
+        number: ObjNo,
+    },
 }
 
 impl fmt::Display for Evidence {
@@ -66,14 +70,12 @@ impl fmt::Display for Evidence {
             } => write!(f, "{number} was put in at {first} and at {again}"),
             Evidence::OutOfOrder {
                 poller,
-                before: Some(before),
+                before,
                 number,
-            } => write!(f, "poller {poller} took {number} behind {before}"),
-            Evidence::OutOfOrder {
-                poller,
-                before: None,
-                number,
-            } => write!(f, "poller {poller} took {number} first"),
+            } => match before {
+                Some(before) => write!(f, "poller {poller} took {number} behind {before}"),
+                None => write!(f, "poller {poller} took {number} first"),
+            },
             Evidence::NotGiven { poller, number } => {
                 write!(
                     f,
@@ -96,6 +98,7 @@ impl fmt::Display for Evidence {
                 Told(put),
                 Told(taken)
             ),
+            Evidence::NoReport { number } => write!(f, "no report of {number}"),
         }
     }
 }
@@ -114,22 +117,25 @@ impl fmt::Display for Told {
 }
 
 /// What shows that this check fails, the first in the order of the lists; none where the check holds. `lists` has what
-/// each poller took. In time of the square of the numbers. Takes no memory.
+/// each poller took, `kept` what each mutator kept to the end. In time of the square of the numbers. Takes no memory.
 pub fn evidence_of<B: Allocator>(
     check: Check,
     enqueued: &[ObjNo],
     taken: &[ObjNo],
     stands: &[ObjNo],
     lists: &[Vec<ObjNo, B>],
+    kept: &[Vec<ObjNo, B>],
 ) -> Option<Evidence>
-    ensures shows { IfSome result (IsEvidence (λ v. v.items) enqueued.now taken.now stands.now lists.now) }
-    ensures passes { IfNone result (Passes enqueued.now taken.now stands.now (map (λ v. v.items) lists.now) check) }
+    ensures shows { IfSome result (IsEvidence (λ v. v.items) enqueued.now taken.now stands.now lists.now kept.now) }
+    ensures passes { IfNone result (Passes enqueued.now taken.now stands.now (map (λ v. v.items) lists.now)
+        (map (λ v. v.items) kept.now) check) }
 {
     match check {
         Check::Twice => put_twice(enqueued),
         Check::Order => out_of_order(enqueued, lists),
         Check::Total => not_once(taken, lists),
         Check::Rest => left_over(enqueued, taken, stands),
+        Check::Reports => not_put_in(enqueued, kept),
     }
 }
 
@@ -332,6 +338,20 @@ fn left_over(enqueued: &[ObjNo], taken: &[ObjNo], stands: &[ObjNo]) -> Option<Ev
         let taken = taken.get(place).copied();
         if put != taken {
             return Some(Evidence::TakenInPlaceOf { place, put, taken });
+        }
+    }
+    None
+}
+
+/// The first number of the lists that was not put in.
+fn not_put_in<B: Allocator>(enqueued: &[ObjNo], kept: &[Vec<ObjNo, B>]) -> Option<Evidence>
+    ensures shows { IfSome result (ShowsReports (λ v. v.items) enqueued.now kept.now) }
+    ensures passes { IfNone result ((n : ℕ) → has (flat_map (λ v. v.items) kept.now) n ≡ true
+        → has enqueued.now n ≡ true) }
+{
+    for mutator in 0..kept.len() {
+        if let Some(number) = number_outside(kept[mutator].as_slice(), enqueued) {
+            return Some(Evidence::NoReport { number });
         }
     }
     None

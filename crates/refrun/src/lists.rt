@@ -1,14 +1,16 @@
 //! Whether a queue's lists agree once all threads of a stress run have ended.
 
-ghost use Rattle.std.specs.Prelude.{◌≡◌, ◌↔◌, map, nat_eq, true, All, IfOk, OnErr, IsTrue};
+ghost use Rattle.std.specs.Prelude.{◌≡◌, ◌↔◌, ℕ, map, nat_eq, true, All, IfOk, OnErr, IsTrue};
 ghost use Rattle.std.specs.List.{IsDistinct};
 ghost use Rattle.ref_base.specs.CollectorRows.{is_subsequence};
-ghost use Rattle.refrun.specs.StressChecks.{IsFirstFailure, GivesEachOnce};
+ghost use Rattle.ref_base.specs.Members.{has};
+ghost use Rattle.refrun.specs.StressChecks.{IsFirstFailure, GivesEachOnce, PutInAll};
 
 use ref_base::{Fault, ObjNo};
 use std::alloc::Allocator;
 use std::collections::HashSet;
 use std::fmt;
+use std::hash::{BuildHasherDefault, FoldHasher};
 
 /// A check of what a queue's lists say once the threads have ended. It prints as its name, in small letters.
 #[derive(Clone, Copy, Debug, PartialEq, Eq)]
@@ -21,6 +23,8 @@ pub enum Check {
     Total,
     /// Nothing stands, and what was put in was taken.
     Rest,
+    /// Each reference that was kept to the end was put in.
+    Reports,
 }
 
 impl fmt::Display for Check {
@@ -35,22 +39,26 @@ impl fmt::Display for Check {
             Check::Order => write!(f, "order"),
             Check::Total => write!(f, "total"),
             Check::Rest => write!(f, "rest"),
+            Check::Reports => write!(f, "reports"),
         }
     }
 }
 
-/// The first check that fails, in the order of `Check`; `None` where all hold. `lists` has what each poller took.
+/// The first check that fails, in the order of `Check`; `None` where all hold. `lists` has what each poller took, and
+/// `kept` what each mutator kept to the end.
 ///
 /// The one error is `NoMemory`. In expected linear time of all numbers, and for each poller of `enqueued` once more. It
-/// takes memory for the numbers of `enqueued` and then of `taken`.
+/// takes memory for the numbers of `enqueued`, then of `taken`, and then of `enqueued` again.
 pub fn check_lists<A: Allocator + Copy, B: Allocator>(
     alloc: A,
     enqueued: &[ObjNo],
     taken: &[ObjNo],
     stands: &[ObjNo],
     lists: &[Vec<ObjNo, B>],
+    kept: &[Vec<ObjNo, B>],
 ) -> Result<Option<Check>, Fault>
-    ensures answer { IfOk result (IsFirstFailure enqueued.now taken.now stands.now (map (λ v. v.items) lists.now)) }
+    ensures answer { IfOk result (IsFirstFailure enqueued.now taken.now stands.now (map (λ v. v.items) lists.now)
+        (map (λ v. v.items) kept.now)) }
     ensures err { OnErr result (result ≡ Err Fault.NoMemory) }
 {
     if !are_distinct(alloc, enqueued)? {
@@ -64,6 +72,9 @@ pub fn check_lists<A: Allocator + Copy, B: Allocator>(
     }
     if !stands.is_empty() || taken != enqueued {
         return Ok(Some(Check::Rest));
+    }
+    if !are_put_in(alloc, enqueued, kept)? {
+        return Ok(Some(Check::Reports));
     }
     Ok(None)
 }
@@ -118,12 +129,7 @@ fn gives_each_once<A: Allocator + Copy, B: Allocator>(
     ensures answer { IfOk result (λ b. IsTrue b ↔ GivesEachOnce taken.now (map (λ v. v.items) lists.now)) }
     ensures err { OnErr result (result ≡ Err Fault.NoMemory) }
 {
-    let mut missing = HashSet::new(alloc);
-    for number in taken {
-        let Ok(_) = missing.insert(*number) else {
-            return Err(Fault::NoMemory);
-        };
-    }
+    let mut missing = set_of(alloc, taken)?;
     for list in lists {
         for number in list {
             if !missing.remove(number) {
@@ -132,4 +138,41 @@ fn gives_each_once<A: Allocator + Copy, B: Allocator>(
         }
     }
     Ok(missing.is_empty())
+}
+
+/// Whether each number of the lists was put in.
+fn are_put_in<A: Allocator + Copy, B: Allocator>(
+    alloc: A,
+    enqueued: &[ObjNo],
+    kept: &[Vec<ObjNo, B>],
+) -> Result<bool, Fault>
+    ensures answer { IfOk result (λ b. IsTrue b ↔ PutInAll enqueued.now (map (λ v. v.items) kept.now)) }
+    ensures err { OnErr result (result ≡ Err Fault.NoMemory) }
+{
+    let reported = set_of(alloc, enqueued)?;
+    for list in kept {
+        for number in list {
+            if !reported.contains(number) {
+                return Ok(false);
+            }
+        }
+    }
+    Ok(true)
+}
+
+/// These numbers as a set.
+fn set_of<A: Allocator + Copy>(
+    alloc: A,
+    numbers: &[ObjNo],
+) -> Result<HashSet<ObjNo, BuildHasherDefault<FoldHasher>, A>, Fault>
+    ensures answer { IfOk result (λ set. (n : ℕ) → has set.keys n ≡ has numbers.now n) }
+    ensures err { OnErr result (result ≡ Err Fault.NoMemory) }
+{
+    let mut set = HashSet::new(alloc);
+    for number in numbers {
+        let Ok(_) = set.insert(*number) else {
+            return Err(Fault::NoMemory);
+        };
+    }
+    Ok(set)
 }

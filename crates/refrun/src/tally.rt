@@ -10,18 +10,27 @@ pub struct Tally {
     cycles: AtomicU64,
     notices: AtomicU64,
     moves: AtomicU64,
+    urgent: AtomicU64,
+    handed: AtomicU64,
+    polled: AtomicU64,
     is_stopped: AtomicBool,
 }
 
-/// What a tally showed. It prints as `7 rounds, 1 cycles, 3 notices, 2 moves`.
+/// What a tally showed. It prints as `7 rounds, 4 cycles, 1 urgent, 3 notices, 1 and 0 batches, 2 moves`.
 #[derive(Clone, Copy, Debug, PartialEq, Eq)]
 pub struct Counts {
     /// Rounds of mutators that have ended.
     pub rounds: u64,
     /// Cycles of the collector that have ended.
     pub cycles: u64,
+    /// Urgent cycles that have begun.
+    pub urgent: u64,
     /// Notices that pollers have taken.
     pub notices: u64,
+    /// Batches of notices that workers have handed on.
+    pub handed: u64,
+    /// Batches of notices that pollers have taken.
+    pub polled: u64,
     /// Objects that workers have moved, but for those that a load or a get moved.
     pub moves: u64,
 }
@@ -31,12 +40,16 @@ impl fmt::Display for Counts {
         let Counts {
             rounds,
             cycles,
+            urgent,
             notices,
+            handed,
+            polled,
             moves,
         } = *self;
+        write!(f, "{rounds} rounds, {cycles} cycles, {urgent} urgent, ")?;
         write!(
             f,
-            "{rounds} rounds, {cycles} cycles, {notices} notices, {moves} moves"
+            "{notices} notices, {handed} and {polled} batches, {moves} moves"
         )
     }
 }
@@ -49,6 +62,9 @@ impl Tally {
             cycles: AtomicU64::new(0),
             notices: AtomicU64::new(0),
             moves: AtomicU64::new(0),
+            urgent: AtomicU64::new(0),
+            handed: AtomicU64::new(0),
+            polled: AtomicU64::new(0),
             is_stopped: AtomicBool::new(false),
         }
     }
@@ -69,6 +85,9 @@ impl Tally {
             cycles: self.cycles.load(Ordering::SeqCst),
             notices: self.notices.load(Ordering::SeqCst),
             moves: self.moves.load(Ordering::SeqCst),
+            urgent: self.urgent.load(Ordering::SeqCst),
+            handed: self.handed.load(Ordering::SeqCst),
+            polled: self.polled.load(Ordering::SeqCst),
         }
     }
 
@@ -78,6 +97,18 @@ impl Tally {
 
     pub(crate) fn count_cycle(&self) {
         self.cycles.fetch_add(1, Ordering::SeqCst);
+    }
+
+    pub(crate) fn count_urgent(&self) {
+        self.urgent.fetch_add(1, Ordering::SeqCst);
+    }
+
+    pub(crate) fn count_handed(&self) {
+        self.handed.fetch_add(1, Ordering::SeqCst);
+    }
+
+    pub(crate) fn count_polled(&self) {
+        self.polled.fetch_add(1, Ordering::SeqCst);
     }
 
     pub(crate) fn count_notice(&self) {

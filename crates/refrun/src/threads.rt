@@ -17,6 +17,7 @@ use crate::stress_options::StressOptions;
 use crate::tally::Tally;
 use ref_base::{Fault, MutNo, ObjNo, WorkerNo};
 use ref_clear::Notice;
+use ref_objects::Hold;
 use ref_queue::Queue;
 use ref_share::{HeapSeat, QueueSeat, SharedHeap, SharedQueue, end_queue};
 use std::alloc::{AllocError, Global};
@@ -41,10 +42,10 @@ struct Job {
     queue_seat: QueueSeat,
 }
 
-/// What one thread leaves: what it took, or why it gave up, and its seats.
+/// What one thread leaves: what it kept or took, or why it gave up, and its seats.
 #[derive(Drop)]
 struct Left {
-    taken: Result<Vec<ObjNo>, Fault>,
+    noted: Result<Vec<ObjNo>, Fault>,
     heap_seat: HeapSeat,
     queue_seat: QueueSeat,
 }
@@ -78,13 +79,16 @@ pub struct StressLists {
     pub stands: Vec<ObjNo>,
     /// What each poller took.
     pub pollers: Vec<Vec<ObjNo>>,
+    /// What each mutator kept to the end.
+    pub kept: Vec<Vec<ObjNo>>,
 }
 
 impl StressLists {
     /// The first check that fails, or `None` where all hold. The one error is `NoMemory`.
     pub fn check(&self, alloc: Global) -> Result<Option<Check>, Fault>
         ensures answer { IfOk result (IsFirstFailure self.now.enqueued.items self.now.taken.items
-            self.now.stands.items (map (λ v. v.items) self.now.pollers.items)) }
+            self.now.stands.items (map (λ v. v.items) self.now.pollers.items)
+            (map (λ v. v.items) self.now.kept.items)) }
         ensures err { OnErr result (result ≡ Err Fault.NoMemory) }
     {
         check_lists(
@@ -93,15 +97,16 @@ impl StressLists {
             self.taken.as_slice(),
             self.stands.as_slice(),
             self.pollers.as_slice(),
+            self.kept.as_slice(),
         )
     }
 
     /// What shows that this check fails, and none where it holds. Takes no memory.
     pub fn evidence(&self, check: Check) -> Option<Evidence>
         ensures shows { IfSome result (IsEvidence (λ v. v.items) self.now.enqueued.items self.now.taken.items
-            self.now.stands.items self.now.pollers.items) }
+            self.now.stands.items self.now.pollers.items self.now.kept.items) }
         ensures passes { IfNone result (Passes self.now.enqueued.items self.now.taken.items self.now.stands.items
-            (map (λ v. v.items) self.now.pollers.items) check) }
+            (map (λ v. v.items) self.now.pollers.items) (map (λ v. v.items) self.now.kept.items) check) }
     {
         evidence_of(
             check,
@@ -109,6 +114,7 @@ impl StressLists {
             self.taken.as_slice(),
             self.stands.as_slice(),
             self.pollers.as_slice(),
+            self.kept.as_slice(),
         )
     }
 }
@@ -132,9 +138,11 @@ pub fn stress<R: Threads + Wait + Sync>(
 /// Runs threads over one shared heap and one shared queue, and gives the queue's lists and those of the pollers. `None`
 /// where a turn of the queue is open, so that nobody can say what stands.
 ///
-/// Mutators make weak references and enqueue every other one; workers run the collector and hand on what it cleared;
-/// pollers take what arrives. When the mutators have ended the workers do, the queue is closed, and the pollers take
-/// what is left. The tally says meanwhile how far the run is, and can stop the mutators.
+/// Mutators make references of each strength, enqueue every other one, and keep some to the end; workers run the
+/// collector and hand on what it cleared; pollers take what arrives. When the mutators have ended the workers bring the
+/// cycle to its end and one more behind it, so that each reference that was kept is reported; then they end, the queue
+/// is closed, and the pollers take what is left. The tally says meanwhile how far the run is, and can stop the
+/// mutators.
 ///
 /// `BadConfig` where mutators and pollers together, or workers, are not 1 to 8. `NoMemory` where a growth is refused,
 /// or the memory for threads. All its memory is of this allocator.
@@ -184,8 +192,8 @@ pub fn stress_lists<R: Threads + Wait + Sync>(
     }
 }
 
-/// Runs all threads to their ends, and gives what each took. Where one can't be made, none begins, and the answer is
-/// `NoMemory`.
+/// Runs all threads to their ends, and gives what each kept or took. Where one can't be made, none begins, and the
+/// answer is `NoMemory`.
 fn run<R: Threads + Wait + Sync>(
     rt: &R,
     alloc: Global,
@@ -293,7 +301,7 @@ fn ended<'s, R: Threads>(
     }
 }
 
-/// Takes in the seats of all that have ended, and gives what each took.
+/// Takes in the seats of all that have ended, and gives what each kept or took.
 fn joined(
     alloc: Global,
     shared: &Shared,
@@ -308,13 +316,13 @@ fn joined(
     let mut lists = Vec::new(alloc);
     for left in all {
         let Left {
-            taken,
+            noted,
             heap_seat: own_heap_seat,
             queue_seat: own_queue_seat,
         } = left;
         shared.heap.join(heap_seat, own_heap_seat);
         shared.queue.join(queue_seat, own_queue_seat);
-        let Ok(()) = lists.push(taken?) else {
+        let Ok(()) = lists.push(noted?) else {
             return Err(Fault::NoMemory);
         };
     }
@@ -364,7 +372,8 @@ fn job_of(shared: &Shared, heap_seat: &mut HeapSeat, queue_seat: &mut QueueSeat,
     }
 }
 
-/// What one thread leaves at its end. A fault stops the whole run.
+/// What one thread leaves at its end. A fault stops the whole run. It counts as ended before it gives back what it
+/// holds.
 fn left_by<'a, R: Wait>(
     rt: &R,
     alloc: Global,
@@ -380,16 +389,19 @@ fn left_by<'a, R: Wait>(
         heap_seat,
         queue_seat,
     } = job;
-    let _ending = Ending(count_of(&role, &shared.running));
-    let mut station = Station::new(shared, tally, heap_seat, queue_seat);
-    let mut taken = Vec::new(alloc);
-    let answer = act(rt, shared, &mut station, role, &mut taken);
+    let ending = Ending(count_of(&role, &shared.running));
+    let mut station = Station::new(alloc, shared, tally, heap_seat, queue_seat);
+    let mut noted = Vec::new(alloc);
+    let mut holds = Vec::new(alloc);
+    let answer = act(rt, shared, &mut station, role, &mut noted, &mut holds);
     if answer.is_err() {
         station.stop();
     }
+    drop(ending);
+    station.release_all(rt, holds);
     let (heap_seat, queue_seat) = station.into_seats();
     Left {
-        taken: answer.map(|()| taken),
+        noted: answer.map(|()| noted),
         heap_seat,
         queue_seat,
     }
@@ -410,7 +422,8 @@ fn act<R: Wait>(
     shared: &Shared,
     station: &mut Station,
     role: Role,
-    taken: &mut Vec<ObjNo>,
+    noted: &mut Vec<ObjNo>,
+    holds: &mut Vec<Hold>,
 ) -> Result<(), Fault>
     requires { IsSeated station.old }
     ensures { StaysSeated station.old station.new }
@@ -419,13 +432,13 @@ fn act<R: Wait>(
         return Err(Fault::NoMemory);
     }
     match role {
-        Role::Mutate { mutator, rounds } => station.mutate(rt, mutator, rounds),
+        Role::Mutate { mutator, rounds } => station.mutate(rt, mutator, rounds, noted, holds),
         Role::Work(worker) => station.work(rt, worker),
-        Role::Poll(mutator) => station.poll(rt, mutator, taken),
+        Role::Poll(mutator) => station.poll(rt, mutator, noted),
     }
 }
 
-/// The lists of the queue, with those of the pollers: they are the last of all threads.
+/// The lists of the queue, with those of the mutators and the pollers: these are the first and the last of all threads.
 fn lists_left(
     alloc: Global,
     queue: &Queue<Notice>,
@@ -433,9 +446,17 @@ fn lists_left(
     options: StressOptions,
 ) -> Result<StressLists, Fault> {
     let others = options.mutators.saturating_add(options.workers);
+    let mut kept = Vec::new(alloc);
     let mut pollers = Vec::new(alloc);
-    for list in lists.into_iter().skip(others as usize) {
-        let Ok(()) = pollers.push(list) else {
+    for (thread, list) in lists.into_iter().enumerate() {
+        let pushed = if thread < options.mutators as usize {
+            kept.push(list)
+        } else if thread >= others as usize {
+            pollers.push(list)
+        } else {
+            Ok(())
+        };
+        let Ok(()) = pushed else {
             return Err(Fault::NoMemory);
         };
     }
@@ -444,5 +465,6 @@ fn lists_left(
         taken: queue.taken(alloc)?,
         stands: queue.stands(alloc)?,
         pollers,
+        kept,
     })
 }

@@ -39,6 +39,9 @@ An example:
 With --seconds alone the rounds go on until the time is over, and with --rounds
 as well until the one or the other ends them.
 
+Each mutator keeps some of its references to the end, and each of them must be
+reported, once.
+
 Where a check fails, standard error says which poller and which numbers show it.
 
 Exit status: 0 each check passed; 2 a wrong command line; 3 writing failed;

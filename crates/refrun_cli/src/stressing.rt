@@ -133,8 +133,20 @@ fn keep<R: Files>(rt: &R, alloc: Global, folder: &str, lists: &StressLists) -> i
     keep_list(rt, alloc, folder, "enqueued", lists.enqueued.as_slice())?;
     keep_list(rt, alloc, folder, "taken", lists.taken.as_slice())?;
     keep_list(rt, alloc, folder, "stands", lists.stands.as_slice())?;
-    for (poller, list) in lists.pollers.iter().enumerate() {
-        let name = format!(in alloc; "poller-{poller}")?;
+    keep_each(rt, alloc, folder, "poller", lists.pollers.as_slice())?;
+    keep_each(rt, alloc, folder, "mutator", lists.kept.as_slice())
+}
+
+/// Writes lists into files of this name, with a number from 0 on.
+fn keep_each<R: Files>(
+    rt: &R,
+    alloc: Global,
+    folder: &str,
+    name: &str,
+    lists: &[Vec<ObjNo>],
+) -> io::Result<()> {
+    for (number, list) in lists.iter().enumerate() {
+        let name = format!(in alloc; "{name}-{number}")?;
         keep_list(rt, alloc, folder, name.as_str(), list.as_slice())?;
     }
     Ok(())

@@ -7,23 +7,25 @@ use std::alloc::{AllocError, Allocator, Global};
 use std::process::Abort;
 use std::test::Fail;
 
-/// What was put in, was taken and stands, what each poller took, and the first check that fails.
+/// What was put in, was taken and stands, what each poller took and each mutator kept, and the first check that fails.
 struct Case {
     name: &'static str,
     enqueued: &'static [u32],
     taken: &'static [u32],
     stands: &'static [u32],
     lists: &'static [&'static [u32]],
+    kept: &'static [&'static [u32]],
     fails: Option<Check>,
 }
 
-static CASES: [Case; 17] = [
+static CASES: [Case; 21] = [
     Case {
         name: "a number put in twice",
         enqueued: &[2, 2],
         taken: &[2, 2],
         stands: &[],
         lists: &[&[2, 2]],
+        kept: &[],
         fails: Some(Check::Twice),
     },
     Case {
@@ -32,6 +34,7 @@ static CASES: [Case; 17] = [
         taken: &[2, 3],
         stands: &[],
         lists: &[&[3, 2]],
+        kept: &[],
         fails: Some(Check::Order),
     },
     Case {
@@ -40,6 +43,7 @@ static CASES: [Case; 17] = [
         taken: &[2, 3],
         stands: &[],
         lists: &[&[2]],
+        kept: &[],
         fails: Some(Check::Total),
     },
     Case {
@@ -48,6 +52,7 @@ static CASES: [Case; 17] = [
         taken: &[2],
         stands: &[3],
         lists: &[&[2]],
+        kept: &[],
         fails: Some(Check::Rest),
     },
     Case {
@@ -56,6 +61,7 @@ static CASES: [Case; 17] = [
         taken: &[2, 3, 4],
         stands: &[],
         lists: &[&[2, 4], &[3]],
+        kept: &[],
         fails: None,
     },
     Case {
@@ -64,6 +70,7 @@ static CASES: [Case; 17] = [
         taken: &[],
         stands: &[],
         lists: &[],
+        kept: &[],
         fails: None,
     },
     Case {
@@ -72,6 +79,7 @@ static CASES: [Case; 17] = [
         taken: &[],
         stands: &[],
         lists: &[&[], &[]],
+        kept: &[],
         fails: None,
     },
     Case {
@@ -80,6 +88,7 @@ static CASES: [Case; 17] = [
         taken: &[],
         stands: &[],
         lists: &[&[9]],
+        kept: &[],
         fails: Some(Check::Twice),
     },
     Case {
@@ -88,6 +97,7 @@ static CASES: [Case; 17] = [
         taken: &[2, 3, 4],
         stands: &[],
         lists: &[&[2, 3], &[4]],
+        kept: &[],
         fails: Some(Check::Order),
     },
     Case {
@@ -96,6 +106,7 @@ static CASES: [Case; 17] = [
         taken: &[2, 3],
         stands: &[],
         lists: &[&[2, 2, 3]],
+        kept: &[],
         fails: Some(Check::Order),
     },
     Case {
@@ -104,6 +115,7 @@ static CASES: [Case; 17] = [
         taken: &[2, 3, 4],
         stands: &[],
         lists: &[&[2], &[4, 3]],
+        kept: &[],
         fails: Some(Check::Order),
     },
     Case {
@@ -112,6 +124,7 @@ static CASES: [Case; 17] = [
         taken: &[2, 3],
         stands: &[],
         lists: &[&[2, 3], &[3]],
+        kept: &[],
         fails: Some(Check::Total),
     },
     Case {
@@ -120,6 +133,7 @@ static CASES: [Case; 17] = [
         taken: &[2],
         stands: &[3],
         lists: &[&[2], &[3]],
+        kept: &[],
         fails: Some(Check::Total),
     },
     Case {
@@ -128,6 +142,7 @@ static CASES: [Case; 17] = [
         taken: &[2, 3],
         stands: &[4],
         lists: &[&[2], &[4]],
+        kept: &[],
         fails: Some(Check::Total),
     },
     Case {
@@ -136,6 +151,7 @@ static CASES: [Case; 17] = [
         taken: &[3, 2],
         stands: &[],
         lists: &[&[2], &[3]],
+        kept: &[],
         fails: Some(Check::Rest),
     },
     Case {
@@ -144,6 +160,7 @@ static CASES: [Case; 17] = [
         taken: &[2],
         stands: &[2],
         lists: &[&[2]],
+        kept: &[],
         fails: Some(Check::Rest),
     },
     Case {
@@ -152,12 +169,57 @@ static CASES: [Case; 17] = [
         taken: &[2, 2],
         stands: &[],
         lists: &[&[2]],
+        kept: &[],
+        fails: Some(Check::Rest),
+    },
+    Case {
+        name: "two mutators, and all that they kept was put in",
+        enqueued: &[2, 3, 4],
+        taken: &[2, 3, 4],
+        stands: &[],
+        lists: &[&[2, 4], &[3]],
+        kept: &[&[4, 2], &[3]],
+        fails: None,
+    },
+    Case {
+        name: "no report of what the second mutator kept",
+        enqueued: &[2, 3],
+        taken: &[2, 3],
+        stands: &[],
+        lists: &[&[2, 3]],
+        kept: &[&[2], &[3, 5]],
+        fails: Some(Check::Reports),
+    },
+    Case {
+        name: "no report of what either mutator kept",
+        enqueued: &[],
+        taken: &[],
+        stands: &[],
+        lists: &[&[]],
+        kept: &[&[], &[7], &[8]],
+        fails: Some(Check::Reports),
+    },
+    Case {
+        name: "what was kept stands, and is not missing",
+        enqueued: &[2, 3],
+        taken: &[2],
+        stands: &[3],
+        lists: &[&[2]],
+        kept: &[&[3], &[9]],
         fails: Some(Check::Rest),
     },
 ];
 
 fn objects(alloc: Global, numbers: &[u32]) -> Result<Vec<ObjNo>, AllocError> {
     numbers.iter().map(|number| ObjNo(*number)).collect(alloc)
+}
+
+fn objects_of_each(alloc: Global, lists: &[&[u32]]) -> Result<Vec<Vec<ObjNo>>, AllocError> {
+    let mut all = Vec::new(alloc);
+    for list in lists {
+        all.push(objects(alloc, list)?)?;
+    }
+    Ok(all)
 }
 
 /// What the checks answer of a case, with memory of this allocator.
@@ -169,16 +231,15 @@ fn checked<A: Allocator + Copy>(
     let enqueued = objects(alloc, case.enqueued)?;
     let taken = objects(alloc, case.taken)?;
     let stands = objects(alloc, case.stands)?;
-    let mut lists = Vec::new(alloc);
-    for list in case.lists {
-        lists.push(objects(alloc, list)?)?;
-    }
+    let lists = objects_of_each(alloc, case.lists)?;
+    let kept = objects_of_each(alloc, case.kept)?;
     Ok(check_lists(
         memory,
         enqueued.as_slice(),
         taken.as_slice(),
         stands.as_slice(),
         lists.as_slice(),
+        kept.as_slice(),
     ))
 }
 
@@ -247,6 +308,7 @@ fn each_check_prints_as_its_name(rt: HostRuntime) -> Result<(), Fail> {
         (Check::Order, "order"),
         (Check::Total, "total"),
         (Check::Rest, "rest"),
+        (Check::Reports, "reports"),
     ];
     for (check, name) in names {
         assert_eq!(rt; format!(in rt.alloc(); "{check}")?.as_str(), name);
@@ -255,7 +317,7 @@ fn each_check_prints_as_its_name(rt: HostRuntime) -> Result<(), Fail> {
 }
 
 /// What shows that a case fails, by the case's place in the table.
-const SHOWN: [(usize, &str); 12] = [
+const SHOWN: [(usize, &str); 15] = [
     (0, "2 was put in at 0 and at 1"),
     (1, "poller 0 took 2 behind 3"),
     (2, "no poller took 3"),
@@ -268,19 +330,19 @@ const SHOWN: [(usize, &str); 12] = [
     (12, "poller 1 took 3, which the queue did not give"),
     (14, "at 0 2 was put in and 3 taken"),
     (16, "at 1 nothing was put in and 2 taken"),
+    (18, "no report of 5"),
+    (19, "no report of 7"),
+    (20, "3 stands"),
 ];
 
 /// What is told to show that a check of this case fails.
 fn shown_in(alloc: Global, case: &Case) -> Result<String, Fail> {
-    let mut pollers = Vec::new(alloc);
-    for list in case.lists {
-        pollers.push(objects(alloc, list)?)?;
-    }
     let lists = StressLists {
         enqueued: objects(alloc, case.enqueued)?,
         taken: objects(alloc, case.taken)?,
         stands: objects(alloc, case.stands)?,
-        pollers,
+        pollers: objects_of_each(alloc, case.lists)?,
+        kept: objects_of_each(alloc, case.kept)?,
     };
     let shown = match lists.check(alloc)? {
         Some(check) => lists.evidence(check),

@@ -44,11 +44,15 @@ fn each_strength_prints_as_its_name(rt: HostRuntime) -> Result<(), Fail> {
 fn the_counts_of_a_stress_run_print_in_one_line(rt: HostRuntime) -> Result<(), Fail> {
     let counts = Counts {
         rounds: 7,
-        cycles: 1,
+        cycles: 4,
+        urgent: 1,
         notices: 3,
+        handed: 6,
+        polled: 5,
         moves: 2,
     };
-    let table = [(counts, "7 rounds, 1 cycles, 3 notices, 2 moves")];
+    let line = "7 rounds, 4 cycles, 1 urgent, 3 notices, 6 and 5 batches, 2 moves";
+    let table = [(counts, line)];
     agree(&rt, rt.alloc(), &table)
 }
 

@@ -30,7 +30,10 @@ static PASSING: [StressOptions; 3] = [
 const NOTHING_DONE: Counts = Counts {
     rounds: 0,
     cycles: 0,
+    urgent: 0,
     notices: 0,
+    handed: 0,
+    polled: 0,
     moves: 0,
 };
 
@@ -82,6 +85,8 @@ fn the_lists_of_a_run_pass_each_check(rt: HostRuntime) -> Result<(), Fail> {
         let rounds = u64::from(options.mutators) * options.rounds;
         let counts = tally.counts();
         assert_eq!(rt; counts.rounds, rounds);
+        // The last cycle is urgent.
+        assert!(rt; counts.urgent > 0 && counts.cycles > 0, "{counts}");
         // Each round makes two objects. Where all fit into one page nothing moves, since there is no other with few.
         assert!(rt; rounds > 32 || counts.moves == 0, "{counts}");
     }
@@ -113,5 +118,24 @@ fn a_run_with_too_many_threads_is_refused(rt: HostRuntime) -> Result<(), Fail> {
         );
         assert_eq!(rt; tally.counts(), NOTHING_DONE);
     }
+    Ok(())
+}
+
+/// So many runs at most, of which one is to hand on in batches and one to take in batches.
+const RUNS: u32 = 20;
+
+#[test]
+fn notices_go_in_batches_too(rt: HostRuntime) -> Result<(), Fail> {
+    let (mut handed, mut polled) = (0, 0);
+    for _ in 0..RUNS {
+        if handed > 0 && polled > 0 {
+            return Ok(());
+        }
+        let tally = Tally::new();
+        assert_eq!(rt; stress(&rt, rt.alloc(), PASSING[0], &tally), Ok(None));
+        handed = tally.counts().handed.max(handed);
+        polled = tally.counts().polled.max(polled);
+    }
+    assert!(rt; handed > 0 && polled > 0, "{handed} and {polled}");
     Ok(())
 }

@@ -1,6 +1,6 @@
-use Rattle.refrun.proofs.Common.{arith}
+use Rattle.refrun.proofs.Common.{arith, refl}
 use Rattle.ref_share.proofs.SeatLists.{only_seat}
-use Rattle.refrun.proofs.roles.Station.assist.Goals as goal
+use Rattle.refrun.proofs.roles.Station.deliver_one.Goals as goal
 
 pub settle-requires : goal.settle-requires
 settle-requires g c = (
@@ -10,7 +10,7 @@ settle-requires g c = (
 
 pub returns-in-Ok : goal.returns-in-Ok
 returns-in-Ok g c = (
-  c.collect.ensures.0,
+  refl,
   (
     c.deliver_one-answer.ensures.seats.0,
     only_seat _ _ _ c.deliver_one-answer.ensures.seats.1 c.from_ref.ensures.value
