@@ -48,7 +48,7 @@ fn length_before(bytes: &[u8], byte: u8) -> usize
     count
 }
 
-/// The same of an LF, for which many bytes are looked at at once.
+/// How many bytes stand in front of the first LF, or of the end. Many bytes are looked at at once.
 fn length_of_line(text: &[u8]) -> usize
     ensures length { result ≡ prefix_len (λ b. not (b == 10)) text.now }
     ensures within { result ≤ length text.now }

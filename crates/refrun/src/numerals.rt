@@ -9,7 +9,7 @@ ghost use Rattle.refrun.specs.Numerals.{number_below};
 
 use crate::lines::{behind_spaces, next_word};
 
-/// So many digits are always a number below 2^32.
+/// How many digits are always a number below 2^32.
 const FEW: usize = 9;
 
 /// The number below 2^64 that a word spells, or `None`. A text is mostly numbers: so they are read from their bytes, in

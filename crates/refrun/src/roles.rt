@@ -24,22 +24,22 @@ pub(crate) const QUEUE: QueueNo = QueueNo(0);
 /// Where a mutator makes an object, and a poller adopts one.
 const NEWEST: SlotNo = SlotNo(0);
 
-/// So often a mutator makes its objects again where no cell was free.
+/// How often a mutator makes its objects again where no cell was free.
 const TRIES: u32 = 1_000;
 
-/// So often a poller polls before it looks whether the run is at its end.
+/// How often a poller polls before it looks whether the run is at its end.
 const POLLS: u32 = 1_000;
 
 /// Each fourth cycle is urgent, and each fourth time workers hand on, and pollers take, as many notices as go at once.
 const FOURTH: u64 = 4;
 
-/// So many notices go at once.
+/// How many notices go at once.
 const MOST: u32 = MOST_IN_BATCH as u32;
 
-/// So many of its references a mutator keeps to the end at most.
+/// How many of its references a mutator keeps to the end at most.
 const MOST_KEPT: usize = 64;
 
-/// So often the last worker goes on with a cycle before it gives it up. Many times what a full heap takes.
+/// How often the last worker goes on with a cycle before it gives it up: many times what a full heap takes.
 const MOST_TURNS: u32 = 100_000;
 
 /// What all threads share.

@@ -160,7 +160,7 @@ fn tell_step<A: Allocator + Copy>(
     }
 }
 
-/// The same of a step of any kind. It is kept out of its caller, whose replies are narrow.
+/// Does a step of any kind and writes its row. It is kept out of its caller, whose replies are narrow.
 #[inline(never)]
 fn tell_other<A: Allocator + Copy>(
     stage: &mut Stage<A>,

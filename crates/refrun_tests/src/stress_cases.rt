@@ -121,7 +121,7 @@ fn a_run_with_too_many_threads_is_refused(rt: HostRuntime) -> Result<(), Fail> {
     Ok(())
 }
 
-/// So many runs at most, of which one is to hand on in batches and one to take in batches.
+/// How many runs there are at most, of which one is to hand on in batches and one to take in batches.
 const RUNS: u32 = 20;
 
 #[test]

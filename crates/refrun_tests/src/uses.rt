@@ -24,7 +24,7 @@ pub fn an_extra_word_is_told<W: TextSink>(alloc: Global, writer: &mut W) -> Resu
     run_script(alloc, &mut FromReader::new(script), writer, Vec::new(alloc))
 }
 
-/// So is a byte above 127, in a remark too.
+/// A byte above 127 is told, in a remark too.
 pub fn a_byte_above_127_is_told<W: TextSink>(alloc: Global, writer: &mut W) -> Result<(), TextFault>
     ensures told { TellsFault (Line 3 NotAscii) result }
     ensures nothing { Keeps (W.contents writer.old) (W.contents writer.new) }
