@@ -17,8 +17,8 @@ use Rattle.ref_share.specs.declared.cleaned_heap.CleanedHeap.{CleanedHeap}
 abbrev pub HasSeats : {J : Type 0} → CleanedHeap J → Type 0
 HasSeats h = IsHeapSeat h.heap h.heap_seat × IsQueueSeat h.queue h.queue_seat × IsCleanSeat h.cleaner h.clean_seat
 
--- It was just made: heap and queue have the number 0, the cleaner is told by this queue, and each has its first seat, by
--- which nothing was called.
+-- It was just made: heap and queue have the number 0, the cleaner is told by this queue, and each has its first seat,
+-- by which nothing was called.
 pub record IsNewCleanedHeap {J : Type 0} (config : Config) (h : CleanedHeap J) : Type 0 where
   pub heap : IsNewHeap h.heap config 0 0 h.heap_seat
   pub queue : IsNewQueue h.queue 0 0 h.queue_seat

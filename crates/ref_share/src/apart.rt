@@ -23,10 +23,11 @@ impl<A: Allocator + Copy> SharedCleaner<A> {
     ///
     /// Four turns: three of the heap, by which the reference is made, held, and dropped from the slot, and one of the
     /// table. `Refused` with the faults of the four, which are tried in this order: those of a `Refer`, of a `hold` and
-    /// of a `Drop`, with `TurnsSpent` where the heap has no turn left, those of `CleanTable::register`, and `TurnsSpent`
-    /// where the table has none left. The job comes back then, and registered is nothing. A hold that was taken before
-    /// is released by one more turn of the heap, or it is `Held` where the heap doesn't take it. The reference stays in
-    /// the slot where it was made and one of the two turns behind that is refused. Only the table takes memory.
+    /// of a `Drop`, with `TurnsSpent` where the heap has no turn left, those of `CleanTable::register`, and
+    /// `TurnsSpent` where the table has none left. The job comes back then, and registered is nothing. A hold that was
+    /// taken before is released by one more turn of the heap, or it is `Held` where the heap doesn't take it. The
+    /// reference stays in the slot where it was made and one of the two turns behind that is refused. Only the table
+    /// takes memory.
     ///
     /// By the caller: a cleaner is used with one heap, and no other call uses the mutator meanwhile.
     pub fn register_apart<R: Wait>(

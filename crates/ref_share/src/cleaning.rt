@@ -107,9 +107,9 @@ impl<A: Allocator + Copy> SharedCleaner<A> {
         }
     }
 
-    /// Takes the job out, and doesn't run it: it never runs by this cleaner then, neither by `clean` nor once its object
-    /// is gone. None where it was taken before. What its action would have done is left to the caller, as where a file
-    /// was closed by hand. As `PhantomCleanable.clear` of OpenJDK 17.
+    /// Takes the job out, and doesn't run it: it never runs by this cleaner then, neither by `clean` nor once its
+    /// object is gone. None where it was taken before. What its action would have done is left to the caller, as where
+    /// a file was closed by hand. As `PhantomCleanable.clear` of OpenJDK 17.
     ///
     /// Two turns at most: one of the table, which gives the job out, and one of the heap, by which the hold of its
     /// reference is released. Where the heap has no turn left or doesn't count the hold, it comes back beside the job.
