@@ -17,9 +17,10 @@ ghost use Rattle.ref_share.specs.QueueSeats.{queue_view};
 ghost use Rattle.ref_share.specs.SeatCalls.{MakesUnless};
 ghost use Rattle.ref_share.specs.WantsOfRoom.{DoesAfter};
 
+use crate::endings::end_both;
 use crate::{
     CleanMachine, Cleanable, Cleaned, Gate, HeapSeat, QueueSeat, SeatFor, ShareFault, Shared,
-    SharedCleaner, SharedHeap, SharedQueue, cycle, end_queue, make_or_collect, run_jobs_left,
+    SharedCleaner, SharedHeap, SharedQueue, cycle, end_queue, make_or_collect,
 };
 use ref_base::{
     Config, Fault, MutNo, PlainStep, QueueNo, Reply, SlotNo, Strength, Urgency, WorkerNo,
@@ -367,8 +368,6 @@ impl CleanedHeap<Job> {
             cleaner,
             clean_seat,
         } = self;
-        let notices = end_queue(queue.finish(queue_seat));
-        run_jobs_left(cleaner.finish(clean_seat));
-        notices
+        end_both(queue, queue_seat, cleaner, clean_seat)
     }
 }
