@@ -2,12 +2,12 @@
 
 ghost use Rattle.std.specs.Prelude.{IfOk, IfErr};
 ghost use Rattle.ref_share.specs.CleanSeats.{clean_view, IsCleanSeat};
-ghost use Rattle.ref_share.specs.Cleanings.{RegistersApart, HasMadeApart, HasNotMadeApart, TakesBack};
+ghost use Rattle.ref_share.specs.Cleanings.{RegistersApart, HasMadeApart, HasNotMadeApart};
 ghost use Rattle.ref_share.specs.HeapSeats.{heap_view, IsHeapSeat};
 
-use crate::cleaning::refer;
+use crate::cleaning::{refer, take_back};
 use crate::{CleanSeat, Cleanable, HeapSeat, ShareFault, SharedCleaner, SharedHeap};
-use ref_base::{Fault, MutNo, PlainStep, QueueNo, SlotNo};
+use ref_base::{MutNo, PlainStep, QueueNo, SlotNo};
 use ref_objects::Hold;
 use ref_queue::Job;
 use std::alloc::Allocator;
@@ -47,16 +47,9 @@ impl<A: Allocator + Copy> SharedCleaner<A> {
         ensures registers { RegistersApart job (clean_view seat.old) self.now.frame mutator source slot
             (heap_view heap_seat.old) result (heap_view heap_seat.new) (clean_view seat.new) }
     {
-        let hold = match refer_apart(rt, heap, heap_seat, self.frame, mutator, source, slot) {
-            Ok(hold) => hold,
-            Err(fault) => return Err((fault, job)),
-        };
-        let obj = hold.obj();
-        match self.enter(rt, seat, hold, job) {
-            Ok(()) => Ok(Cleanable { obj }),
-            Err((refused, hold, job)) => {
-                Err((take_back(rt, heap, heap_seat, hold, refused), job))
-            }
+        match refer_apart(rt, heap, heap_seat, self.frame, mutator, source, slot) {
+            Ok(hold) => self.keep(rt, seat, heap, heap_seat, hold, job),
+            Err(fault) => Err((fault, job)),
         }
     }
 }
@@ -85,23 +78,5 @@ fn refer_apart<R: Wait, A: Allocator + Copy>(
     match heap.perform(rt, seat, PlainStep::Drop { mutator, slot }) {
         Ok(_done) => Ok(hold),
         Err(refused) => Err(take_back(rt, heap, seat, hold, refused)),
-    }
-}
-
-// Releases the hold, since this was refused. It comes back where the heap doesn't take it.
-fn take_back<R: Wait, A: Allocator + Copy>(
-    rt: &R,
-    heap: &SharedHeap<A>,
-    seat: &mut HeapSeat<A>,
-    hold: Hold,
-    refused: Fault,
-) -> ShareFault
-    requires { IsHeapSeat heap.now seat.old }
-    ensures seat { IsHeapSeat heap.now seat.new }
-    ensures back { TakesBack (heap_view seat.old) hold refused result (heap_view seat.new) }
-{
-    match heap.release(rt, seat, hold) {
-        Ok(()) => ShareFault::Refused(refused),
-        Err((fault, hold)) => ShareFault::Held(hold, fault),
     }
 }

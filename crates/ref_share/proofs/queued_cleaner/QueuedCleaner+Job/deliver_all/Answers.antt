@@ -4,13 +4,10 @@ use Rattle.ref_share.proofs.SeatLists.{of_one_queue, only_seat}
 use Rattle.ref_share.proofs.queued_cleaner.QueuedCleaner+Job.deliver_all.Goals as goal
 
 pub returns-clause-seats : goal.returns-clause-seats
-returns-clause-seats g c = (
-  (
-    c.requires.0.0,
-    only_seat _ _ _ c.deliver_all.ensures.seats.1 c.from_ref-queues.ensures.value (omega (arith, c.from_mut-seats.ensures.len)),
-  ),
-  c.deliver_all.ensures.seats.0,
-)
+returns-clause-seats g c =
+    let seats = c.deliver_all.ensures.seats in
+    let own = only_seat _ _ _ seats.1 c.from_ref-queues.ensures.value (omega (arith, c.from_mut-seats.ensures.len)) in
+    ((c.requires.0.0, own), seats.0)
 
 pub returns-clause-delivers : goal.returns-clause-delivers
 returns-clause-delivers g c =
