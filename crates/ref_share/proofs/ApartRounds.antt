@@ -1,5 +1,6 @@
 -- What a cleaner's thread runs of what is registered apart: two holds of it came back, and the cleaner had but one.
-use Rattle.ref_share.proofs.Common.{arith, Err, nat_eq, false≢true, eq-eqb, ◌≡◌, ◌≢◌, ℕ, zero, suc, ◌≤◌, true, ◌==◌, List, [], ◌∷◌}
+use Rattle.ref_share.proofs.Common.{arith, Err, nat_eq, false≢true, eq-eqb, ◌≡◌, ◌≢◌, ℕ, zero, suc, ◌≤◌, true, ◌==◌}
+use Rattle.ref_share.proofs.Common.{List, [], ◌∷◌}
 use Rattle.ref_share.proofs.Common.{◌++◌, Option, Some, None, Ok, inl, inr, refl, sym, ap, ◌∙◌, subst, AllByRecursion}
 use Rattle.ref_share.proofs.Common.{cases_Bool, slice_get, append_assoc, map, State, NamedStep, Config, HoldName}
 use Rattle.ref_share.proofs.Common.{HeldNotice, Leads, calls_by, HeapAnswer, IsHeapTurn, HeapEntry}
@@ -12,7 +13,7 @@ use Rattle.ref_base.proofs.HasLaws.{has-single}
 use Rattle.ref_turn.proofs.Logs.{leads_cut}
 use Rattle.ref_turn.specs.declared.history.Entry.{Entry}
 use Rattle.ref_queue.specs.CleanTables.{job_of, Changes}
-use Rattle.ref_share.specs.ApartHistories.{PutInNoSlot, IsApart, IsOfDeath, RegistersOwn, RegisterOwn}
+use Rattle.ref_share.specs.ApartHistories.{PutInNoSlot, IsApart, IsOfDeath, RegistersOwn, RegisterOwn, WasFoundDead}
 use Rattle.ref_share.specs.CleanLoops.{releases_in, released, job_released}
 use Rattle.ref_share.specs.CleanMachines.{IsCleanTurn}
 use Rattle.ref_share.specs.CleanSeats.{SharedCleaner, CleanSeat, IsCleanSeat, Jobs}
@@ -20,7 +21,8 @@ use Rattle.ref_share.specs.HeapHistories.{minted, minted_by, spent, spent_by}
 use Rattle.ref_share.specs.HeapSeats.{SharedHeap, HeapSeat}
 use Rattle.ref_share.specs.declared.clean_machine.CleanStep.{CleanStep}
 use Rattle.ref_share.specs.declared.clean_machine.CleanReply.{CleanReply}
-use Rattle.ref_share.proofs.ApartRuns.{apart_given, minted-append, tally-lacks, no_hold, out_later}
+use Rattle.ref_share.proofs.ApartRuns.{apart_given, minted-append, tally-lacks, no_hold, out_later, out_here, read_by}
+use Rattle.ref_share.proofs.ApartRuns.{unread}
 use Rattle.ref_share.proofs.HandedNotices.{references_told, some_are_told}
 use Rattle.ref_share.proofs.HeapReplays.{shown_more}
 use Rattle.ref_share.proofs.HeldRuns.{held_is_minted}
@@ -32,14 +34,10 @@ use Rattle.ref_share.specs.declared.clean_machine.CleanReply.TheVariants as answ
 -- ---- what is given of what is apart
 
 module _ (config : Config) (number n : ℕ) (past : List HeapEntry) where
-  -- this cycle's mark ended in the past, where the referent of n was dead
-  abbrev WasDead : Type 0
-  WasDead = (cycle : ℕ) × HeapMarkEnded config number past cycle n
-
   -- where each notice of n is of a death, and one is of n
   one_of_death : (ns : List HeldNotice)
       → AllByRecursion (λ notice. notice.hold.object ≡ n → IsOfDeath config number past notice) ns
-      → has (map (λ notice. notice.hold.object) ns) n ≡ true → WasDead
+      → has (map (λ notice. notice.hold.object) ns) n ≡ true → WasFoundDead config number past n
   one_of_death [] all there = absurd (false≢true there)
   one_of_death (notice ∷ ns) all there =
       elim (cases_Bool (notice.hold.object == n)) [
@@ -50,27 +48,27 @@ module _ (config : Config) (number n : ℕ) (past : List HeapEntry) where
         | inr other ↦ one_of_death ns all.1 (simp other at there)
       ]
 
-  -- so where a call gives a hold of n
-  minted_of_death : (x y : State) (step : NamedStep) (reply : HeapAnswer) → IsHeapTurn x step reply y
-      → ((m s : ℕ) (hold : HoldName) → IsHeapTurn x (heap.Hold m s) (replies.Held hold) y → hold.object ≢ n)
+  -- so where a call gives a hold of n, and hands on no slot's
+  pub minted_of_death : (x y : State) (step : NamedStep) (reply : HeapAnswer) → IsHeapTurn x step reply y
+      → read_by x.world step ≢ Some n
       → AllByRecursion (λ notice. notice.hold.object ≡ n → IsOfDeath config number past notice)
-      (notices_given step reply) → has (minted_by step reply) n ≡ true → WasDead
-  minted_of_death x y step (replies.Told reply) turn none all there = absurd (false≢true there)
-  minted_of_death x y step (replies.Back fault hold) turn none all there = absurd (false≢true there)
-  minted_of_death x y (heap.Unhook m s) (replies.Notice notice) turn none all there =
+      (notices_given step reply) → has (minted_by step reply) n ≡ true → WasFoundDead config number past n
+  minted_of_death x y step (replies.Told reply) turn other all there = absurd (false≢true there)
+  minted_of_death x y step (replies.Back fault hold) turn other all there = absurd (false≢true there)
+  minted_of_death x y (heap.Unhook m s) (replies.Notice notice) turn other all there =
       one_of_death (notice ∷ []) all there
-  minted_of_death x y (heap.Hand k) (replies.Notice notice) turn none all there =
+  minted_of_death x y (heap.Hand k) (replies.Notice notice) turn other all there =
       one_of_death (notice ∷ []) all there
-  minted_of_death x y step (replies.Notice notice) turn none all there = absurd turn.gives
-  minted_of_death x y (heap.Hold m s) (replies.Held hold) turn none all there =
-      absurd (none m s hold turn (has-single hold.object n there))
-  minted_of_death x y step (replies.Held hold) turn none all there = absurd turn.gives
-  minted_of_death x y (heap.Hands k max batch) (replies.Handed reply after) turn none all there =
+  minted_of_death x y step (replies.Notice notice) turn other all there = absurd turn.gives
+  minted_of_death x y (heap.Hold m s) (replies.Held hold) turn other all there =
+      absurd (no_hold n x y m s hold other turn (has-single hold.object n there))
+  minted_of_death x y step (replies.Held hold) turn other all there = absurd turn.gives
+  minted_of_death x y (heap.Hands k max batch) (replies.Handed reply after) turn other all there =
       let ns = notices_of_hand (heap.Hands k max batch) (replies.Handed reply after) in
       let same = references_told ns (told_notices reply)
       (some_are_told x.world.heap.no k max batch (replies.Handed reply after) turn.gives) in
       one_of_death ns all (subst (λ (ks : List ℕ). has ks n ≡ true) (sym same) there)
-  minted_of_death x y step (replies.Handed reply after) turn none all there = absurd turn.gives
+  minted_of_death x y step (replies.Handed reply after) turn other all there = absurd turn.gives
 
 -- the first of some calls that gives a hold of n
 first_mint : (n : ℕ) (calls : List HeapEntry) → 1 ≤ tally (minted calls) n
@@ -94,7 +92,7 @@ others_front n (call ∷ front) back others = (others.0, others_front n front ba
 -- where two holds came back of what is apart, a mark's end found its referent dead
 pub twice_spent : (config : Config) (number n : ℕ) (front back : List HeapEntry) (last : State)
     → IsHeapRun config number (front ++ back) last → IsApart config number front n → PutInNoSlot n back
-    → 2 ≤ tally (spent (front ++ back)) n → WasDead config number n (front ++ back)
+    → 2 ≤ tally (spent (front ++ back)) n → WasFoundDead config number (front ++ back) n
 twice_spent config number n front back last run apart others twice =
     let held = held_is_minted config number (front ++ back) last run n in
     let all = ap (λ ns. tally ns n) (minted-append front back) in
@@ -108,7 +106,7 @@ twice_spent config number n front back last run apart others twice =
     let parts = leads_cut IsHeapTurn past (found.1 ∷ found.2) (first_state_of config number) last through in
     let out = out_later config number n front found.0 parts.0 parts.1 apart between in
     let dead = minted_of_death config number n past parts.0 parts.2.0 found.1.step found.1.reply parts.2.1
-    (λ m s hold turn. no_hold config number n past parts.0 parts.1 out parts.2.0 m s hold turn)
+    (unread n parts.0.world (out_here config number n None past parts.0 parts.1 out) found.1.step)
     (apart_given config number n front found.0 found.2 found.1 last through apart between) found.4 in (
       dead.0,
       subst (λ (es : List HeapEntry). HeapMarkEnded config number es dead.0 n) whole
@@ -157,7 +155,8 @@ module _ {J : Type 0} where
       let n : ℕ = r.notice.hold.object in
       let own : (n == n) ≡ true = eq-eqb n n refl in
       let other : (hold.object == n) ≡ true = eq-eqb hold.object n same in
-      subst (λ (t : Option (HoldName × J)). tally (spent (released v r.notice.hold ∷ job_released v t)) n ≡ 2) (sym taken)
+      subst (λ (t : Option (HoldName × J)). tally (spent (released v r.notice.hold ∷ job_released v t)) n ≡ 2)
+      (sym taken)
       (rw (own, other) refl)
 
 -- ---- what a cleaner gives out
@@ -183,8 +182,11 @@ module _ {J : Type 0} where
 
   turn_own : (t u : Jobs J) (step : CleanStep HoldName J) (reply : CleanReply HoldName J) → KeepsOwn t
       → RegistersOwn step → IsCleanTurn t step reply u → KeepsOwn u × TakesOwn step reply
-  turn_own t u (steps.Register m hold job) (answers.Registered (Ok _)) own registers turn =
-      (changes_own t u m (Some (hold, job)) own (λ kept is. let same : (hold, job) ≡ kept = cc in ap (λ k. k.0.object) (sym same) ∙ registers) turn.1, tt)
+  turn_own t u (steps.Register m hold job) (answers.Registered (Ok _)) own registers turn = (
+    changes_own t u m (Some (hold, job)) own
+        (λ kept is. let same : (hold, job) ≡ kept = cc in ap (λ k. k.0.object) (sym same) ∙ registers) turn.1,
+    tt,
+  )
   turn_own t u (steps.Register m hold job) (answers.Registered (Err back)) own registers turn =
       (subst KeepsOwn (sym turn.3) own, tt)
   turn_own t u (steps.Take m) (answers.Taken (Some kept)) own registers turn =
@@ -210,7 +212,7 @@ all_by_seat P k (call ∷ calls) all =
       | inr other ↦ rw other (all_by_seat P k calls all.1)
     ]
 
-all_behind : {X : Type 0} (P : X → Type 0) (xs ys : List X) → AllByRecursion P (xs ++ ys) → AllByRecursion P ys
+pub all_behind : {X : Type 0} (P : X → Type 0) (xs ys : List X) → AllByRecursion P (xs ++ ys) → AllByRecursion P ys
 all_behind P [] ys all = all
 all_behind P (x ∷ xs) ys all = all_behind P xs ys all.1
 
@@ -230,15 +232,11 @@ module _ {J : Type 0} (c : CleanView J) where
 module _ {J A : Type 0} (heap : SharedHeap A) (seat : HeapSeat) (cleaner : SharedCleaner J A) (own : CleanSeat J)
     (q last : QueueView) (v : HeapView) (c : CleanView J) (rs : List (Round J)) (r : Round J) (i : ℕ)
     (hold : HoldName) (job : J) where
-  -- a job that was taken in a round, of what was apart from some calls on, is of an object that a mark's end found dead
-  pub dead_as_it_ran : IsHeapSeat heap seat → IsCleanSeat cleaner own → RegisterOwn (clean_view own).seen
+  -- where a job was taken in a round, two holds of its reference came back
+  pub spent_as_it_ran : IsHeapSeat heap seat → IsCleanSeat cleaner own → RegisterOwn (clean_view own).seen
       → HasGone q v c rs last (heap_view seat) (clean_view own) → slice_get rs i ≡ Some r
-      → r.taken ≡ Some (hold, job) → (front back : List HeapEntry) → (heap_view seat).seen ≡ front ++ back
-      → IsApart heap.frame.config heap.frame.heap_no front r.notice.hold.object
-      → PutInNoSlot r.notice.hold.object back
-      → (cycle : ℕ)
-      × HeapMarkEnded heap.frame.config heap.frame.heap_no (heap_view seat).seen cycle r.notice.hold.object
-  dead_as_it_ran is_seat is_own registers gone found taken front back parts apart others =
+      → r.taken ≡ Some (hold, job) → 2 ≤ tally (spent (heap_view seat).seen) r.notice.hold.object
+  spent_as_it_ran is_seat is_own registers gone found taken =
       let n : ℕ = r.notice.hold.object in
       let w : HeapView = heap_view seat in
       let d : CleanView J = clean_view own in
@@ -257,9 +255,21 @@ module _ {J A : Type 0} (heap : SharedHeap A) (seat : HeapSeat) (cleaner : Share
       let both = tally-append (spent v.mine) (spent (all_of (releases_in v) rs)) n in
       let mine_are = ap (λ (es : List HeapEntry). tally (spent es) n) (is_seat.history.own ∙ gone.1.2) in
       let fewer = spent_by_seat w.number n w.seen in
-      let all = ap (λ (es : List HeapEntry). tally (spent es) n) parts in
+      omega (arith, two, in_round, behind, both, mine_are, fewer)
+
+  -- a job that was taken in a round, of what was apart from some calls on, is of an object that a mark's end found dead
+  pub dead_as_it_ran : IsHeapSeat heap seat → IsCleanSeat cleaner own → RegisterOwn (clean_view own).seen
+      → HasGone q v c rs last (heap_view seat) (clean_view own) → slice_get rs i ≡ Some r
+      → r.taken ≡ Some (hold, job) → (front back : List HeapEntry) → (heap_view seat).seen ≡ front ++ back
+      → IsApart heap.frame.config heap.frame.heap_no front r.notice.hold.object
+      → PutInNoSlot r.notice.hold.object back
+      → (cycle : ℕ)
+      × HeapMarkEnded heap.frame.config heap.frame.heap_no (heap_view seat).seen cycle r.notice.hold.object
+  dead_as_it_ran is_seat is_own registers gone found taken front back parts apart others =
+      let n : ℕ = r.notice.hold.object in
+      let two = spent_as_it_ran is_seat is_own registers gone found taken in
       let twice : 2 ≤ tally (spent (front ++ back)) n =
-      omega (arith, two, in_round, behind, both, mine_are, fewer, all) in
+      subst (λ (es : List HeapEntry). 2 ≤ tally (spent es) n) parts two in
       let dead = twice_spent heap.frame.config heap.frame.heap_no n front back is_seat.history.last
       (subst (λ (es : List HeapEntry). IsHeapRun heap.frame.config heap.frame.heap_no es is_seat.history.last) parts
       is_seat.history.run) apart others twice in (

@@ -24,7 +24,7 @@ use Rattle.ref_share.proofs.HandedNotices.{all_given, GivesFront, one_is_told, s
 use Rattle.ref_share.proofs.HandedNotices.{some_of_front}
 use Rattle.ref_share.proofs.HeapReplays.{run_known}
 use Rattle.ref_share.proofs.MarkedRuns.{given_after_mark}
-use Rattle.ref_share.proofs.SlotRuns.{OfSlots, slots_then}
+use Rattle.ref_share.proofs.SlotRuns.{OfSlots, same_slots, slots_then}
 use Rattle.ref_base.specs.declared.heap_step.HeapStep.TheVariants as heap
 use Rattle.ref_base.specs.declared.plain_step.PlainStep.TheVariants as plain
 use Rattle.ref_base.specs.declared.reply.Reply.TheVariants as told
@@ -48,7 +48,7 @@ empty_has_not n but i = λ elsewhere is. absurd cc
 abbrev pub IsOutBut : ℕ → Option ℕ → World → Type 0
 IsOutBut n but w = OfSlots (HasNot n but) (empty_has_not n but) w
 
-replayed-append : (w : World) (front back : List HeapEntry)
+pub replayed-append : (w : World) (front back : List HeapEntry)
     → heap_replayed_from w (front ++ back) ≡ heap_replayed_from (heap_replayed_from w front) back
 replayed-append w [] back = refl
 replayed-append w (call ∷ front) back =
@@ -62,7 +62,7 @@ module _ (n : ℕ) (but : Option ℕ) where
   still_out w x y (call ∷ calls) run others out =
       still_out (after_heap w call.step (told_reply call.reply)) run.0 y calls run.2 others.1
       (slots_then (HasNot n but) (empty_has_not n but) w out x.world.heap.no call.step call.reply run.1.gives
-      (λ k put i elsewhere same. others.0 (put ∙ same)))
+      (λ i fills k put elsewhere same. others.0 (put ∙ same)))
 
   -- and so behind others
   then_out : (w : World) (front back : List HeapEntry)
@@ -71,18 +71,18 @@ module _ (n : ℕ) (but : Option ℕ) where
   then_out w front back out = subst (IsOutBut n but) (sym (replayed-append w front back)) out
 
 -- at first it is in none
-first_out : (n : ℕ) (config : Config) (number : ℕ) → IsOutBut n None (first_world_of config number)
+pub first_out : (n : ℕ) (config : Config) (number : ℕ) → IsOutBut n None (first_world_of config number)
 first_out n config number = record {
   each = λ i elsewhere.
       subst (λ (value : Option ℕ). value ≢ Some n) (sym (same_at None (16 * config.mutators) i)) (λ is. absurd cc);
 }
 
 -- what is in none is in none but one
-out_but : (n place : ℕ) (w : World) → IsOutBut n None w → IsOutBut n (Some place) w
+pub out_but : (n place : ℕ) (w : World) → IsOutBut n None w → IsOutBut n (Some place) w
 out_but n place w out = record { each = λ i elsewhere. out.each i tt }
 
 -- what is in none but one is in none where that one is emptied
-emptied : (n : ℕ) (slots : List (Option ℕ)) (place : ℕ)
+pub emptied : (n : ℕ) (slots : List (Option ℕ)) (place : ℕ)
     → ((i : ℕ) → i ≢ place → slice_index_or slots i None ≢ Some n)
     → (i : ℕ) → slice_index_or (slice_set slots place None) i None ≢ Some n
 emptied n [] place out i = λ is. absurd cc
@@ -102,7 +102,7 @@ pub tally-lacks : (ns : List ℕ) (n : ℕ) → has ns n ≡ false → tally ns 
 tally-lacks [] n lacks = refl
 tally-lacks (m ∷ ns) n lacks = grind (arith, tally-lacks ns n)
 
-tally-own : (k n : ℕ) → k ≡ n → tally (k ∷ []) n ≡ 1
+pub tally-own : (k n : ℕ) → k ≡ n → tally (k ∷ []) n ≡ 1
 tally-own k n same = grind arith
 
 -- calls of others give no hold of it
@@ -218,50 +218,69 @@ out_later config number n front between x run apart others =
     (still_out n None (heap_replayed config number front) parts.0 x between parts.2 others
     (apart_out config number n front apart))
 
-module _ (config : Config) (number n : ℕ) (past : List HeapEntry) (x : State) (run : IsHeapRun config number past x)
-    (out : IsOutBut n None (heap_replayed config number past)) where
-  -- neither is it in the collector's world
-  out_here : (m s : ℕ) → slot_at x.world.heap m s ≢ Some n
-  out_here m s =
-      let known = run_known config number past x run in
-      let same : x.world.heap.slots ≡ (heap_replayed config number past).heap.slots =
-      ap (λ (w : World). w.heap.slots) known.1.0.agrees in
-      subst (λ (slots : List (Option ℕ)). slice_index_or slots (16 * m + s) None ≢ Some n) (sym same)
-      (out.each (16 * m + s) tt)
+-- what a step hands on of a slot's: into another slot, into an object, or as a hold
+abbrev pub read_by : World → NamedStep → Option ℕ
+read_by w (heap.Plain (plain.Store m s i v)) = slot_at w.heap m v
+read_by w (heap.Plain (plain.Refer m strength d s q k)) = slot_at w.heap m s
+read_by w (heap.Plain (plain.Copy m d s)) = slot_at w.heap m s
+read_by w (heap.Unhook m s) = slot_at w.heap m s
+read_by w (heap.Hold m s) = slot_at w.heap m s
+read_by w step = None
 
+-- no step hands on what is in no slot
+pub unread : (n : ℕ) (w : World) → IsOutBut n None w → (step : NamedStep) → read_by w step ≢ Some n
+unread n w out (heap.Plain (plain.Store m s i v)) = out.each (16 * m + v) tt
+unread n w out (heap.Plain (plain.Refer m strength d s q k)) = out.each (16 * m + s) tt
+unread n w out (heap.Plain (plain.Copy m d s)) = out.each (16 * m + s) tt
+unread n w out (heap.Unhook m s) = out.each (16 * m + s) tt
+unread n w out (heap.Hold m s) = out.each (16 * m + s) tt
+unread n w out step = λ is. absurd cc
+
+-- the collector's slots are those of the replay
+pub out_here : (config : Config) (number n : ℕ) (but : Option ℕ) (past : List HeapEntry) (x : State)
+    → IsHeapRun config number past x → IsOutBut n but (heap_replayed config number past) → IsOutBut n but x.world
+out_here config number n but past x run out =
+    let known = run_known config number past x run in
+    same_slots (HasNot n but) (empty_has_not n but) (heap_replayed config number past) x.world
+    (ap (λ (w : World). w.heap.slots) known.1.0.agrees) out
+
+module _ (n : ℕ) (x y : State) where
   -- so no unhook gives a notice of it
-  unhooked_held : (y : State) (m s : ℕ) (held queue : Option ℕ) (k q : ℕ) (cause : Cause)
+  unhooked_held : (m s : ℕ) (held queue : Option ℕ) (k q : ℕ) (cause : Cause)
       → Unhooks x m s held queue (told.Notice k q cause) y → held ≡ Some k
-  unhooked_held y m s None queue k q cause row = let no = row.0 in absurd cc
-  unhooked_held y m s (Some j) None k q cause row = let no = row.0 in absurd cc
-  unhooked_held y m s (Some j) (Some r) k q cause row = let is = row.0 in cc
+  unhooked_held m s None queue k q cause row = let no = row.0 in absurd cc
+  unhooked_held m s (Some j) None k q cause row = let no = row.0 in absurd cc
+  unhooked_held m s (Some j) (Some r) k q cause row = let is = row.0 in cc
 
-  no_unhook : (y : State) (m s k q : ℕ) (cause : Cause) → IsHeapRow x (heap.Unhook m s) (told.Notice k q cause) y
-      → k ≢ n
-  no_unhook y m s k q cause row is =
+  no_unhook : (m s k q : ℕ) (cause : Cause) → slot_at x.world.heap m s ≢ Some n
+      → IsHeapRow x (heap.Unhook m s) (told.Notice k q cause) y → k ≢ n
+  no_unhook m s k q cause other row is =
       elim (heap_kind x y (heap.Unhook m s) (told.Notice k q cause) row) [
         | inl of ↦ let no = of.1 in absurd cc
         | inr of ↦
             let held : Option ℕ = slot_at x.world.heap m s in
-            out_here m s
-            (unhooked_held y m s held (registered_in (reference_of x.world.heap held)) k q cause of.1
+            other
+            (unhooked_held m s held (registered_in (reference_of x.world.heap held)) k q cause of.1
             ∙ ap (λ (j : ℕ). Some j) is)
       ]
 
   -- and no hold of it is given
-  held_of : (y : State) (held : Option ℕ) (k : ℕ) → Holds x held (told.Object k) y → held ≡ Some k
-  held_of y None k row = absurd row
-  held_of y (Some j) k row = let is = row.0 in cc
+  held_of : (held : Option ℕ) (k : ℕ) → Holds x held (told.Object k) y → held ≡ Some k
+  held_of None k row = absurd row
+  held_of (Some j) k row = let is = row.0 in cc
 
-  pub no_hold : (y : State) (m s : ℕ) (hold : HoldName) → IsHeapTurn x (heap.Hold m s) (replies.Held hold) y
-      → hold.object ≢ n
-  no_hold y m s hold turn is =
+  -- what is held was in the slot
+  pub held_is : (m s : ℕ) (hold : HoldName) → IsHeapTurn x (heap.Hold m s) (replies.Held hold) y
+      → slot_at x.world.heap m s ≡ Some hold.object
+  held_is m s hold turn =
       elim (heap_kind x y (heap.Hold m s) (told.Object hold.object) turn.row) [
         | inl of ↦ let no = of.1 in absurd cc
-        | inr of ↦
-            out_here m s
-            (held_of y (slot_at x.world.heap m s) hold.object of.1 ∙ ap (λ (j : ℕ). Some j) is)
+        | inr of ↦ held_of (slot_at x.world.heap m s) hold.object of.1
       ]
+
+  pub no_hold : (m s : ℕ) (hold : HoldName) → slot_at x.world.heap m s ≢ Some n
+      → IsHeapTurn x (heap.Hold m s) (replies.Held hold) y → hold.object ≢ n
+  no_hold m s hold other turn is = other (held_is m s hold turn ∙ ap (λ (j : ℕ). Some j) is)
 
 -- ---- what a worker hands on
 
@@ -321,28 +340,28 @@ module _ (config : Config) (number n : ℕ) (past : List HeapEntry) where
     of_death ns cycles.1 marked.1,
   )
 
-  module _ (x y : State) (run : IsHeapRun config number past x)
-      (out : IsOutBut n None (heap_replayed config number past)) where
-    given_of_death : (step : NamedStep) (reply : HeapAnswer) → IsHeapTurn x step reply y
+  module _ (x y : State) where
+    -- of what the step hands on of no slot, each notice that it gives is of a death
+    pub given_of_death : (step : NamedStep) (reply : HeapAnswer) → IsHeapTurn x step reply y
+        → read_by x.world step ≢ Some n
         → AllByRecursion (λ notice. (cycle worker : ℕ) → notice.cause ≡ Cycle cycle worker
         → HeapMarkEnded config number past cycle notice.hold.object) (notices_given step reply)
         → AllByRecursion (λ notice. notice.hold.object ≡ n → IsOfDeath config number past notice)
         (notices_given step reply)
-    given_of_death (heap.Unhook m s) (replies.Notice notice) turn marked = (
-      λ is. absurd (no_unhook config number n past x run out y m s notice.hold.object notice.queue notice.cause
-          turn.row is),
+    given_of_death (heap.Unhook m s) (replies.Notice notice) turn other marked = (
+      λ is. absurd (no_unhook n x y m s notice.hold.object notice.queue notice.cause other turn.row is),
       tt,
     )
-    given_of_death (heap.Hand k) reply turn marked =
+    given_of_death (heap.Hand k) reply turn other marked =
         of_death (notices_of_hand (heap.Hand k) reply)
         (hand_of_cycles x y (heap.Hand k) reply k turn (one_is_told x.world.heap.no k reply turn.gives)
         (λ a row. one_gives x a k (told_reply reply) row)) marked
-    given_of_death (heap.Hands k max batch) reply turn marked =
+    given_of_death (heap.Hands k max batch) reply turn other marked =
         of_death (notices_of_hand (heap.Hands k max batch) reply)
         (hand_of_cycles x y (heap.Hands k max batch) reply k turn
         (some_are_told x.world.heap.no k max batch reply turn.gives)
         (λ a row. some_give x a k max batch (told_reply reply) row)) marked
-    given_of_death step reply turn marked = tt
+    given_of_death step reply turn other marked = tt
 
 -- of what is apart, and is put into no slot, each notice that a call gives is of a death, and no hold is given
 pub apart_given : (config : Config) (number n : ℕ) (front between back : List HeapEntry) (call : HeapEntry)
@@ -354,5 +373,6 @@ apart_given config number n front between back call last run apart others =
     let past : List HeapEntry = front ++ between in
     let parts = leads_cut IsHeapTurn past (call ∷ back) (first_state_of config number) last run in
     let out = out_later config number n front between parts.0 parts.1 apart others in
-    given_of_death config number n past parts.0 parts.2.0 parts.1 out call.step call.reply parts.2.1
+    given_of_death config number n past parts.0 parts.2.0 call.step call.reply parts.2.1
+    (unread n parts.0.world (out_here config number n None past parts.0 parts.1 out) call.step)
     (given_after_mark config number past back call last run)

@@ -1,6 +1,7 @@
 -- The history of a cleaner: which job stands in its table is told by its entries.
 use Rattle.std.proofs.Common.{is_some}
-use Rattle.ref_share.proofs.Common.{arith, ◌≡◌, ℕ, Bool, true, List, [], ◌∷◌, ◌++◌, Option, Some, None, Ok, Err, refl, ap}
+use Rattle.ref_share.proofs.Common.{arith, ◌≡◌, ℕ, Bool, true, List, [], ◌∷◌, ◌++◌, Option, Some, None, Ok, Err, refl}
+use Rattle.ref_share.proofs.Common.{ap}
 use Rattle.ref_share.proofs.Common.{◌∙◌, new_registry, Leads, entry, Entry}
 use Rattle.std.specs.Cmp.{nat_eq_equiv}
 use Rattle.ref_share.specs.CleanMachines.{IsCleanTurn}

@@ -9,7 +9,7 @@ use Rattle.ref_queue.specs.declared.job.Ran.{Ran}
 use Rattle.ref_share.specs.CleanLoops.{GoesRound, GoesOn}
 use Rattle.ref_queue.specs.CleanTables.{Registry}
 use Rattle.ref_share.specs.CleanMachines.{IsCleanTurn}
-use Rattle.ref_share.specs.Cleanings.{RegistersJob, RegistersApart, CleansNow, Unregisters, LooksOnce}
+use Rattle.ref_share.specs.Cleanings.{RegistersJob, RegistersApart, KeepsJob, CleansNow, Unregisters, LooksOnce}
 use Rattle.ref_share.specs.declared.answers.Cleaned.TheVariants.{Gone, Ran as DidRun}
 use Rattle.ref_base.specs.declared.heap_step.HeapStep.TheVariants as heap
 use Rattle.ref_base.specs.declared.plain_step.PlainStep.TheVariants as plain
@@ -95,6 +95,14 @@ module _ (start : Option ClearHeap) where
   released_without_a_call is = let none = is.2 in absurd cc
 
   -- ---- register
+
+  it_is_kept : KeepsJob 30 (table []) hold (calls_of []) (Ok (record { obj = 2 })) (calls_of [])
+      (table (registered ∷ []))
+  it_is_kept = (refl, refl, ((refl, refl, refl), ([], refl), refl))
+
+  kept_and_given_back : ¬ (KeepsJob 30 (table []) hold (calls_of []) (Ok (record { obj = 2 }))
+      (calls_of (releases ∷ [])) (table (registered ∷ [])))
+  kept_and_given_back is = let same = ap (λ (w : HeapView). w.mine) is.1 in absurd cc
 
   it_is_registered : RegistersJob 30 (table []) 0 0 1 2 (calls_of []) (Ok (record { obj = 2 }))
       (calls_of (makes ∷ holds ∷ [])) (table (registered ∷ []))

@@ -1,5 +1,5 @@
 -- What was called for a step that may want room, put together from its calls.
-use Rattle.ref_share.proofs.Common.{◌≡◌, ◌≢◌, List, ◌∷◌, Option, Some, None, ℕ, Result, Ok, Err, inl, inr, refl, subst}
+use Rattle.ref_share.proofs.Common.{◌≡◌, List, ◌∷◌, Option, Some, None, ℕ, Result, Ok, Err, inl, inr, refl, subst}
 use Rattle.ref_share.proofs.Common.{HeapView, QueueSeat, SharedQueue, Reply, ShareFault}
 use Rattle.ref_base.specs.declared.plain_step.PlainStep.{PlainStep}
 use Rattle.ref_base.specs.declared.urgency.Urgency.{Urgency}

@@ -1,8 +1,9 @@
--- What a whole cycle may have called, and what not, with two queues: nothing is dead, so that each kind of work is asked
--- for once and answers nothing.
-use Rattle.ref_share.proofs.Common.{◌≡◌, ℕ, List, [], ◌∷◌, ◌++◌, length, map, Option, Ok, Err, inl, inr, refl, ap, arith}
-use Rattle.ref_share.proofs.Common.{length-append, ClearHeap, Idle, entry, Busy, HeapView, HeapEntry, NamedStep}
-use Rattle.ref_share.proofs.Common.{QueueSeat, SharedQueue, HeapAnswer, Reply, Fault}
+-- What a whole cycle may have called, and what not, with two queues: nothing is dead, so that each kind of work is
+-- asked for once and answers nothing.
+use Rattle.ref_share.proofs.Common.{◌≡◌, ℕ, List, [], ◌∷◌, ◌++◌, length, map, Option, Ok, Err, inl, inr, refl, ap}
+use Rattle.ref_share.proofs.Common.{arith}
+use Rattle.ref_share.proofs.Common.{length-append, ClearHeap, Idle, entry, Busy, HeapView, HeapEntry}
+use Rattle.ref_share.proofs.Common.{QueueSeat, SharedQueue, Reply}
 use Rattle.ref_base.specs.declared.fault.Fault.TheVariants.{GreyLeft, NoCell, WrongPhase}
 use Rattle.ref_base.specs.declared.heap_step.HeapStep.TheVariants as heap
 use Rattle.ref_base.specs.declared.plain_step.PlainStep.{PlainStep}

@@ -1,7 +1,8 @@
--- A delivery of all that is pending, and a whole cycle, are a worker's work: nothing but deliveries hands on or puts in.
-use Rattle.ref_share.proofs.Common.{◌≡◌, ℕ, zero, suc, true, List, Option, Some, Result, Ok, Err, inl, inr, refl, sym}
+-- A delivery of all that is pending, and a whole cycle, are a worker's work: nothing but deliveries hands on or puts
+-- in.
+use Rattle.ref_share.proofs.Common.{◌≡◌, ℕ, zero, suc, true, List, Some, Result, Ok, Err, inl, inr, refl, sym}
 use Rattle.ref_share.proofs.Common.{ap, subst, ◌∙◌, slice_get, Fault, Reply, HeapView, QueueSeat, SharedQueue, Works}
-use Rattle.ref_share.proofs.Common.{ShareFault, Nothing, Busy, Notice, Called}
+use Rattle.ref_share.proofs.Common.{ShareFault, Nothing, Busy, Notice}
 use Rattle.ref_base.specs.declared.heap_step.HeapStep.TheVariants as heap
 use Rattle.ref_base.specs.declared.plain_step.PlainStep.{PlainStep}
 use Rattle.ref_base.specs.declared.plain_step.PlainStep.TheVariants as plain

@@ -1,6 +1,6 @@
 -- What a call of a worker's hand gives: the notices that it tells, of the front of what was pending of the worker,
 -- which are handed on one after the other.
-use Rattle.ref_share.proofs.Common.{arith, ◌≡◌, ℕ, zero, suc, List, [], ◌∷◌, ◌++◌, length, map, refl, sym, ap, ◌∙◌}
+use Rattle.ref_share.proofs.Common.{◌≡◌, ℕ, zero, suc, List, [], ◌∷◌, ◌++◌, length, map, refl, sym, ap, ◌∙◌}
 use Rattle.ref_share.proofs.Common.{append_assoc, slice_index_or, slice_set, eq-eqb, inl, inr, cases_Bool, NamedStep}
 use Rattle.ref_share.proofs.Common.{HeapAccepts, HeldNotice, Pending, Reply, State, World, as_notice, pending_of}
 use Rattle.ref_share.proofs.Common.{told_notices, told_reply, GivesOut, HeapAnswer, notices_of_hand, without_pending}

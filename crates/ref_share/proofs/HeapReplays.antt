@@ -22,14 +22,14 @@ use Rattle.ref_world.specs.declared.heap_machine.HeapReply.TheVariants as replie
 
 -- ---- the replay goes on call by call
 
-replayed_last : (w : World) (past : List HeapEntry) (call : HeapEntry)
+pub replayed_last : (w : World) (past : List HeapEntry) (call : HeapEntry)
     → heap_replayed_from w (past ++ call ∷ []) ≡ after_heap (heap_replayed_from w past) call.step
     (told_reply call.reply)
 replayed_last w [] call = refl
 replayed_last w (other ∷ past) call = replayed_last (after_heap w other.step (told_reply other.reply)) past call
 
 -- and a refusal leaves it
-heap_refused : (w : World) (step : NamedStep) (fault : Fault) → after_heap w step (told.Refused fault) ≡ w
+pub heap_refused : (w : World) (step : NamedStep) (fault : Fault) → after_heap w step (told.Refused fault) ≡ w
 heap_refused w (heap.Plain plain.EndMark) fault = refl
 heap_refused w step fault = refl
 

@@ -1,5 +1,5 @@
 -- A table that is emptied job by job, each of which is run.
-use Rattle.ref_share.proofs.Common.{◌≡◌, ℕ, List, [], Option, Some, None, ◌⊎◌, inl, inr, sym, ap, subst, ◌∙◌, nat_eq}
+use Rattle.ref_share.proofs.Common.{◌≡◌, ℕ, [], Some, None, ◌⊎◌, inl, inr, sym, ap, subst, ◌∙◌, nat_eq}
 use Rattle.std.proofs.Common.{if◌then◌else◌}
 use Rattle.std.proofs.lemmas.Bool.Decides.{eqb_tells}
 use Rattle.std.proofs.lemmas.Option.{same_Some}

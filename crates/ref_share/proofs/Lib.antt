@@ -28,8 +28,12 @@ pub mod JobsLeft
 pub mod CleanRounds
 pub mod CleanRuns
 pub mod SlotRuns
+pub mod TargetRuns
 pub mod ApartRuns
 pub mod ApartRounds
+pub mod KeptRuns
+pub mod RegisterRuns
+pub mod RegisteredSeats
 mod HeapExamples
 mod QueueCallExamples
 mod DeliveryExamples

@@ -1,5 +1,5 @@
 -- The history of a heap: what a mark's end dooms, no call gives from then on.
-use Rattle.ref_share.proofs.Common.{arith, ◌≡◌, ℕ, true, List, [], ◌∷◌, ◌++◌, Option, Some, None, inl, inr, ap, ◌∙◌}
+use Rattle.ref_share.proofs.Common.{arith, ◌≡◌, ℕ, true, List, [], ◌∷◌, ◌++◌, Option, None, inl, inr, ap, ◌∙◌}
 use Rattle.ref_share.proofs.Common.{append-nil, HeapAccepts, EndsMark, doomed_at, State, NamedStep, has, heap_refusal}
 use Rattle.ref_share.proofs.Common.{Config, Reply, Leads, entry, told_reply, HeapAnswer, IsHeapTurn, HeapEntry}
 use Rattle.ref_share.proofs.Common.{IsHeapRun, first_state_of, AllByRecursion, World, false, ◌==◌, sym, subst}

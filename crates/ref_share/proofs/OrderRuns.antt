@@ -1,5 +1,5 @@
 -- The history of a heap: each worker hands references on in the order in which it cleared them.
-use Rattle.ref_share.proofs.Common.{arith, ◌≡◌, ℕ, true, List, [], ◌∷◌, ◌++◌, Some, inl, inr, refl, sym, ap, ◌∙◌, subst}
+use Rattle.ref_share.proofs.Common.{◌≡◌, ℕ, true, List, [], ◌∷◌, ◌++◌, Some, inl, inr, refl, sym, ap, ◌∙◌, subst}
 use Rattle.ref_share.proofs.Common.{map, slice_index_or, eq-eqb, append-nil, append_assoc, is_subsequence, State, has}
 use Rattle.ref_share.proofs.Common.{reference_at, NamedStep, told_notices, clearing_order, Pending, World, pending_of}
 use Rattle.ref_share.proofs.Common.{Config, Fault, Reply, Row, as_notice, told_reply, GivesOut, HeapAnswer, HeapEntry}

@@ -1,5 +1,5 @@
 -- What a call tells of slots: what holds of each slot's value holds after a call too, where it holds of what the call
--- puts into a slot.
+-- puts into a slot, at that slot.
 use Rattle.ref_share.proofs.Common.{◌≡◌, ℕ, ◌+◌, Bool, true, false, List, [], ◌∷◌, Option, Some, None, refl, sym}
 use Rattle.ref_share.proofs.Common.{subst, slice_index_or, NamedStep, World, Reply, told_reply, GivesOut}
 use Rattle.ref_share.proofs.Common.{HeapAnswer, told_notices}
@@ -34,16 +34,30 @@ handed_slots : (w : World) (k : ℕ) (notices : List Notice) → (handed_each w 
 handed_slots w k [] = refl
 handed_slots w k (notice ∷ rest) = handed_slots (handed_on w k notice.object) k rest
 
+-- the place of the slot that a step puts into what it tells, if it is such a step
+abbrev pub filled_by : NamedStep → Option ℕ
+filled_by (heap.Plain (plain.New m d k)) = Some (16 * m + d)
+filled_by (heap.Plain (plain.Refer m strength d s q k)) = Some (16 * m + d)
+filled_by (heap.Plain (plain.Load m d s i)) = Some (16 * m + d)
+filled_by (heap.Plain (plain.Copy m d s)) = Some (16 * m + d)
+filled_by (heap.Plain (plain.Get m d s)) = Some (16 * m + d)
+filled_by (heap.Adopt m d hold) = Some (16 * m + d)
+filled_by step = None
+
 module _ (P : ℕ → Option ℕ → Type 0) (empty : (i : ℕ) → P i None) where
   -- P holds of each place and what the slot there holds, as a record that search can see
   pub record OfSlots (w : World) : Type 0 where
     pub each : (i : ℕ) → P i (slice_index_or w.heap.slots i None)
 
-  -- and of each place and the object that is put somewhere, if one is
-  abbrev pub OfPut : Option ℕ → Type 0
-  OfPut put = (n : ℕ) → put ≡ Some n → (i : ℕ) → P i (Some n)
+  -- and of a place and the object that is put there, if one is
+  abbrev pub OfPut : ℕ → Option ℕ → Type 0
+  OfPut i put = (n : ℕ) → put ≡ Some n → P i (Some n)
 
-  same_slots : (v w : World) → w.heap.slots ≡ v.heap.slots → OfSlots v → OfSlots w
+  -- so of the place that the step fills
+  abbrev pub OfFilled : NamedStep → Option ℕ → Type 0
+  OfFilled step put = (i : ℕ) → filled_by step ≡ Some i → OfPut i put
+
+  pub same_slots : (v w : World) → w.heap.slots ≡ v.heap.slots → OfSlots v → OfSlots w
   same_slots v w same of = record {
     each = λ i. subst (λ (slots : List (Option ℕ)). P i (slice_index_or slots i None)) (sym same) (of.each i);
   }
@@ -52,10 +66,8 @@ module _ (P : ℕ → Option ℕ → Type 0) (empty : (i : ℕ) → P i None) wh
     before : OfSlots w
     before = of
 
-    sets : (m d : ℕ) (value : Option ℕ) → ((i : ℕ) → P i value) → OfSlots (with_heap w (with_slot w.heap m d value))
-    sets m d value is = record {
-      each = set_each P w.heap.slots (16 * m + d) value (λ _. None) (is (16 * m + d)) of.each;
-    }
+    sets : (m d : ℕ) (value : Option ℕ) → P (16 * m + d) value → OfSlots (with_heap w (with_slot w.heap m d value))
+    sets m d value is = record { each = set_each P w.heap.slots (16 * m + d) value (λ _. None) is of.each }
 
     changes : (held : Option ℕ) (f : Object → Object) → OfSlots (with_heap w (changed_in w.heap held f))
     changes held f = same_slots w (with_heap w (changed_in w.heap held f)) (changed_slots w.heap held f) of
@@ -103,46 +115,54 @@ module _ (P : ℕ → Option ℕ → Type 0) (empty : (i : ℕ) → P i None) wh
     unhooks m s false [] = of
     unhooks m s false (notice ∷ rest) = record { each = (cuts m s).each }
 
-    objects : (reply : Reply) (change : ℕ → World) → OfPut (told_object reply)
-        → ((n : ℕ) → ((i : ℕ) → P i (Some n)) → OfSlots (change n))
-        → OfSlots (if_told (told_object reply) change w)
-    objects (told.Object n) change put after = after n (put n refl)
-    objects reply change put after = of
+    objects : (i : ℕ) (reply : Reply) (change : ℕ → World) → OfPut i (told_object reply)
+        → ((n : ℕ) → P i (Some n) → OfSlots (change n)) → OfSlots (if_told (told_object reply) change w)
+    objects i (told.Object n) change put after = after n (put n refl)
+    objects i reply change put after = of
 
-    values : (reply : Reply) (change : Option ℕ → World) → OfPut (told_object reply)
-        → ((value : Option ℕ) → ((i : ℕ) → P i value) → OfSlots (change value))
-        → OfSlots (if_told (told_value reply) change w)
-    values (told.Object n) change put after = after (Some n) (put n refl)
-    values told.Null change put after = after None empty
-    values reply change put after = of
+    values : (i : ℕ) (reply : Reply) (change : Option ℕ → World) → OfPut i (told_object reply)
+        → ((value : Option ℕ) → P i value → OfSlots (change value)) → OfSlots (if_told (told_value reply) change w)
+    values i (told.Object n) change put after = after (Some n) (put n refl)
+    values i told.Null change put after = after None (empty i)
+    values i reply change put after = of
+
+    holds_told : (reply : Reply) → OfSlots (if_told (told_object reply) (λ n. with_heap w (with_hold w.heap n)) w)
+    holds_told (told.Object n) = holds n
+    holds_told reply = of
 
   module _ (w : World) (of : OfSlots w) where
-    gets : (m d s : ℕ) (value : Option ℕ) → ((i : ℕ) → P i value) → OfSlots (with_heap w (got w.heap m d s value))
+    gets : (m d s : ℕ) (value : Option ℕ) → P (16 * m + d) value → OfSlots (with_heap w (got w.heap m d s value))
     gets m d s None is = sets w of m d None is
     gets m d s (Some n) is =
         let f : Object → Object = with_reference (got_at w.heap.clock) in
         let u : World = with_heap w (changed_in w.heap (slot_at w.heap m s) f) in
         record { each = (sets u (changes w of (slot_at w.heap m s) f) m d (Some n) is).each }
 
-    makes : (m d : ℕ) (o : Object) → ((i : ℕ) → P i (Some o.no)) → OfSlots (with_heap w (made w.heap m d o))
+    makes : (m d : ℕ) (o : Object) → P (16 * m + d) (Some o.no) → OfSlots (with_heap w (made w.heap m d o))
     makes m d o is = record { each = (sets w of m d (Some o.no) is).each }
 
-    adopts : (m d n : ℕ) → ((i : ℕ) → P i (Some n)) → OfSlots (with_heap w (adopted w.heap m d n))
+    adopts : (m d n : ℕ) → P (16 * m + d) (Some n) → OfSlots (with_heap w (adopted w.heap m d n))
     adopts m d n is = record { each = (sets w of m d (Some n) is).each }
 
     -- a step with this reply leaves it so, where it is so of what the reply names
-    slots_told : (step : NamedStep) (reply : Reply) → OfPut (told_object reply) → OfSlots (after_heap w step reply)
-    slots_told (heap.Plain (plain.Load m d s i)) reply put = values w of reply _ put (sets w of m d)
-    slots_told (heap.Plain (plain.Copy m d s)) reply put = values w of reply _ put (sets w of m d)
-    slots_told (heap.Plain (plain.Get m d s)) reply put = values w of reply _ put (gets m d s)
+    slots_told : (step : NamedStep) (reply : Reply) → OfFilled step (told_object reply)
+        → OfSlots (after_heap w step reply)
+    slots_told (heap.Plain (plain.Load m d s i)) reply put =
+        values w of (16 * m + d) reply _ (put (16 * m + d) refl) (sets w of m d)
+    slots_told (heap.Plain (plain.Copy m d s)) reply put =
+        values w of (16 * m + d) reply _ (put (16 * m + d) refl) (sets w of m d)
+    slots_told (heap.Plain (plain.Get m d s)) reply put =
+        values w of (16 * m + d) reply _ (put (16 * m + d) refl) (gets m d s)
     slots_told (heap.Unhook m s) reply put = unhooks w of m s (is_nothing reply) (told_notices reply)
     slots_told (heap.Hand k) reply put = hands w of k (told_notices reply)
     slots_told (heap.Hands k max batch) reply put = hands w of k (told_notices reply)
-    slots_told (heap.Plain (plain.New m d k)) reply put = objects w of reply _ put (λ n is. makes m d _ is)
+    slots_told (heap.Plain (plain.New m d k)) reply put =
+        objects w of (16 * m + d) reply _ (put (16 * m + d) refl) (λ n is. makes m d _ is)
     slots_told (heap.Plain (plain.Refer m strength d s q k)) reply put =
-        objects w of reply _ put (λ n is. makes m d _ is)
-    slots_told (heap.Hold m s) reply put = objects w of reply _ put (λ n is. holds w of n)
-    slots_told (heap.Adopt m d hold) reply put = objects w of reply _ put (adopts m d)
+        objects w of (16 * m + d) reply _ (put (16 * m + d) refl) (λ n is. makes m d _ is)
+    slots_told (heap.Hold m s) reply put = holds_told w of reply
+    slots_told (heap.Adopt m d hold) reply put =
+        objects w of (16 * m + d) reply _ (put (16 * m + d) refl) (adopts m d)
     slots_told (heap.Plain (plain.Begin now how)) reply put = begins w of _ now how reply
     slots_told (heap.Plain (plain.ClearNext k)) reply put = clears w of k reply
     slots_told (heap.Plain (plain.Sweep k)) reply put = counts w of reply
@@ -150,14 +170,14 @@ module _ (P : ℕ → Option ℕ → Type 0) (empty : (i : ℕ) → P i None) wh
 
     -- so does a call
     pub slots_then : (number : ℕ) (step : NamedStep) (reply : HeapAnswer) → GivesOut number step reply
-        → OfPut (put_in_slot reply) → OfSlots (after_heap w step (told_reply reply))
+        → OfFilled step (put_in_slot reply) → OfSlots (after_heap w step (told_reply reply))
     slots_then number step (replies.Told reply) gives put = slots_told step reply put
     slots_then number step (replies.Notice notice) gives put =
-        slots_told step (told_reply (replies.Notice notice)) (λ n is. absurd cc)
+        slots_told step (told_reply (replies.Notice notice)) (λ i fills n is. absurd cc)
     slots_then number (heap.Hold m s) (replies.Held hold) gives put = holds w of hold.object
     slots_then number step (replies.Held hold) gives put = absurd gives
     slots_then number step (replies.Back fault hold) gives put =
-        slots_told step (told.Refused fault) (λ n is. absurd cc)
+        slots_told step (told.Refused fault) (λ i fills n is. absurd cc)
     slots_then number (heap.Hands k max batch) (replies.Handed reply after) gives put =
         hands w of k (told_notices reply)
     slots_then number step (replies.Handed reply after) gives put = absurd gives

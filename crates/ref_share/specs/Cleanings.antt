@@ -81,6 +81,12 @@ module _ {J : Type 0} (job : J) (c : CleanView J) where
   EntersOnce hold (Err (fault, hold_back, job_back)) d =
       (hold_back ≡ hold) × (job_back ≡ job) × StaysOut hold fault d
 
+  -- the hold of a reference and its job go into the table; or they stay out, and the hold is given back
+  abbrev pub KeepsJob : HoldName → HeapView → Result Cleanable (ShareFault × J) → HeapView → CleanView J → Type 0
+  KeepsJob hold v (Ok cleanable) w d = (cleanable.obj ≡ hold.object) × (w ≡ v) × Enters hold d
+  KeepsJob hold v (Err (fault, back)) w d =
+      (back ≡ job) × ((refused : Fault) × StaysOut hold refused d × TakesBack v hold refused fault w)
+
   module _ (queue m src dst : ℕ) (v : HeapView) where
     -- A register: the reference is made, a hold of it is taken, and hold and job go into the table. Each is called
     -- unless the one before is refused. Where the table doesn't take the hold it goes back to the heap, or to the

@@ -1,6 +1,6 @@
 -- What one thread calls in a whole cycle of the collector, from one call of its seats to the next, and where it stopped
 -- (a cycle begins, marks, clears and sweeps: JEP 333; the calls are this project's profile).
-use Rattle.std.specs.Prelude.{◌≡◌, ◌≢◌, ℕ, zero, suc, ◌⊎◌, Bool, true, false, List, Result, Ok, Err}
+use Rattle.std.specs.Prelude.{◌≡◌, ◌≢◌, ℕ, ◌⊎◌, Bool, true, false, List, Result, Ok, Err}
 use Rattle.ref_base.specs.declared.fault.Fault.{Fault}
 use Rattle.ref_base.specs.declared.fault.Fault.TheVariants.{GreyLeft, ClearingLeft, SweepLeft}
 use Rattle.ref_base.specs.declared.plain_step.PlainStep.{PlainStep}

@@ -23,6 +23,7 @@ pub mod HeapCalls
 pub mod Answers
 pub mod ApartHistories
 pub mod CleanedHeaps
+pub mod QueuedCleaners
 pub mod Cleanings
 pub mod CleanLoops
 pub mod CleanHistories

@@ -1,6 +1,6 @@
 -- What was called for a step that may want room: all soft references to softly reachable objects are cleared before a
--- program is told that no memory is left (Java SE 17 `java.lang.ref.SoftReference`; that a normal cycle comes before the
--- urgent one is this project's profile).
+-- program is told that no memory is left (Java SE 17 `java.lang.ref.SoftReference`; that a normal cycle comes before
+-- the urgent one is this project's profile).
 use Rattle.std.specs.Prelude.{◌≡◌, ◌≢◌, ℕ, ◌⊎◌, List, [], ◌∷◌, Option, Some, None, Result, Ok, Err}
 use Rattle.ref_base.specs.declared.fault.Fault.TheVariants.{NoCell}
 use Rattle.ref_base.specs.declared.plain_step.PlainStep.{PlainStep}

@@ -8,7 +8,6 @@ use Rattle.ref_base.specs.Outs.{Outs}
 use Rattle.ref_base.specs.declared.fault.Fault.TheVariants.{TurnsSpent}
 use Rattle.ref_base.specs.declared.heap_step.HeapStep.TheVariants as heap
 use Rattle.ref_world.specs.HeapReplies.{HeapAnswer}
-use Rattle.ref_world.specs.declared.heap_machine.HeapReply.TheVariants as replies
 use Rattle.ref_share.specs.Deliveries.{Delivers, DeliversBatch}
 use Rattle.ref_share.specs.HeapTraces.{notices_of_hand}
 use Rattle.ref_share.specs.HeapSeats.{HeapView, HeapEntry}

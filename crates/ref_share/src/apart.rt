@@ -2,12 +2,12 @@
 
 ghost use Rattle.std.specs.Prelude.{IfOk, IfErr};
 ghost use Rattle.ref_share.specs.CleanSeats.{clean_view, IsCleanSeat};
-ghost use Rattle.ref_share.specs.Cleanings.{RegistersApart, HasMadeApart, HasNotMadeApart, TakesBack};
+ghost use Rattle.ref_share.specs.Cleanings.{RegistersApart, HasMadeApart, HasNotMadeApart};
 ghost use Rattle.ref_share.specs.HeapSeats.{heap_view, IsHeapSeat};
 
-use crate::cleaning::refer;
+use crate::cleaning::{refer, take_back};
 use crate::{CleanSeat, Cleanable, HeapSeat, ShareFault, SharedCleaner, SharedHeap};
-use ref_base::{Fault, MutNo, PlainStep, QueueNo, SlotNo};
+use ref_base::{MutNo, PlainStep, QueueNo, SlotNo};
 use ref_objects::Hold;
 use ref_queue::Job;
 use std::alloc::Allocator;
@@ -23,10 +23,11 @@ impl<A: Allocator + Copy> SharedCleaner<A> {
     ///
     /// Four turns: three of the heap, by which the reference is made, held, and dropped from the slot, and one of the
     /// table. `Refused` with the faults of the four, which are tried in this order: those of a `Refer`, of a `hold` and
-    /// of a `Drop`, with `TurnsSpent` where the heap has no turn left, those of `CleanTable::register`, and `TurnsSpent`
-    /// where the table has none left. The job comes back then, and registered is nothing. A hold that was taken before
-    /// is released by one more turn of the heap, or it is `Held` where the heap doesn't take it. The reference stays in
-    /// the slot where it was made and one of the two turns behind that is refused. Only the table takes memory.
+    /// of a `Drop`, with `TurnsSpent` where the heap has no turn left, those of `CleanTable::register`, and
+    /// `TurnsSpent` where the table has none left. The job comes back then, and registered is nothing. A hold that was
+    /// taken before is released by one more turn of the heap, or it is `Held` where the heap doesn't take it. The
+    /// reference stays in the slot where it was made and one of the two turns behind that is refused. Only the table
+    /// takes memory.
     ///
     /// By the caller: a cleaner is used with one heap, and no other call uses the mutator meanwhile.
     pub fn register_apart<R: Wait>(
@@ -46,16 +47,9 @@ impl<A: Allocator + Copy> SharedCleaner<A> {
         ensures registers { RegistersApart job (clean_view seat.old) self.now.frame mutator source slot
             (heap_view heap_seat.old) result (heap_view heap_seat.new) (clean_view seat.new) }
     {
-        let hold = match refer_apart(rt, heap, heap_seat, self.frame, mutator, source, slot) {
-            Ok(hold) => hold,
-            Err(fault) => return Err((fault, job)),
-        };
-        let obj = hold.obj();
-        match self.enter(rt, seat, hold, job) {
-            Ok(()) => Ok(Cleanable { obj }),
-            Err((refused, hold, job)) => {
-                Err((take_back(rt, heap, heap_seat, hold, refused), job))
-            }
+        match refer_apart(rt, heap, heap_seat, self.frame, mutator, source, slot) {
+            Ok(hold) => self.keep(rt, seat, heap, heap_seat, hold, job),
+            Err(fault) => Err((fault, job)),
         }
     }
 }
@@ -84,23 +78,5 @@ fn refer_apart<R: Wait, A: Allocator + Copy>(
     match heap.perform(rt, seat, PlainStep::Drop { mutator, slot }) {
         Ok(_done) => Ok(hold),
         Err(refused) => Err(take_back(rt, heap, seat, hold, refused)),
-    }
-}
-
-// Releases the hold, since this was refused. It comes back where the heap doesn't take it.
-fn take_back<R: Wait, A: Allocator + Copy>(
-    rt: &R,
-    heap: &SharedHeap<A>,
-    seat: &mut HeapSeat<A>,
-    hold: Hold,
-    refused: Fault,
-) -> ShareFault
-    requires { IsHeapSeat heap.now seat.old }
-    ensures seat { IsHeapSeat heap.now seat.new }
-    ensures back { TakesBack (heap_view seat.old) hold refused result (heap_view seat.new) }
-{
-    match heap.release(rt, seat, hold) {
-        Ok(()) => ShareFault::Refused(refused),
-        Err((fault, hold)) => ShareFault::Held(hold, fault),
     }
 }

@@ -17,9 +17,10 @@ ghost use Rattle.ref_share.specs.QueueSeats.{queue_view};
 ghost use Rattle.ref_share.specs.SeatCalls.{MakesUnless};
 ghost use Rattle.ref_share.specs.WantsOfRoom.{DoesAfter};
 
+use crate::endings::end_both;
 use crate::{
     CleanMachine, Cleanable, Cleaned, Gate, HeapSeat, QueueSeat, SeatFor, ShareFault, Shared,
-    SharedCleaner, SharedHeap, SharedQueue, cycle, end_queue, make_or_collect, run_jobs_left,
+    SharedCleaner, SharedHeap, SharedQueue, cycle, end_queue, make_or_collect,
 };
 use ref_base::{
     Config, Fault, MutNo, PlainStep, QueueNo, Reply, SlotNo, Strength, Urgency, WorkerNo,
@@ -40,8 +41,9 @@ const WORKER: WorkerNo = WorkerNo(0);
 /// thread. That thread is mutator 0, and worker 0 where it collects. It must be ended by `end`, since the holds in
 /// queue and cleaner must be given up.
 ///
-/// Calls of the heap that it has not are made of its parts, as `heap.heap.hold(rt, &mut heap.heap_seat, mutator, slot)`.
-/// Queue and cleaner are its own: no call polls the queue but the cleaner's, so that no notice is lost to another.
+/// Calls of the heap that it has not are made of its parts, as
+/// `heap.heap.hold(rt, &mut heap.heap_seat, mutator, slot)`. Queue and cleaner are its own: no call polls the queue but
+/// the cleaner's, so that no notice is lost to another.
 pub struct CleanedHeap<J = Job> {
     pub heap: SharedHeap,
     pub heap_seat: HeapSeat,
@@ -232,8 +234,8 @@ impl CleanedHeap<Job> {
         cleaner.register_apart(rt, clean_seat, heap, heap_seat, MUTATOR, source, slot, job)
     }
 
-    /// Runs the job now, as `SharedCleaner::clean`, unless it was taken before. The slot is used on the way, and is empty
-    /// afterwards, as far as turns are left: what it held is let go.
+    /// Runs the job now, as `SharedCleaner::clean`, unless it was taken before. The slot is used on the way, and is
+    /// empty afterwards, as far as turns are left: what it held is let go.
     pub fn clean<R: Wait>(
         &mut self,
         rt: &R,
@@ -262,8 +264,8 @@ impl CleanedHeap<Job> {
         cleaner.clean(rt, clean_seat, heap, heap_seat, MUTATOR, slot, cleanable)
     }
 
-    /// Takes the job out, and doesn't run it, as `SharedCleaner::unregister`: it never runs then. None where it was taken
-    /// before.
+    /// Takes the job out, and doesn't run it, as `SharedCleaner::unregister`: it never runs then. None where it was
+    /// taken before.
     pub fn unregister<R: Wait>(
         &mut self,
         rt: &R,
@@ -366,8 +368,6 @@ impl CleanedHeap<Job> {
             cleaner,
             clean_seat,
         } = self;
-        let notices = end_queue(queue.finish(queue_seat));
-        run_jobs_left(cleaner.finish(clean_seat));
-        notices
+        end_both(queue, queue_seat, cleaner, clean_seat)
     }
 }

@@ -4,7 +4,7 @@ ghost use Rattle.std.specs.Prelude.{◌≡◌, Err, IfOk, IfErr};
 ghost use Rattle.ref_base.specs.declared.fault.Fault.TheVariants.{NoSuchActor};
 ghost use Rattle.ref_share.specs.declared.answers.ShareFault.TheVariants.{Refused};
 ghost use Rattle.ref_share.specs.CleanSeats.{clean_view, IsCleanSeat};
-ghost use Rattle.ref_share.specs.Cleanings.{RegistersJob, HasMade, HasNotMade, EntersOnce};
+ghost use Rattle.ref_share.specs.Cleanings.{RegistersJob, HasMade, HasNotMade, EntersOnce, KeepsJob, TakesBack};
 ghost use Rattle.ref_share.specs.Cleanings.{CleansNow, TakesOnce, IsOutside, IsWithoutTurn, Retires};
 ghost use Rattle.ref_share.specs.Cleanings.{Unregisters, LooksOnce};
 ghost use Rattle.ref_share.specs.HeapSeats.{heap_view, IsHeapSeat};
@@ -52,18 +52,9 @@ impl<A: Allocator + Copy> SharedCleaner<A> {
         ensures registers { RegistersJob job (clean_view seat.old) self.now.frame mutator source slot
             (heap_view heap_seat.old) result (heap_view heap_seat.new) (clean_view seat.new) }
     {
-        let hold = match refer(rt, heap, heap_seat, self.frame, mutator, source, slot) {
-            Ok(hold) => hold,
-            Err(fault) => return Err((ShareFault::Refused(fault), job)),
-        };
-        let obj = hold.obj();
-        let (fault, hold, job) = match self.enter(rt, seat, hold, job) {
-            Ok(()) => return Ok(Cleanable { obj }),
-            Err(refused) => refused,
-        };
-        match heap.release(rt, heap_seat, hold) {
-            Ok(()) => Err((ShareFault::Refused(fault), job)),
-            Err((fault, hold)) => Err((ShareFault::Held(hold, fault), job)),
+        match refer(rt, heap, heap_seat, self.frame, mutator, source, slot) {
+            Ok(hold) => self.keep(rt, seat, heap, heap_seat, hold, job),
+            Err(fault) => Err((ShareFault::Refused(fault), job)),
         }
     }
 
@@ -107,9 +98,9 @@ impl<A: Allocator + Copy> SharedCleaner<A> {
         }
     }
 
-    /// Takes the job out, and doesn't run it: it never runs by this cleaner then, neither by `clean` nor once its object
-    /// is gone. None where it was taken before. What its action would have done is left to the caller, as where a file
-    /// was closed by hand. As `PhantomCleanable.clear` of OpenJDK 17.
+    /// Takes the job out, and doesn't run it: it never runs by this cleaner then, neither by `clean` nor once its
+    /// object is gone. None where it was taken before. What its action would have done is left to the caller, as where
+    /// a file was closed by hand. As `PhantomCleanable.clear` of OpenJDK 17.
     ///
     /// Two turns at most: one of the table, which gives the job out, and one of the heap, by which the hold of its
     /// reference is released. Where the heap has no turn left or doesn't count the hold, it comes back beside the job.
@@ -158,8 +149,34 @@ impl<A: Allocator + Copy> SharedCleaner<A> {
         }
     }
 
+    // Registers the job in the table, with the hold of its reference, which goes back to the heap where the table
+    // doesn't take it.
+    pub(crate) fn keep<R: Wait>(
+        &self,
+        rt: &R,
+        seat: &mut CleanSeat<A>,
+        heap: &SharedHeap<A>,
+        heap_seat: &mut HeapSeat<A>,
+        hold: Hold,
+        job: Job,
+    ) -> Result<Cleanable, (ShareFault, Job)>
+        requires { IsCleanSeat self.now seat.old × IsHeapSeat heap.now heap_seat.old }
+        ensures seat { IsCleanSeat self.now seat.new }
+        ensures heap_seat { IsHeapSeat heap.now heap_seat.new }
+        ensures keeps { KeepsJob job (clean_view seat.old) hold (heap_view heap_seat.old) result
+            (heap_view heap_seat.new) (clean_view seat.new) }
+    {
+        let obj = hold.obj();
+        match self.enter(rt, seat, hold, job) {
+            Ok(()) => Ok(Cleanable { obj }),
+            Err((refused, hold, job)) => {
+                Err((take_back(rt, heap, heap_seat, hold, refused), job))
+            }
+        }
+    }
+
     // Registers the job in the table, with a hold of its reference.
-    pub(crate) fn enter<R: Wait>(
+    fn enter<R: Wait>(
         &self,
         rt: &R,
         seat: &mut CleanSeat<A>,
@@ -236,6 +253,24 @@ pub(crate) fn refer<R: Wait, A: Allocator + Copy>(
     };
     heap.perform(rt, seat, step)?;
     heap.hold(rt, seat, mutator, slot)
+}
+
+// Releases the hold, since this was refused. It comes back where the heap doesn't take it.
+pub(crate) fn take_back<R: Wait, A: Allocator + Copy>(
+    rt: &R,
+    heap: &SharedHeap<A>,
+    seat: &mut HeapSeat<A>,
+    hold: Hold,
+    refused: Fault,
+) -> ShareFault
+    requires { IsHeapSeat heap.now seat.old }
+    ensures seat { IsHeapSeat heap.now seat.new }
+    ensures back { TakesBack (heap_view seat.old) hold refused result (heap_view seat.new) }
+{
+    match heap.release(rt, seat, hold) {
+        Ok(()) => ShareFault::Refused(refused),
+        Err((fault, hold)) => ShareFault::Held(hold, fault),
+    }
 }
 
 // Adopts the reference of a job into the slot, clears it and drops it, as far as turns are left. The hold comes back

@@ -4,7 +4,11 @@ ghost use Rattle.std.specs.Prelude.{◌≡◌, ℕ, [], Some};
 ghost use Rattle.ref_base.specs.declared.heap_step.HoldName.{HoldName};
 ghost use Rattle.ref_queue.specs.CleanTables.{job_of};
 ghost use Rattle.ref_share.specs.Answers.{found, count_standing, job_left_in};
+ghost use Rattle.ref_share.specs.CleanSeats.{IsCleanSeat};
+ghost use Rattle.ref_share.specs.CleanedHeaps.{AreEnded};
+ghost use Rattle.ref_share.specs.QueueSeats.{IsQueueSeat};
 
+use crate::{CleanSeat, QueueSeat, SharedCleaner, SharedQueue};
 use ref_clear::Notice;
 use ref_objects::Hold;
 use ref_queue::{CleanTable, Job, Queue};
@@ -58,6 +62,24 @@ fn run_all<A: Allocator + Copy>(table: CleanTable<Hold, Job, A>)
         job.run();
     }
     end_empty(table);
+}
+
+// Ends a queue, and the cleaner that it tells: notices that stand are given up, and jobs that are still registered are
+// run. How many notices that were.
+pub(crate) fn end_both<A: Allocator + Copy>(
+    queue: SharedQueue<A>,
+    queue_seat: QueueSeat<A>,
+    cleaner: SharedCleaner<A>,
+    clean_seat: CleanSeat<A>,
+) -> usize
+    requires { IsQueueSeat queue queue_seat × IsCleanSeat cleaner clean_seat }
+    ensures { AreEnded (λ job. (answer : ℕ)
+        × ⟦<Box<dyn FnOnce(u64) -> u64 + Send> as FnOnce(u64) -> u64>⟧.post job.action job.number answer)
+        queue queue_seat clean_seat result }
+{
+    let notices = end_queue(queue.finish(queue_seat));
+    run_jobs_left(cleaner.finish(clean_seat));
+    notices
 }
 
 // Ends a table where nothing is registered.

@@ -2,7 +2,7 @@
 //! lists of steps, turn by turn.
 
 ghost use Rattle.std.specs.Prelude.{◌≡◌, ℕ, ◌+◌, ◌<◌, true, List, [], ◌∷◌, ◌++◌, length, Option, Some, None};
-ghost use Rattle.std.specs.Prelude.{Bool, is_some, nat_eq, slice_get, Result};
+ghost use Rattle.std.specs.Prelude.{Bool, is_some, nat_eq, slice_get, Result, Ok};
 ghost use Rattle.std.specs.List.{AllByRecursion, IsDistinct};
 ghost use Rattle.ref_base.specs.CollectorRows.{IsLeft, doomed_at, referent_of, is_subsequence};
 ghost use Rattle.ref_base.specs.Collectors.{State};
@@ -33,7 +33,9 @@ ghost use Rattle.ref_world.specs.HeapReplies.{told_reply};
 ghost use Rattle.ref_world.specs.HeapReplies.{HeapAnswer};
 ghost use Rattle.ref_world.specs.declared.heap_machine.HeapReply.TheVariants.{Told};
 ghost use Rattle.ref_share.specs.CleanHistories.{some_registers, job_left};
-ghost use Rattle.ref_share.specs.ApartHistories.{AreOfOneApart, IsApart, IsOfDeath, PutInNoSlot, RegisterOwn};
+ghost use Rattle.ref_share.specs.ApartHistories.{AdoptNone, AreOfOneApart, IsApart, IsKeptApart, IsOfDeath};
+ghost use Rattle.ref_share.specs.ApartHistories.{OthersLeave, PutInNoSlot, RegisterOwn, WasFoundDead};
+ghost use Rattle.ref_share.specs.Cleanings.{RegistersApart};
 ghost use Rattle.ref_share.specs.CleanLoops.{HasGone, Round};
 ghost use Rattle.ref_share.specs.CleanSeats.{CleanSeat, CleanView, SharedCleaner, clean_view, IsCleanSeat};
 ghost use Rattle.ref_share.specs.CleanSeats.{Jobs, CleanEntry, IsCleanRun};
@@ -50,6 +52,7 @@ ghost use Rattle.ref_share.specs.QueueSeats.{QueueEntry, QueueSeat, QueueView, S
 ghost use Rattle.ref_share.specs.QueueStates.{NoticeLists};
 ghost use Rattle.ref_share.specs.WorkerCalls.{KeepsPace, Works, had_turn, notices_put, references_of};
 ghost use Rattle.ref_base.specs.declared.urgency.Urgency.{Urgency};
+ghost use Rattle.ref_share.specs.declared.answers.Cleanable.{Cleanable};
 ghost use Rattle.ref_share.specs.declared.answers.ShareFault.{ShareFault};
 ghost use Rattle.ref_share.specs.declared.clean_machine.CleanStep.TheVariants.{Take, Has};
 ghost use Rattle.ref_share.specs.declared.clean_machine.CleanReply.TheVariants.{Taken, Looked};
@@ -236,10 +239,11 @@ pub fn nothing_but_a_death_is_told_of_what_is_apart()
         (notices_given call.step call.reply) }
 {}
 
-/// So a job that a cleaner's thread took in one of its rounds, of a reference that was apart, in the heap's history, from
-/// some call on and was put into no slot since, is of an object that was dead at a mark's end: that end stands among the
-/// calls that the thread's seat of the heap has seen by then. For the thread gave two holds of the reference back, of the
-/// notice and of the job, and a cleaner that registers each job with a hold of its own reference had but one.
+/// So a job that a cleaner's thread took in one of its rounds, of a reference that was apart, in the heap's history,
+/// from some call on and was put into no slot since, is of an object that was dead at a mark's end: that end stands
+/// among the calls that the thread's seat of the heap has seen by then. For the thread gave two holds of the reference
+/// back, of the notice and of the job, and a cleaner that registers each job with a hold of its own reference had but
+/// one.
 pub fn a_job_of_what_is_apart_runs_once_its_object_was_found_dead<J, A>()
     ensures { (heap : SharedHeap A) (seat : HeapSeat) (cleaner : SharedCleaner J A) (own : CleanSeat J)
         (q last : QueueView) (v : HeapView) (c : CleanView J) (rounds : List (Round J)) (r : Round J) (i : ℕ)
@@ -251,6 +255,51 @@ pub fn a_job_of_what_is_apart_runs_once_its_object_was_found_dead<J, A>()
         → PutInNoSlot r.notice.hold.object back
         → (cycle : ℕ) × HeapMarkEnded heap.frame.config heap.frame.heap_no (heap_view seat).seen cycle
         r.notice.hold.object }
+{}
+
+/// What `register_apart` registers is kept apart, in the calls that its seat of the heap has seen by then: it is in no
+/// slot and no object, and of it no two holds were given, unless a mark's end found its object dead meanwhile. So it is
+/// where those of the calls since, which other seats made, name no slot of the mutator, and none adopts a hold of it.
+pub fn what_register_apart_registers_is_kept_apart<J, A>()
+    ensures { (heap : SharedHeap A) (before after : HeapSeat) (queue m src dst : ℕ) (job : J) (c d : CleanView J)
+        (cleanable : Cleanable) → IsHeapSeat heap before → IsHeapSeat heap after
+        → RegistersApart job c queue m src dst (heap_view before) (Ok cleanable) (heap_view after) d
+        → (since : List HeapEntry) → (heap_view after).seen ≡ (heap_view before).seen ++ since
+        → OthersLeave (heap_view after).number m since → AdoptNone cleanable.obj since
+        → IsKeptApart heap.frame.config heap.frame.heap_no (heap_view after).seen cleanable.obj }
+{}
+
+/// What is kept apart stays so through every call but an adopt of a hold of it: no other call puts it into a slot or
+/// into an object, and none gives a second hold of it, unless a mark's end found its object dead.
+pub fn what_is_kept_apart_is_put_into_no_slot_but_by_an_adopt()
+    ensures { (config : Config) (number n : ℕ) (front back : List HeapEntry) (last : State)
+        → IsHeapRun config number (front ++ back) last → IsKeptApart config number front n → AdoptNone n back
+        → PutInNoSlot n back × IsKeptApart config number (front ++ back) n }
+{}
+
+/// So each notice of it that a call gives behind calls of which none adopts a hold of it is of a cycle, whose mark
+/// ended before, where its referent was dead.
+pub fn nothing_but_a_death_is_told_of_what_is_kept_apart()
+    ensures { (config : Config) (number n : ℕ) (front between back : List HeapEntry) (call : HeapEntry) (last : State)
+        → IsHeapRun config number ((front ++ between) ++ call ∷ back) last
+        → IsKeptApart config number front n → AdoptNone n between
+        → AllByRecursion (λ notice. notice.hold.object ≡ n → IsOfDeath config number (front ++ between) notice)
+        (notices_given call.step call.reply) }
+{}
+
+/// And a job that a cleaner's thread took in one of its rounds, of a reference that was kept apart from some call on
+/// and of which no call since adopts a hold, is of an object that was dead at a mark's end: that end stands among the
+/// calls that the thread's seat of the heap has seen by then.
+pub fn a_job_of_what_is_kept_apart_runs_once_its_object_was_found_dead<J, A>()
+    ensures { (heap : SharedHeap A) (seat : HeapSeat) (cleaner : SharedCleaner J A) (own : CleanSeat J)
+        (q last : QueueView) (v : HeapView) (c : CleanView J) (rounds : List (Round J)) (r : Round J) (i : ℕ)
+        (hold : HoldName) (job : J)
+        → IsHeapSeat heap seat → IsCleanSeat cleaner own → RegisterOwn (clean_view own).seen
+        → HasGone q v c rounds last (heap_view seat) (clean_view own) → slice_get rounds i ≡ Some r
+        → r.taken ≡ Some (hold, job) → (front back : List HeapEntry) → (heap_view seat).seen ≡ front ++ back
+        → IsKeptApart heap.frame.config heap.frame.heap_no front r.notice.hold.object
+        → AdoptNone r.notice.hold.object back
+        → WasFoundDead heap.frame.config heap.frame.heap_no (heap_view seat).seen r.notice.hold.object }
 {}
 
 /// After every history of a cleaner, whatever its jobs are, each object has the job that was registered for it last,
@@ -269,7 +318,8 @@ pub fn each_take_gives_the_job_that_was_left<J>()
 /// And an entry of a look answers whether one was left.
 pub fn each_look_tells_whether_a_job_was_left<J>()
     ensures { (front back : List (CleanEntry J)) (by n : ℕ) (answer : Bool) (last : Jobs J)
-        → IsCleanRun (front ++ entry by (Has n) (Looked answer) ∷ back) last → answer ≡ is_some (job_left n None front) }
+        → IsCleanRun (front ++ entry by (Has n) (Looked answer) ∷ back) last
+        → answer ≡ is_some (job_left n None front) }
 {}
 
 /// So in every history of a cleaner, between two takes that both gave a job of one object, one was registered for it:

@@ -2,5 +2,6 @@
 
 mod cleaners;
 mod heaps;
+mod queued_cleaners;
 mod queues;
 mod turns;

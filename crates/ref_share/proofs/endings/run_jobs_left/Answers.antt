@@ -1,4 +1,4 @@
-use Rattle.ref_share.proofs.Common.{◌≡◌, Some, Err, subst}
+use Rattle.ref_share.proofs.Common.{◌≡◌, Some, subst}
 use Rattle.ref_share.specs.Answers.{found, job_left_in}
 use Rattle.ref_share.proofs.endings.run_jobs_left.Goals as goal
 

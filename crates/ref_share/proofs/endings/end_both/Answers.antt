@@ -1,4 +1,4 @@
-use Rattle.ref_share.proofs.cleaned_heap.CleanedHeap+Job.end.Goals as goal
+use Rattle.ref_share.proofs.endings.end_both.Goals as goal
 
 pub returns : goal.returns
 returns g c = record {

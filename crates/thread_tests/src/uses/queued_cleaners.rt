@@ -1,0 +1,116 @@
+//! What the callers of a cleaner with its own queue can prove.
+
+ghost use Rattle.std.specs.Prelude.{◌≡◌, ◌+◌, ◌<◌, ◌^◌, true, IfSome};
+ghost use Rattle.ref_share.specs.HeapSeats.{IsHeapSeat};
+ghost use Rattle.ref_share.specs.QueuedCleaners.{IsQueuedSeat};
+
+use crate::shares::cleaners::hearing::Hearing;
+use crate::shares::{CONFIG, M, W};
+use ref_base::{Fault, PlainStep, SlotNo, Urgency};
+use ref_queue::{Action, Job};
+use ref_share::{HeapSeat, QueuedCleaner, QueuedSeat, ShareFault, SharedHeap};
+use std::alloc::Global;
+use std::process::Abort;
+use std::sync::Wait;
+use std::test::Fail;
+
+/// A register makes three turns of the heap: the reference is made, held, and dropped from its slot.
+fn registers_in_three_turns<R: Wait>(
+    rt: &R,
+    cleaner: &QueuedCleaner,
+    seat: &mut QueuedSeat,
+    heap: &SharedHeap,
+    heap_seat: &mut HeapSeat,
+    job: Job,
+) -> Option<bool>
+    requires { IsQueuedSeat cleaner.now seat.old × IsHeapSeat heap.now heap_seat.old }
+    ensures seats { IsQueuedSeat cleaner.now seat.new × IsHeapSeat heap.now heap_seat.new }
+    ensures three { IfSome result (λ are_three. are_three ≡ true) }
+{
+    let before = heap.served(heap_seat);
+    match cleaner.register(rt, seat, heap, heap_seat, M, SlotNo(0), SlotNo(7), job) {
+        Ok(_cleanable) => Some(heap.served(heap_seat) - before >= 3),
+        Err((fault, _job)) => {
+            let _ = fault.give_up();
+            None
+        }
+    }
+}
+
+/// An object is made, gets the job, and is let go; a cycle finds it dead, and its job is run. Whether the register made
+/// its turns, how many jobs were run before the object was let go and after that, and whether the queue was open.
+fn lives_and_dies<R: Wait>(
+    rt: &R,
+    cleaner: &QueuedCleaner,
+    seat: &mut QueuedSeat,
+    heap: &SharedHeap,
+    heap_seat: &mut HeapSeat,
+    job: Job,
+    hearing: &Hearing,
+) -> Result<(Option<bool>, u64, u64, bool), ShareFault>
+    requires { IsQueuedSeat cleaner.now seat.old × IsHeapSeat heap.now heap_seat.old }
+    ensures { IsQueuedSeat cleaner.now seat.new × IsHeapSeat heap.now heap_seat.new }
+{
+    let make = PlainStep::New {
+        mutator: M,
+        slot: SlotNo(0),
+        fields: 0,
+    };
+    heap.perform(rt, heap_seat, make)?;
+    let three = registers_in_three_turns(rt, cleaner, seat, heap, heap_seat, job);
+    cleaner.cycle(rt, seat, heap, heap_seat, W, 5, Urgency::Normal)?;
+    let living = cleaner.clean_some(rt, seat, heap, heap_seat, hearing)?;
+    let drop = PlainStep::Drop {
+        mutator: M,
+        slot: SlotNo(0),
+    };
+    heap.perform(rt, heap_seat, drop)?;
+    cleaner.cycle(rt, seat, heap, heap_seat, W, 5, Urgency::Normal)?;
+    let dead = cleaner.clean_some(rt, seat, heap, heap_seat, hearing)?;
+    cleaner.deliver_all(rt, seat, heap, heap_seat, W)?;
+    let is_open = cleaner.close(rt, seat)?;
+    Ok((three, living, dead, is_open))
+}
+
+/// The same on a new heap and a new cleaner, with a second seat that is taken in, and how many notices are left.
+fn anew<R: Wait + Abort>(
+    rt: &R,
+    alloc: Global,
+    job: Job,
+    hearing: &Hearing,
+) -> Result<(Option<bool>, u64, u64, bool, usize), Fault> {
+    let (heap, mut heap_seat) = SharedHeap::new(alloc, CONFIG, 0)?;
+    let (cleaner, mut seat) = QueuedCleaner::new(alloc)?;
+    let mut other = cleaner.split(&mut seat);
+    let told = lives_and_dies(
+        rt,
+        &cleaner,
+        &mut other,
+        &heap,
+        &mut heap_seat,
+        job,
+        hearing,
+    );
+    cleaner.join(&mut seat, other);
+    let notices = cleaner.end(seat);
+    match told {
+        Ok((three, living, dead, is_open)) => Ok((three, living, dead, is_open, notices)),
+        Err(fault) => Err(fault.into_fault()),
+    }
+}
+
+#[test]
+fn a_cleaner_with_its_queue_runs_the_job_of_what_died(rt: HostRuntime) -> Result<(), Fail> {
+    let action: Action = Box::new(
+        rt.alloc(),
+        |number: u64| -> u64
+            requires { number < 2 ^ 32 }
+            ensures { result ≡ number + 1000 }
+        { number + 1000 },
+    )?;
+    let hearing = Hearing::new(false);
+    let told = anew(&rt, rt.alloc(), Job::new(1, 1001, action), &hearing)?;
+    assert!(rt; told == (Some(true), 0, 1, true, 0));
+    assert!(rt; hearing.heard() == (1, 0, 0));
+    Ok(())
+}
