@@ -153,8 +153,8 @@ pub struct Cleanable {
 pub enum Cleaned {
     /// Nothing: the job was taken before.
     Gone,
-    /// It ran the job. The hold of its reference comes back where the heap had no turn left to adopt it, or did not
-    /// count it.
+    /// A clean that ran the job. The hold of its reference comes back where the heap had no turn left to adopt it, or
+    /// did not count it.
     Ran(Ran, Option<Hold>),
 }
 

@@ -89,15 +89,15 @@ pub(crate) struct Caller<'a> {
 }
 
 impl Caller<'_> {
-    /// It is about to poll. If it will sleep after that, it listens first, so that nothing that comes after the poll is
-    /// slept through.
+    /// The waiter is about to poll. If it will sleep after that, it listens first, so that nothing that comes after the
+    /// poll is slept through.
     pub(crate) fn begin_poll<R: Wait>(&mut self, rt: &R) {
         if self.round >= ROUNDS_AWAKE {
             self.heard = Some(self.bell.listen(rt));
         }
     }
 
-    /// It has polled, and nothing had come: it waits.
+    /// The waiter has polled, and nothing had come: it waits.
     pub(crate) fn wait<R: Wait>(&mut self, rt: &R) {
         if let Some(heard) = self.heard.take() {
             self.bell.wait_past(rt, heard);
@@ -114,7 +114,7 @@ impl Caller<'_> {
         self.round = self.round.saturating_add(1);
     }
 
-    /// It has polled, and goes.
+    /// The waiter has polled, and goes.
     pub(crate) fn leave(self) {
         if self.heard.is_some() {
             self.bell.leave();

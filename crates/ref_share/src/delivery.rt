@@ -79,9 +79,9 @@ pub fn deliver_one<R: Wait, A: Allocator + Copy>(
 /// found it closed, goes back to the heap. `None` exactly where none is pending. The batch, which is empty and only
 /// saves taking its memory anew, comes back in each case: empty, but for the cases below.
 ///
-/// So many turns at most: a hand of the heap, a put of the queue, and a release by the heap for each notice that wasn't
-/// added. The lists have an entry for each queue of the heap's configuration, in order, by the caller. In expected time
-/// of the notices, amortized. Only what is added takes memory.
+/// As many turns at most as these: a hand of the heap, a put of the queue, and a release by the heap for each notice
+/// that wasn't added. The lists have an entry for each queue of the heap's configuration, in order, by the caller. In
+/// expected time of the notices, amortized. Only what is added takes memory.
 ///
 /// `Refused` with the faults of a hand of a batch, as `BadConfig` where `max` is outside 1 to 32, or `TurnsSpent` where
 /// the heap has no turn left: then nothing was done. `Refused` too where the notices could not be put in, which are in

@@ -87,7 +87,7 @@ pub fn what_is_held_was_given_out_and_not_taken_back()
         → tally last.world.heap.holds n + tally (spent calls) n ≡ tally (minted calls) n }
 {}
 
-/// So where an entry of a heap's history takes a hold back, of a notice that a thread carried or of another, an entry
+/// Where an entry of a heap's history takes a hold back, of a notice that a thread carried or of another, an entry
 /// before it gave one out of this object which was not taken back yet.
 pub fn each_hold_that_is_taken_back_was_given_out()
     ensures { (config : Config) (number : ℕ) (front back : List HeapEntry) (call : HeapEntry) (last : State) (n : ℕ)
@@ -212,7 +212,7 @@ pub fn a_cycle_is_a_workers_work<A>()
         → had_turn result ≡ true → (count : ℕ) × Works k queues count v seats w after }
 {}
 
-/// So what it puts into a queue comes in the order in which the worker cleared it.
+/// What a worker's thread puts into a queue comes in the order in which the worker cleared it.
 pub fn each_queue_gets_it_in_the_workers_clearing_order<A>()
     ensures { (heap : SharedHeap A) (heap_seat : HeapSeat) (k q : ℕ) (queues : List (SharedQueue A))
         (seats : List QueueSeat) (s : QueueSeat) → IsHeapSeat heap heap_seat
@@ -239,7 +239,7 @@ pub fn nothing_but_a_death_is_told_of_what_is_apart()
         (notices_given call.step call.reply) }
 {}
 
-/// So a job that a cleaner's thread took in one of its rounds, of a reference that was apart, in the heap's history,
+/// A job that a cleaner's thread took in one of its rounds, of a reference that was apart, in the heap's history,
 /// from some call on and was put into no slot since, is of an object that was dead at a mark's end: that end stands
 /// among the calls that the thread's seat of the heap has seen by then. For the thread gave two holds of the reference
 /// back, of the notice and of the job, and a cleaner that registers each job with a hold of its own reference had but
@@ -277,8 +277,8 @@ pub fn what_is_kept_apart_is_put_into_no_slot_but_by_an_adopt()
         → PutInNoSlot n back × IsKeptApart config number (front ++ back) n }
 {}
 
-/// So each notice of it that a call gives behind calls of which none adopts a hold of it is of a cycle, whose mark
-/// ended before, where its referent was dead.
+/// Each notice of what is kept apart that a call gives behind calls of which none adopts a hold of it is of a cycle,
+/// whose mark ended before, where its referent was dead.
 pub fn nothing_but_a_death_is_told_of_what_is_kept_apart()
     ensures { (config : Config) (number n : ℕ) (front between back : List HeapEntry) (call : HeapEntry) (last : State)
         → IsHeapRun config number ((front ++ between) ++ call ∷ back) last
@@ -322,7 +322,7 @@ pub fn each_look_tells_whether_a_job_was_left<J>()
         → answer ≡ is_some (job_left n None front) }
 {}
 
-/// So in every history of a cleaner, between two takes that both gave a job of one object, one was registered for it:
+/// In every history of a cleaner, between two takes that both gave a job of one object, one was registered for it:
 /// over all threads, each registered job is taken at most once.
 pub fn each_registered_job_is_taken_at_most_once<J>()
     ensures { (front between back : List (CleanEntry J)) (by later n : ℕ) (job next : HoldName × J) (last : Jobs J)

@@ -35,7 +35,7 @@ impl<A: Allocator + Copy> SharedCleaner<A> {
         Self::starting(alloc, queue, 0)
     }
 
-    /// The same, whose turns are counted from `first` on: `u64::MAX - first` of them can be made.
+    /// A cleaner as `new` makes it, whose turns are counted from `first` on: `u64::MAX - first` of them can be made.
     pub fn starting(alloc: A, queue: QueueNo, first: u64) -> Result<(Self, CleanSeat<A>), Fault>
         ensures made { IfOk result (λ made. (made.0.frame ≡ queue) × IsFirstCleanSeat made.0 first made.1) }
         ensures err { OnErr result (result ≡ Err NoMemory) }

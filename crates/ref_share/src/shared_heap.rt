@@ -43,7 +43,7 @@ impl<A: Allocator + Copy> SharedHeap<A> {
         Self::starting(alloc, config, heap_no, 0)
     }
 
-    /// The same, whose turns are counted from `first` on: `u64::MAX - first` of them can be made.
+    /// A heap as `new` makes it, whose turns are counted from `first` on: `u64::MAX - first` of them can be made.
     pub fn starting(
         alloc: A,
         config: Config,
@@ -95,7 +95,7 @@ impl<A: Allocator + Copy> SharedHeap<A> {
         self.step(rt, seat, step)
     }
 
-    /// The same at once or not at all: `Busy` where another turn is open, or took this one. `Spent` comes before.
+    /// Makes the call at once or not at all: `Busy` where another turn is open, or took this one. `Spent` comes before.
     pub fn try_call(
         &self,
         seat: &mut HeapSeat<A>,

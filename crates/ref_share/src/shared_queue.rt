@@ -52,7 +52,7 @@ impl<A: Allocator + Copy> SharedQueue<A> {
         Self::starting(alloc, queue, 0)
     }
 
-    /// The same, whose turns are counted from `first` on: `u64::MAX - first` of them can be made.
+    /// A queue as `new` makes it, whose turns are counted from `first` on: `u64::MAX - first` of them can be made.
     pub fn starting(alloc: A, queue: QueueNo, first: u64) -> Result<(Self, QueueSeat<A>), Fault>
         ensures made { IfOk result (λ made. IsNewQueue made.0 queue first made.1) }
         ensures err { OnErr result (result ≡ Err NoMemory) }

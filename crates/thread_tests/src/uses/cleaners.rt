@@ -147,7 +147,7 @@ fn cleaned_twice<R: Wait + Abort>(
     ([first, second], retired, enough)
 }
 
-/// The same on a new heap, queue and cleaner, and how many jobs are left.
+/// Cleans on a new heap, queue and cleaner, and tells how many jobs are left.
 fn cleaned_anew<R: Wait + Abort>(
     rt: &R,
     alloc: Global,

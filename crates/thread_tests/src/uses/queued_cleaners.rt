@@ -72,7 +72,7 @@ fn lives_and_dies<R: Wait>(
     Ok((three, living, dead, is_open))
 }
 
-/// The same on a new heap and a new cleaner, with a second seat that is taken in, and how many notices are left.
+/// Cleans on a new heap by a new cleaner, with a second seat that is taken in, and how many notices are left.
 fn anew<R: Wait + Abort>(
     rt: &R,
     alloc: Global,
