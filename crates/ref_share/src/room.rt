@@ -33,40 +33,16 @@ pub fn make_or_collect<R: Wait, A: Allocator + Copy>(
     ensures does { DoesAfter queues.now worker now step (Normal ∷ Urgent ∷ []) (heap_view heap_seat.old)
         queue_seats.old result (heap_view heap_seat.new) queue_seats.new }
 {
-    let (first, second, last) = (step, step, step);
-    match unless_full(rt, heap, heap_seat, first) {
-        Ok(Some(reply)) => return Ok(reply),
-        Ok(None) => {}
-        Err(fault) => return Err(fault),
+    for urgency in [Urgency::Normal, Urgency::Urgent] {
+        let (again, how) = (step, urgency);
+        match unless_full(rt, heap, heap_seat, again) {
+            Ok(Some(reply)) => return Ok(reply),
+            Ok(None) => {}
+            Err(fault) => return Err(fault),
+        }
+        cycle(rt, heap, heap_seat, queues, queue_seats, worker, now, how)?;
     }
-    let urgency = Urgency::Normal;
-    cycle(
-        rt,
-        heap,
-        heap_seat,
-        queues,
-        queue_seats,
-        worker,
-        now,
-        urgency,
-    )?;
-    match unless_full(rt, heap, heap_seat, second) {
-        Ok(Some(reply)) => return Ok(reply),
-        Ok(None) => {}
-        Err(fault) => return Err(fault),
-    }
-    let urgency = Urgency::Urgent;
-    cycle(
-        rt,
-        heap,
-        heap_seat,
-        queues,
-        queue_seats,
-        worker,
-        now,
-        urgency,
-    )?;
-    match heap.perform(rt, heap_seat, last) {
+    match heap.perform(rt, heap_seat, step) {
         Ok(reply) => Ok(reply),
         Err(fault) => Err(ShareFault::Refused(fault)),
     }
