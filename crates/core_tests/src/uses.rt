@@ -6,6 +6,5 @@ mod graphs;
 mod marking;
 mod objects;
 mod queues;
-mod tables;
 mod values;
 mod worlds;
