@@ -57,7 +57,7 @@ fn retires_what_it_cleans<R: Wait>(
     }
 }
 
-// promise: SharedCleaner::register, SharedHeap::perform, SharedHeap::hold: one call of the heap each
+// promise: SharedCleaner::register, SharedHeap::perform, SharedHeap::hold: the reference is made, and then held
 /// A register makes two calls of the heap: the reference is made, and then a hold of the reference is taken.
 fn holds_the_reference<R: Wait>(
     rt: &R,
