@@ -183,10 +183,10 @@ it_lies_once = record {
     first_alone (suc zero) n at = absurd (none-some n at)
     first_alone (suc (suc place)) n at = absurd (none-some n at)
 
--- promise: Table::push, Table::move_next: no object lies in two cells
+-- promise: Table::len: no object lies in two cells
 no_object_lies_twice : LieOnce (Some 7 ∷ Some 7 ∷ []) (λ n. n == 7) → ⊥
 no_object_lies_twice laid = let same = laid.once 0 1 7 refl refl in absurd (omega (arith, same))
 
--- promise: Table::push, Table::free: what lies in a cell is there
+-- promise: Table::len: what lies in a cell is there
 what_lies_there_is_there : LieOnce occupants (λ n. n == 8) → ⊥
 what_lies_there_is_there laid = true≢false (sym (laid.there 0 7 refl))
