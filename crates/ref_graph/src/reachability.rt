@@ -157,7 +157,7 @@ pub fn strengths<A: Allocator + Copy, B: Allocator + Copy>(
     }
 }
 
-// The same, with the allocator's error.
+// How strongly each object is reachable, by number, or the allocator's error.
 fn list<A: Allocator + Copy, B: Allocator + Copy>(
     alloc: B,
     graph: &Graph<A>,

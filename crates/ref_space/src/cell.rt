@@ -28,13 +28,13 @@ use std::mem::size_of;
 pub enum Change {
     /// Its reference is cleared, if it is one.
     Cut,
-    /// It is stamped, if it is a reference.
+    /// Its reference gets this stamp, if it is one.
     Stamp(u64),
     /// A worker cleared it in this cycle.
     ClearedIn(u64),
     /// Its reference is cleared, in this cycle.
     ClearIn(u64),
-    /// It links to the object of this number, or to none.
+    /// Its link leads to the object of this number, or, where that is 0, to none.
     Link(u32),
 }
 

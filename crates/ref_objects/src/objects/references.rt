@@ -155,7 +155,8 @@ impl<A: Allocator + Copy> Objects<A> {
         self.table.refers_to_unmarked_in(place)
     }
 
-    // This soft reference, which the slot at this place holds, is stamped with the clock where it answers an object.
+    // Stamps the soft reference `no`, which the slot at this place holds, with the clock, if a get of it answers an
+    // object: that is `value`.
     #[inline(always)]
     fn renew(&mut self, place: usize, no: ObjNo, reference: Reference, value: Option<ObjNo>)
         requires place { place < length self.old.heap.slots }
