@@ -15,8 +15,8 @@ ghost use Rattle.ref_clear.specs.ClearHeaps.{ClearHeap};
 ghost use Rattle.ref_clear.specs.ClearRows.{IsHeapRowOf};
 ghost use Rattle.ref_clear.specs.Standing.{HeapStands};
 
-/// In every phase each step of a heap, answered as it is and leaving what it leaves, is a row of the abstract
-/// collector, from each state that the heap stands for to one that it then stands for.
+/// In every phase each step of a heap, with its answer and with what it leaves, is a row of the abstract collector. The
+/// row leads from each state that the heap stands for to one that it then stands for.
 pub fn each_step_of_a_heap_is_a_row()
     ensures { (c : ClearHeap) (step : NamedStep) → IsHeapRowOf c step }
 {}

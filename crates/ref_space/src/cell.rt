@@ -229,7 +229,7 @@ impl Cell {
         self.stamp = stamp;
     }
 
-    /// Writes this of the object.
+    /// Writes this change into the object, if there is one.
     #[inline(always)]
     pub(crate) fn change(&mut self, change: Change)
         ensures { self.new ≡ option_map (change_of change) self.old }

@@ -257,9 +257,9 @@ impl<A: Allocator> Pages<A> {
         self.chosen[at] as usize
     }
 
-    /// Takes for each taken cell of the chosen pages, in order, the next free cell of an open one, while there is one,
-    /// and writes its place into the list, which has an entry for each place. Takes no memory, in time of the chosen
-    /// pages, and as for so many calls of `place`.
+    /// Takes the next free cell of an open page, while there is one, for each taken cell of the chosen pages, in order.
+    /// Writes the place of each cell that it takes into the list, which has an entry for each place. Takes no memory,
+    /// in time of the chosen pages, and as for so many calls of `place`.
     pub fn reserve(&mut self, forwards: &mut [u32])
         requires each { length forwards.old ≡ 64 * length self.old.uses }
         requires small { length forwards.old ≤ 2 ^ 32 }

@@ -31,8 +31,9 @@ pub struct Origin<M> {
     pub start: Snapshot<Option<M>>,
 }
 
-/// What a seat knows: how its turn began, where it stands, its number, the history that it has seen, its own entries in
-/// that, a number that the tickets have reached, and how often it has looked at the count of ended turns.
+/// What a seat knows: how its turn began, where it stands, its number, the history that it has seen, and its own
+/// entries in that. Beside that it knows a number that the tickets have reached, and how often it has looked at the
+/// count of ended turns.
 pub struct View<M, S, R> {
     pub first: u64,
     pub start: Option<M>,

@@ -188,7 +188,7 @@ impl<A: Allocator + Copy> Objects<A> {
         }
     }
 
-    // Writes this of the object of this number, which the slot at this place holds.
+    // Writes this change into the object of this number, which the slot at this place holds.
     #[inline(always)]
     fn write_in(&mut self, place: usize, no: ObjNo, change: Change)
         requires place { place < length self.old.heap.slots }
