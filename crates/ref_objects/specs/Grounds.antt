@@ -125,8 +125,8 @@ pub record Lay : Type 0 where
 abbrev pub laid : Space → Lay → Space
 laid s lay = record s { ways = lay.ways; cells = lay.cells }
 
--- whether a choice of objects wins room: at least two pages have from 1 to 32 objects. Before the first cycle none does,
--- since nothing has died, and at most one page has neither no object nor 64.
+-- whether a choice of objects wins room: at least two pages have from 1 to 32 objects. Before the first cycle none
+-- does, since nothing has died, and at most one page has neither no object nor 64.
 unfoldable pub wins_room : Space → Bool
 wins_room s = not (nat_lt (sparse_count s.ways.pages.uses) 2)
 
@@ -517,9 +517,9 @@ after_freeing g n =
 -- ---- what holds at all times
 
 -- objects and slots are in order, and so are the holds; there are at most as many objects as cells, and marks as
--- objects; what is marked is there, and what is unhealed; each object has its tag; what slots, holds and objects name is
--- spared; each object lies in one cell and in no other; and of open pages just those cells are taken in which an object
--- lies, or which are reserved for one that is still to move, of chosen ones those in which an object lies
+-- objects; what is marked is there, and what is unhealed; each object has its tag; what slots, holds and objects name
+-- is spared; each object lies in one cell and in no other; and of open pages just those cells are taken in which an
+-- object lies, or which are reserved for one that is still to move, of chosen ones those in which an object lies
 pub record IsWellFormed (g : Ground) : Type 0 where
   pub orderly : IsOrderly g.heap g.next
   pub held : IsInOrder g.heap.holds
