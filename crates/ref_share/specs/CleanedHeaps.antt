@@ -38,6 +38,6 @@ pub record AreEnded {J A : Type 0} (WasRun : J → Type 0) (q : SharedQueue A) (
   pub table_open : IfErr table (λ _. IsLeftOpen IsItself IsCleanTurn (clean_view clean_seat))
   pub run : (n : ℕ) (hold : HoldName) (job : J) → job_left_in (found table) n ≡ Some (hold, job) → WasRun job
 
--- the queue and the cleaner of a program of one thread were ended, and each job that was left was run
+-- the queue and the cleaner of a program of one thread were ended, as `AreEnded` says
 abbrev pub IsEnded : {J : Type 0} → (J → Type 0) → CleanedHeap J → (notices : ℕ) → Type 0
 IsEnded WasRun h notices = AreEnded WasRun h.queue h.queue_seat h.clean_seat notices

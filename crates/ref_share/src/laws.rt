@@ -87,8 +87,8 @@ pub fn what_is_held_was_given_out_and_not_taken_back()
         → tally last.world.heap.holds n + tally (spent calls) n ≡ tally (minted calls) n }
 {}
 
-/// Where an entry of a heap's history takes a hold back, an entry before it gave one out of this object which was not
-/// taken back yet. The hold may be that of a notice that a thread carried, or another.
+/// Where an entry of a heap's history takes a hold of an object back, an entry before it gave one of that object out
+/// which was not taken back yet. The hold may be that of a notice that a thread carried, or another.
 pub fn each_hold_that_is_taken_back_was_given_out()
     ensures { (config : Config) (number : ℕ) (front back : List HeapEntry) (call : HeapEntry) (last : State) (n : ℕ)
         → IsHeapRun config number (front ++ call ∷ back) last → spent_by call.step call.reply ≡ n ∷ []

@@ -98,7 +98,7 @@ leads_by good ways os has_to value =
 abbrev pub HasTarget : Table → Option ℕ → Type 0
 HasTarget t value = leads_by t.round.good t.ways t.occupants false value ≡ true
 
--- the value is null or leads to an object, and has the good colour where the table is tuned
+-- the value is null, or leads to an object, and then has the good colour where the table is tuned
 abbrev pub IsHealed : Table → Option ℕ → Type 0
 IsHealed t value = leads_by t.round.good t.ways t.occupants true value ≡ true
 
