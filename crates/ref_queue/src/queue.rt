@@ -118,7 +118,7 @@ impl<T: Parcel, A: Allocator + Copy> Queue<T, A> {
     }
 
     // Puts in an item for this queue, where the queue is closed or has no room for the item yet. Never compiled into
-    // its callers, since that is seldom.
+    // its callers.
     #[inline(never)]
     fn put_without_room(&mut self, item: T) -> Result<Put<T>, (Fault, T)>
         requires { T.queue_of item ≡ self.old.queue }
