@@ -20,8 +20,8 @@ ghost use Rattle.ref_clear.specs.Standing.{HeapStands};
 // promise: Heap::release, Heap::begin, Heap::scan, Heap::end_mark, Heap::clear_next: rows, in every phase
 // promise: Heap::end_clear, Heap::hand, Heap::hand_batch, Heap::unhook, Heap::sweep: rows, in every phase
 // promise: Heap::end_sweep, Heap::select, Heap::move_next, Heap::end_move: rows, in every phase
-/// In every phase each step of a heap, answered as it is and leaving what it leaves, is a row of the abstract
-/// collector, from each state that the heap stands for to one that it then stands for.
+/// In every phase each step of a heap, with its answer and with what it leaves, is a row of the abstract collector. The
+/// row leads from each state that the heap stands for to one that it then stands for.
 pub fn each_step_of_a_heap_is_a_row()
     ensures { (c : ClearHeap) (step : NamedStep) → IsHeapRowOf c step }
 {}

@@ -22,8 +22,8 @@ ghost use Rattle.ref_mark.specs.Standing.{MarkStands};
 // promise: Marker::drop_slot, Marker::get, Marker::clear, Marker::refers_to, Marker::hold: rows of the machine
 // promise: Marker::adopt, Marker::release, Marker::begin, Marker::scan, Marker::end_mark: rows of the machine
 // promise: Marker::select, Marker::move_next, Marker::end_move: rows of the machine
-/// Each step that is a call of a heap in its cycles, answered as it is and leaving what it leaves, is a row of the
-/// abstract collector, from each state that the heap stands for to one that it then stands for.
+/// Each step that is a call of a heap in its cycles, with its answer and with what it leaves, is a row of the abstract
+/// collector. The row leads from each state that the heap stands for to one that it then stands for.
 pub fn each_step_of_marking_is_a_row()
     ensures { (k : CycleHeap) (step : NamedStep) → is_of_marking step ≡ true → IsMarkRowOf k step }
 {}

@@ -58,8 +58,8 @@ ghost use Rattle.ref_share.specs.declared.clean_machine.CleanStep.TheVariants.{T
 ghost use Rattle.ref_share.specs.declared.clean_machine.CleanReply.TheVariants.{Taken, Looked};
 
 // promise: SharedQueue::put, SharedQueue::poll_now, SharedQueue::finish: taken, then standing, is put in, in order
-/// After every history of a queue its lists are those of the entries: what was taken, followed by what stands, is what
-/// was put in, in order; nothing was put in twice; and it is closed where an entry closed it.
+/// After every history of a queue its lists are those of the entries. What was taken, followed by what stands, is what
+/// was put in, in order; nothing was put in twice. The queue is closed where an entry closed it.
 pub fn the_lists_of_a_queue_are_those_of_its_history()
     ensures { (number : ℕ) (calls : List QueueEntry) (last : NoticeLists) → IsQueueRun number calls last
         → KeepsLists calls last }
@@ -73,8 +73,8 @@ pub fn nothing_is_put_in_behind_a_close()
 {}
 
 // promise: SharedQueue::put, SharedQueue::put_batch: its own queue, and its position
-/// In every history of a queue each notice that was added, alone or in a batch, is for this queue, and is told how many
-/// were put in before: by the calls before its own, and in its own before it.
+/// In every history of a queue each notice that was added, alone or in a batch, is for this queue. Its position is how
+/// many were put in before: by the calls before its own, and in its own before it.
 pub fn each_added_notice_is_for_its_queue()
     ensures { (number : ℕ) (front back : List QueueEntry) (call : QueueEntry) (last : NoticeLists) (i : ℕ)
         (notice : HeldNotice) (position : ℕ) → IsQueueRun number (front ++ call ∷ back) last
@@ -83,7 +83,7 @@ pub fn each_added_notice_is_for_its_queue()
 {}
 
 // promise: SharedHeap::call: how often each object is held
-/// After every history of a heap what is held is what its entries gave out and did not take back: each notice that an
+/// After every history of a heap what is held is what its entries gave out and did not take back. Each notice that an
 /// unhook or a hand gave, and a hold, is a hold of its object; an accepted adopt or release takes one back.
 pub fn what_is_held_was_given_out_and_not_taken_back()
     ensures { (config : Config) (number : ℕ) (calls : List HeapEntry) (last : State)
@@ -92,8 +92,8 @@ pub fn what_is_held_was_given_out_and_not_taken_back()
 {}
 
 // promise: SharedHeap::adopt, SharedHeap::release: given out before
-/// Where an entry of a heap's history takes a hold back, of a notice that a thread carried or of another, an entry
-/// before it gave one out of this object which was not taken back yet.
+/// Where an entry of a heap's history takes a hold of an object back, an entry before it gave one of that object out
+/// which was not taken back yet. The hold may be that of a notice that a thread carried, or another.
 pub fn each_hold_that_is_taken_back_was_given_out()
     ensures { (config : Config) (number : ℕ) (front back : List HeapEntry) (call : HeapEntry) (last : State) (n : ℕ)
         → IsHeapRun config number (front ++ call ∷ back) last → spent_by call.step call.reply ≡ n ∷ []
@@ -102,7 +102,7 @@ pub fn each_hold_that_is_taken_back_was_given_out()
 
 // promise: SharedHeap::call: at one instant for all seats, for good
 /// What a mark's end clears in the history of a heap, it clears at one instant and for good, whichever seats make the
-/// calls: each new clear reads as cleared in every state from then on, or it is no longer there.
+/// calls. Each new clear reads as cleared in every state from then on, or it is no longer there.
 pub fn what_a_marks_end_clears_reads_as_cleared_from_then_on()
     ensures { (config : Config) (number count : ℕ) (front : List HeapEntry) (a b : State) (calls : List HeapEntry)
         (c : State) (n : ℕ) → IsHeapRun config number front a → IsHeapTurn a (Plain EndMark) (Told (Doomed count)) b
@@ -133,8 +133,8 @@ pub fn no_call_gives_what_a_marks_end_doomed()
 {}
 
 // promise: SharedHeap::call: until it is swept, nothing else leads to what is doomed
-/// After every history of a heap, also while references are cleared and while the sweep goes on, nothing reaches what
-/// is doomed and not swept yet: no slot, hold or pending reference names it, and no other object has it as a field or
+/// After every history of a heap nothing reaches what is doomed and not swept yet, also while references are cleared
+/// and while the sweep goes on. No slot, hold or pending reference names it, and no other object has it as a field or
 /// as its referent.
 pub fn nothing_else_refers_to_the_doomed()
     ensures { (config : Config) (number : ℕ) (calls : List HeapEntry) (last : State)
@@ -143,7 +143,7 @@ pub fn nothing_else_refers_to_the_doomed()
 
 // promise: SharedHeap::call: a path enters the doomed by a new clear
 /// Where a mark ends in the history of a heap, each path through soft and weak referents to what it dooms has a first
-/// step to the doomed, and that is by the referent of a soft or weak reference that is a new clear.
+/// step to the doomed. That step is by the referent of a soft or weak reference that is a new clear.
 pub fn each_path_to_what_a_marks_end_dooms_leaves_by_a_new_clear()
     ensures { (a : State) (count : ℕ) (b : State) (n : ℕ) (before : List ℕ)
         → IsHeapTurn a (Plain EndMark) (Told (Doomed count)) b
@@ -160,8 +160,8 @@ pub fn no_object_is_scanned_twice_in_a_cycle()
 {}
 
 // promise: SharedHeap::call: GreyLeft only where one is left to scan
-/// And where a mark's end is refused because an object is left to scan, one is: it was ever kept in the mark, it was
-/// made before the cycle began, and no call of the cycle scanned it.
+/// Where a mark's end is refused in the history of a heap because an object is left to scan, one is. That object was
+/// ever kept in the mark, was made before the cycle began, and no call of the cycle scanned it.
 pub fn a_mark_goes_on_only_while_an_object_is_left()
     ensures { (config : Config) (number : ℕ) (front : List HeapEntry) (a b : State)
         → IsHeapRun config number front a → IsHeapTurn a (Plain EndMark) (Told (Refused GreyLeft)) b
@@ -170,8 +170,8 @@ pub fn a_mark_goes_on_only_while_an_object_is_left()
 
 // promise: SharedHeap::unhook, SharedHeap::hand: its own queue, and an entry as cause
 /// In the history of a heap each notice that an unhook or a hand gives, of one or of a batch, comes from the entries up
-/// to that one: one of them made its reference, registered with the notice's queue; and one is its cause, an unhook
-/// that gave a notice of the reference, or its clearing, in the cycle and by the worker that the cause names.
+/// to that one. One of them made its reference, registered with the notice's queue, and one is its cause. That is an
+/// unhook that gave a notice of the reference, or its clearing, in the cycle and by the worker that the cause names.
 pub fn each_notice_that_is_given_has_its_own_queue_and_cause()
     ensures { (config : Config) (number : ℕ) (front back : List HeapEntry) (call : HeapEntry) (last : State)
         → IsHeapRun config number (front ++ call ∷ back) last
@@ -180,8 +180,9 @@ pub fn each_notice_that_is_given_has_its_own_queue_and_cause()
 {}
 
 // promise: SharedHeap::hand: its referent was outside every kept path
-/// And each whose cause is a cycle comes after the end of that cycle's mark: in the world that the entries before that
-/// end give by replay, the notice's reference has a referent, an object to which no kept path leads.
+/// In the history of a heap each notice that is given and whose cause is a cycle comes after the end of that cycle's
+/// mark. In the world that the entries before that end give by replay, the notice's reference has a referent, an object
+/// to which no kept path leads.
 pub fn each_notice_of_a_cycle_comes_after_its_mark_ended()
     ensures { (config : Config) (number : ℕ) (front back : List HeapEntry) (call : HeapEntry) (last : State)
         → IsHeapRun config number (front ++ call ∷ back) last
@@ -242,8 +243,8 @@ pub fn each_queue_gets_it_in_the_workers_clearing_order<A>()
 {}
 
 // promise: SharedCleaner::register_apart: in no slot, and held once
-/// After a history of a heap in which a reference was registered apart, among calls that neither put it into a slot nor
-/// give a hold of it, it is in no slot, and of it one hold was given.
+/// A reference may be registered apart in the history of a heap, among calls that neither put it into a slot nor give a
+/// hold of it. After that history it is in no slot, and of it one hold was given.
 pub fn what_is_registered_apart_is_in_no_slot()
     ensures { (config : Config) (number queue m src dst n : ℕ) (calls : List HeapEntry) (last : State)
         → IsHeapRun config number calls last → AreOfOneApart queue m src dst n calls
@@ -251,8 +252,8 @@ pub fn what_is_registered_apart_is_in_no_slot()
 {}
 
 // promise: SharedCleaner::register_apart: its notices are of a death while it is put into no slot
-/// And as long as no call puts it into a slot again, as an adopt of a hold of it would, each notice of it that a call
-/// gives is of a cycle, whose mark ended before, where its referent was dead.
+/// As long as no call puts what is apart into a slot again, as an adopt of a hold of it would, each notice of it that a
+/// call gives is of a cycle. That cycle's mark ended before, where its referent was dead.
 pub fn nothing_but_a_death_is_told_of_what_is_apart()
     ensures { (config : Config) (number n : ℕ) (front between back : List HeapEntry) (call : HeapEntry) (last : State)
         → IsHeapRun config number ((front ++ between) ++ call ∷ back) last
@@ -262,8 +263,8 @@ pub fn nothing_but_a_death_is_told_of_what_is_apart()
 {}
 
 // promise: SharedCleaner::clean_loop: its object was found dead before, if it was put into no slot
-/// A job that a cleaner's thread took in one of its rounds, of a reference that was apart, in the heap's history,
-/// from some call on and was put into no slot since, is of an object that was dead at a mark's end: that end stands
+/// A cleaner's thread may take a job in one of its rounds, of a reference that was apart, in the heap's history, from
+/// some call on and was put into no slot since. Then the job's object was dead at a mark's end, and that end stands
 /// among the calls that the thread's seat of the heap has seen by then. For the thread gave two holds of the reference
 /// back, of the notice and of the job, and a cleaner that registers each job with a hold of its own reference had but
 /// one.
@@ -281,7 +282,7 @@ pub fn a_job_of_what_is_apart_runs_once_its_object_was_found_dead<J, A>()
 {}
 
 // promise: SharedCleaner::register_apart: if others name no slot of the mutator, and none adopts it
-/// What `register_apart` registers is kept apart, in the calls that its seat of the heap has seen by then: it is in no
+/// What `register_apart` registers is kept apart, in the calls that its seat of the heap has seen by then. It is in no
 /// slot and no object, and of it no two holds were given, unless a mark's end found its object dead meanwhile. So it is
 /// where those of the calls since, which other seats made, name no slot of the mutator, and none adopts a hold of it.
 pub fn what_register_apart_registers_is_kept_apart<J, A>()
@@ -294,7 +295,7 @@ pub fn what_register_apart_registers_is_kept_apart<J, A>()
 {}
 
 // promise: SharedCleaner::register_apart: it is put into no slot while none adopts it
-/// What is kept apart stays so through every call but an adopt of a hold of it: no other call puts it into a slot or
+/// What is kept apart stays so through every call but an adopt of a hold of it. No other call puts it into a slot or
 /// into an object, and none gives a second hold of it, unless a mark's end found its object dead.
 pub fn what_is_kept_apart_is_put_into_no_slot_but_by_an_adopt()
     ensures { (config : Config) (number n : ℕ) (front back : List HeapEntry) (last : State)
@@ -314,8 +315,8 @@ pub fn nothing_but_a_death_is_told_of_what_is_kept_apart()
 {}
 
 // promise: SharedCleaner::clean_loop: its object was found dead before, if none adopts its hold
-/// And a job that a cleaner's thread took in one of its rounds, of a reference that was kept apart from some call on
-/// and of which no call since adopts a hold, is of an object that was dead at a mark's end: that end stands among the
+/// A cleaner's thread may take a job in one of its rounds, of a reference that was kept apart from some call on and of
+/// which no call since adopts a hold. Then the job's object was dead at a mark's end, and that end stands among the
 /// calls that the thread's seat of the heap has seen by then.
 pub fn a_job_of_what_is_kept_apart_runs_once_its_object_was_found_dead<J, A>()
     ensures { (heap : SharedHeap A) (seat : HeapSeat) (cleaner : SharedCleaner J A) (own : CleanSeat J)

@@ -86,8 +86,8 @@ pub fn what_only_fills_has_one_sparse_page()
 {}
 
 // promise: Pages::choose, Table::select: all that lies in chosen pages has a place in others
-/// There is always room for what moves: of twice as many pages as the taken cells fill, a choice leaves so many open
-/// that all that lies in the chosen ones can be placed, one after another. It stays packed.
+/// There is always room for what moves. Of twice as many pages as the taken cells fill, a choice leaves so many open
+/// that all that lies in the chosen ones can be placed, one after another. What is open stays packed.
 pub fn there_is_room_for_what_moves()
     ensures room { (c k : ℕ) (ps : List Use) → AreWhole ps → has_chosen ps ≡ false → Packed c ps → length ps ≡ 2 * c
         → k < sparse_cells ps → is_some (next_place (placings k (choosing ps))) ≡ true }

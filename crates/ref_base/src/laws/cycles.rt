@@ -25,8 +25,8 @@ pub fn no_object_is_scanned_twice_in_a_cycle()
 {}
 
 // promise: World::step: GreyLeft only where one is left to scan
-/// In a legal trace, where a mark's end is refused because an object is left to scan, one is: it was ever kept in the
-/// mark, it was made before the cycle began, and no row of the cycle scanned it.
+/// In a legal trace, where a mark's end is refused because an object is left to scan, one is. That object was ever kept
+/// in the mark, was made before the cycle began, and no row of the cycle scanned it.
 pub fn a_mark_goes_on_only_while_an_object_is_left()
     ensures { (config : Config) (front : List Row) (a b : State) → IsRun (first_state config) front a
         → IsRow a (record { step = Step.Plain PlainStep.EndMark; reply = Reply.Refused Fault.GreyLeft }) b
@@ -55,8 +55,8 @@ pub fn no_get_answers_what_a_marks_end_cleared()
 {}
 
 // promise: World::step: until it is swept, nothing else leads to what is doomed
-/// After every legal trace, also while references are cleared and while the sweep goes on, nothing reaches what is
-/// doomed and not swept yet: no slot, hold or pending reference names it, and no other object has it as a field or as
+/// After every legal trace nothing reaches what is doomed and not swept yet, also while references are cleared and
+/// while the sweep goes on. No slot, hold or pending reference names it, and no other object has it as a field or as
 /// its referent.
 pub fn nothing_else_refers_to_the_doomed()
     ensures { (config : Config) (rows : List Row) (b : State) → IsRun (first_state config) rows b

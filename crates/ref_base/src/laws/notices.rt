@@ -31,7 +31,7 @@ pub fn a_reference_is_registered_with_one_queue()
 
 // promise: ref_world::run: its own queue, and a row as cause
 /// In a legal trace each notice that was put in, which is the first of the hand in the replay, comes from the rows
-/// before: one of them made its reference, registered with the notice's queue; and one is its cause.
+/// before. One of them made its reference, registered with the notice's queue, and one is its cause.
 pub fn each_notice_that_is_put_in_has_its_own_queue_and_cause()
     ensures one { (config : Config) (front back : List Row) (who : Actor) (position : ℕ)
         → IsLegal config (front ++ record { step = Step.Put who; reply = Reply.Added position } ∷ back)
@@ -43,9 +43,9 @@ pub fn each_notice_that_is_put_in_has_its_own_queue_and_cause()
 {}
 
 // promise: World::step: so has a notice in a hand or a queue
-/// After every legal trace each notice that is out, in a hand or in a queue, comes from the rows: one of them made its
-/// reference, registered with the notice's queue; and one is its cause, an unhook that gave a notice of the reference,
-/// or its clearing, in the cycle and by the worker that the cause names.
+/// After every legal trace each notice that is out, in a hand or in a queue, comes from the rows. One of them made its
+/// reference, registered with the notice's queue, and one is its cause. That is an unhook that gave a notice of the
+/// reference, or its clearing, in the cycle and by the worker that the cause names.
 pub fn each_notice_has_its_own_queue_and_cause()
     ensures { (config : Config) (rows : List Row) (b : State) → IsRun (first_state config) rows b
         → AreProven rows b.world }
@@ -63,8 +63,8 @@ pub fn each_notice_that_is_given_has_its_own_queue_and_cause()
 
 // promise: ref_world::run: its referent was outside every kept path
 /// After every legal trace each notice that is out, in a hand or in a queue, and whose cause is a cycle, comes after
-/// the end of that cycle's mark: and in the world that the rows before that end give by replay, the notice's reference
-/// has a referent, an object to which no kept path leads.
+/// the end of that cycle's mark. In the world that the rows before that end give by replay, the notice's reference has
+/// a referent, an object to which no kept path leads.
 pub fn each_notice_of_a_cycle_comes_after_its_mark_ended()
     ensures { (config : Config) (rows : List Row) (b : State) → IsRun (first_state config) rows b
         → AreAfterMarks config rows b.world }

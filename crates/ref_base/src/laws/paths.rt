@@ -45,7 +45,7 @@ pub fn what_is_kept_was_ever_kept()
 {}
 
 // promise: Marker::end_mark: a path enters the doomed by a new clear
-/// Of the objects that a mark's end may doom: on a path through soft and weak referents, the first step from outside
+/// A path through soft and weak referents may lead to objects that a mark's end may doom. Its first step from outside
 /// them to one of them is by the referent of a soft or weak reference that is a new clear.
 pub fn the_first_step_to_the_doomed_is_a_new_clear()
     ensures { (p : Policy) (g : Graph) (moments : List Graph) (d : List ℕ) (n : ℕ) (before : List ℕ)

@@ -49,8 +49,8 @@ pub fn added_answers_the_position()
 {}
 
 // promise: ref_world::run: in each worker's clearing order
-/// In a legal trace, of what a worker cleared, a queue gets the references in the order in which the worker cleared
-/// those that are registered with it: none comes before one that was cleared earlier, though some may never come.
+/// In a legal trace a queue gets what a worker cleared, of the references that are registered with it, in the order in
+/// which the worker cleared them. None comes before one that was cleared earlier, though some may never come.
 pub fn each_queue_has_a_workers_references_in_its_clearing_order()
     ensures { (config : Config) (rows : List Row) (k q : ℕ) → IsLegal config rows
         → is_subsequence (added_of config k q rows) (clearing_order rows k q) ≡ true }
