@@ -1,3 +1,4 @@
+pub mod Crossing
 pub mod HeapUses
 pub mod LoopUses
 pub mod QueueUses
