@@ -1,11 +1,7 @@
 use denote.Param.Send.{sendable}
 use Rattle.std.proofs.Crossing.{crosses}
-use Rattle.std.proofs.alloc.Global.TheSendSync.{the_send as global_send, the_sync as global_sync}
-use Rattle.ref_share.below.ref_turn.proofs.turn.SeatOf.TheSendSync.{the_field_send as seat_send}
-use Rattle.ref_share.below.ref_turn.proofs.turn.Turn.TheSendSync.{the_field_sync as turn_sync}
-use Rattle.thread_examples.proofs.Crossing.{machine_send}
+use Rattle.thread_examples.proofs.Crossing.{user_send, collector_send}
 use Rattle.thread_examples.proofs.buffer_pool.clean.Goals as goal
 
 pub join-worked-requires-send-F : goal.join-worked-requires-send-F
-join-worked-requires-send-F g c κs within =
-    search (machine_send, seat_send, turn_sync, global_send, global_sync, crosses, sendable) depth 60 fits 20000
+join-worked-requires-send-F g c κs within = search (user_send, collector_send, crosses, sendable) depth 60 fits 20000
