@@ -1,15 +1,11 @@
 use denote.Param.Send.{sendable}
 use Rattle.std.proofs.Crossing.{crosses}
-use Rattle.std.proofs.alloc.Global.TheSendSync.{the_send as global_send, the_sync as global_sync}
-use Rattle.ref_share.below.ref_turn.proofs.turn.SeatOf.TheSendSync.{the_field_send as seat_send}
-use Rattle.ref_share.below.ref_turn.proofs.turn.Turn.TheSendSync.{the_field_sync as turn_sync}
-use Rattle.refrun.proofs.Crossing.{machine_send}
+use Rattle.refrun.proofs.Crossing.{shared_sync, job_send, left_send}
 use Rattle.refrun.proofs.threads.made.Goals as goal
 
 pub spawn_with-requires-send-F : goal.spawn_with-requires-send-F
 spawn_with-requires-send-F g c κs within =
-    search (machine_send, seat_send, turn_sync, global_send, global_sync, crosses, sendable) depth 60 fits 20000
+    search (shared_sync, job_send, crosses, sendable) depth 60 fits 20000
 
 pub spawn_with-requires-send-T : goal.spawn_with-requires-send-T
-spawn_with-requires-send-T g c κs within =
-    search (machine_send, seat_send, turn_sync, global_send, global_sync, crosses, sendable) depth 60 fits 20000
+spawn_with-requires-send-T g c κs within = search (left_send, crosses, sendable) depth 60 fits 20000
