@@ -9,8 +9,7 @@ use Rattle.std.specs.contracts.impls.GlobalAllocator.TheImpl.{ghosts}
 use Rattle.std.below.core.specs.contracts.clone.Clone+copy.TheImpl.{ghosts as clones}
 use Rattle.ref_share.below.atomic_table.proofs.shared.Shared.TheSendSync.{the_sync as table_sync}
 use Rattle.ref_share.below.ref_turn.proofs.turn.Turn.TheSendSync.{the_field_sync as turn_field_sync}
-use Rattle.ref_share.below.ref_turn.proofs.turn.SeatOf.TheSendSync.{the_field_send as seat_send}
-use Rattle.thread_tests.proofs.Crossing.{machine_send as heap_send}
+use Rattle.thread_tests.proofs.Crossing.{beside_send}
 use Rattle.ref_base.proofs.numbers.QueueNo.TheSendSync.{the_sync as queue_number_sync}
 use Rattle.ref_base.specs.contracts.numbers.QueueNo.{the_row as number_row}
 use Rattle.ref_objects.proofs.hold.Hold.TheSendSync.{the_send as hold_send}
@@ -57,5 +56,4 @@ join_given-requires-send-A g c κs within =
     search (cleaner_sync g.row.R g.row.U g.row.G g.dyn-1, crosses, sendable) depth 60 fits 20000
 
 pub join_given-requires-send-C : goal.join_given-requires-send-C
-join_given-requires-send-C g c κs within =
-    search (heap_send, seat_send, turn_field_sync, global_send, global_sync, crosses, sendable) depth 60 fits 20000
+join_given-requires-send-C g c κs within = search (beside_send, crosses, sendable) depth 60 fits 20000
