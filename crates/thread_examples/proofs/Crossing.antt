@@ -3,6 +3,7 @@
 use denote.Ref.{NamedLft}
 use denote.Param.Send.{IsSend, sendable}
 use Rattle.std.proofs.Crossing.{crosses}
+use Rattle.std.proofs.MapsCrossing as maps
 use Rattle.std.proofs.alloc.Global.TheSendSync.{the_send as global_send, the_sync as global_sync}
 use Rattle.std.specs.contracts.alloc.Global.{the_row}
 use Rattle.std.specs.contracts.impls.GlobalAllocator.TheImpl.{ghosts}
@@ -25,5 +26,4 @@ collector_send κ =
     search (machine_send, seat_send, turn_sync, global_send, global_sync, crosses, sendable) depth 60 fits 20000
 
 pub cleaner_send : (κ : NamedLft) → IsSend (cleaner_row κ)
-cleaner_send κ =
-    search (machine_send, seat_send, turn_sync, global_send, global_sync, crosses, sendable) depth 60 fits 20000
+cleaner_send κ = search (user_send, maps.crosses, crosses, sendable) depth 60 fits 20000
