@@ -5,11 +5,12 @@ ghost use Rattle.std.specs.Prelude.{IfSome, IfNone, All};
 ghost use Rattle.std.specs.List.{Contains, IsDistinct, flat_map};
 ghost use Rattle.ref_base.specs.CollectorRows.{is_subsequence};
 ghost use Rattle.ref_base.specs.Members.{has};
-ghost use Rattle.refrun.specs.StressChecks.{Passes, GivesEachOnce};
+ghost use Rattle.refrun.specs.StressChecks.{Passes, GivesEachOnce, RanWell, ran_well};
 ghost use Rattle.refrun.specs.StressEvidence.{before_place, IsEvidence, ShowsTwice, ShowsOrder, ShowsTotal};
-ghost use Rattle.refrun.specs.StressEvidence.{ShowsAgain, ShowsRest, ShowsReports};
+ghost use Rattle.refrun.specs.StressEvidence.{ShowsAgain, ShowsRest, ShowsReports, ShowsJob, ShowsJobs};
 
 use crate::lists::{Check, is_in_order};
+use crate::outcomes::JobFate;
 use ref_base::ObjNo;
 use std::alloc::Allocator;
 use std::fmt;
@@ -58,6 +59,19 @@ pub enum Evidence {
     NoReport {
         number: ObjNo,
     },
+    /// Of `jobs`: the job was to run, and ran so often in the place of once.
+    JobRuns {
+        job: usize,
+        runs: u32,
+    },
+    /// Of `jobs`: the job began while its object lived.
+    JobEarly {
+        job: usize,
+    },
+    /// Of `jobs`: the job was not to run, and ran.
+    JobUnasked {
+        job: usize,
+    },
 }
 
 impl fmt::Display for Evidence {
@@ -99,6 +113,10 @@ impl fmt::Display for Evidence {
                 Told(taken)
             ),
             Evidence::NoReport { number } => write!(f, "no report of {number}"),
+            Evidence::JobRuns { job, runs: 0 } => write!(f, "job {job} never ran"),
+            Evidence::JobRuns { job, runs } => write!(f, "job {job} ran {runs} times"),
+            Evidence::JobEarly { job } => write!(f, "job {job} ran while its object lived"),
+            Evidence::JobUnasked { job } => write!(f, "job {job} ran, and was not to"),
         }
     }
 }
@@ -125,10 +143,12 @@ pub fn evidence_of<B: Allocator>(
     stands: &[ObjNo],
     lists: &[Vec<ObjNo, B>],
     kept: &[Vec<ObjNo, B>],
+    jobs: &[JobFate],
 ) -> Option<Evidence>
-    ensures shows { IfSome result (IsEvidence (λ v. v.items) enqueued.now taken.now stands.now lists.now kept.now) }
+    ensures shows { IfSome result (IsEvidence (λ v. v.items) enqueued.now taken.now stands.now lists.now kept.now
+        jobs.now) }
     ensures passes { IfNone result (Passes enqueued.now taken.now stands.now (map (λ v. v.items) lists.now)
-        (map (λ v. v.items) kept.now) check) }
+        (map (λ v. v.items) kept.now) jobs.now check) }
 {
     match check {
         Check::Twice => put_twice(enqueued),
@@ -136,6 +156,7 @@ pub fn evidence_of<B: Allocator>(
         Check::Total => not_once(taken, lists),
         Check::Rest => left_over(enqueued, taken, stands),
         Check::Reports => not_put_in(enqueued, kept),
+        Check::Jobs => not_well(jobs),
     }
 }
 
@@ -355,4 +376,35 @@ fn not_put_in<B: Allocator>(enqueued: &[ObjNo], kept: &[Vec<ObjNo, B>]) -> Optio
         }
     }
     None
+}
+
+/// The first job that did not run as it was to.
+fn not_well(jobs: &[JobFate]) -> Option<Evidence>
+    ensures shows { IfSome result (ShowsJobs jobs.now) }
+    ensures passes { IfNone result (RanWell jobs.now) }
+{
+    for job in 0..jobs.len() {
+        let shown = wrong_of(job, jobs[job]);
+        if shown.is_some() {
+            return shown;
+        }
+    }
+    None
+}
+
+/// What is wrong with how this job ran.
+fn wrong_of(job: usize, fate: JobFate) -> Option<Evidence>
+    ensures shows { IfSome result (ShowsJob job fate) }
+    ensures passes { IfNone result (ran_well fate ≡ true) }
+{
+    let runs = fate.runs;
+    if fate.is_early {
+        Some(Evidence::JobEarly { job })
+    } else if fate.is_due && runs != 1 {
+        Some(Evidence::JobRuns { job, runs })
+    } else if !fate.is_due && runs != 0 {
+        Some(Evidence::JobUnasked { job })
+    } else {
+        None
+    }
 }

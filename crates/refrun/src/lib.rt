@@ -1,6 +1,7 @@
 //! Scripts and graph texts in, traces and strengths out: what `refrun` reads and prints.
 #![tactic(auto)]
 
+mod cleaning;
 mod declarations;
 mod evidence;
 mod gate;
@@ -12,6 +13,7 @@ mod listing;
 mod lists;
 mod numerals;
 mod operands;
+mod outcomes;
 mod printed;
 mod reading;
 mod roles;
@@ -28,6 +30,7 @@ mod version;
 pub use evidence::{Evidence, evidence_of};
 pub use listing::strength_text;
 pub use lists::{Check, check_lists};
+pub use outcomes::JobFate;
 pub use ref_text::{
     FromReader, LineFault, ReadError, TextFault, TextSink, TextSource, ToWriter, WriteFailed,
 };

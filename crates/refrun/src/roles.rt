@@ -1,6 +1,8 @@
 //! What the threads of a stress run do: mutators, workers and pollers over one heap and one queue.
 
+use crate::cleaning::CleaningStation;
 use crate::gate::Gate;
+use crate::stress_options::StressOptions;
 use crate::tally::Tally;
 use ref_base::{
     Batch, Fault, MOST_IN_BATCH, MutNo, ObjNo, Parcel, PlainStep, QueueNo, Reply, SlotNo, Strength,
@@ -33,6 +35,9 @@ const POLLS: u32 = 1_000;
 /// Each fourth cycle is urgent, and each fourth time workers hand on, and pollers take, as many notices as go at once.
 const FOURTH: u64 = 4;
 
+/// In every so manieth time that the first worker works it does a cycle of the jobs' heap.
+const CLEANING: u64 = 32;
+
 /// How many notices go at once.
 const MOST: u32 = MOST_IN_BATCH as u32;
 
@@ -48,6 +53,7 @@ pub(crate) struct Shared {
     pub(crate) queue: SharedQueue,
     pub(crate) gate: Gate,
     pub(crate) running: Running,
+    pub(crate) options: StressOptions,
 }
 
 /// How many threads have not ended.
@@ -70,6 +76,7 @@ pub(crate) struct Station<'a> {
 
 impl<'a> Station<'a> {
     ghost use Rattle.std.specs.Prelude.{◌≡◌};
+    ghost use Rattle.refrun.specs.CleaningSeats.{IsCleanSeated, StaysCleanSeated};
     ghost use Rattle.refrun.specs.StressSeats.{IsSeated, StaysSeated};
 
     /// The station of one thread, with these seats.
@@ -116,25 +123,28 @@ impl<'a> Station<'a> {
 
     /// A mutator's rounds, until the tally stops them. In each it makes an object and a reference to it, lets the
     /// object go, and every other time enqueues the reference. A round for which no cell is free is left out. Some of
-    /// the references it holds from then on, and notes their numbers.
+    /// the references it holds from then on, and notes their numbers. In some rounds it does something with a job.
     pub(crate) fn mutate<R: Wait>(
         &mut self,
         rt: &R,
         mutator: MutNo,
         rounds: u64,
+        cleaning: &mut CleaningStation,
         kept: &mut Vec<ObjNo>,
         holds: &mut Vec<Hold>,
     ) -> Result<(), Fault>
-        requires { IsSeated self.old }
-        ensures { StaysSeated self.old self.new }
+        requires { IsSeated self.old × IsCleanSeated cleaning.old }
+        ensures { StaysSeated self.old self.new × StaysCleanSeated cleaning.old cleaning.new }
     {
         for round in 0..rounds {
             if self.tally.is_stopped() {
-                return Ok(());
+                break;
             }
             self.do_round(rt, mutator, round, kept, holds)?;
+            self.tally.count_jobs(cleaning.mutate(rt, mutator, round)?);
             self.tally.count_round();
         }
+        self.tally.count_jobs(cleaning.settle(rt, mutator)?);
         Ok(())
     }
 
@@ -296,10 +306,15 @@ impl<'a> Station<'a> {
 
     /// A worker's share of the cycles, until the mutators have ended. The first worker begins and ends the cycles,
     /// their phases and the moves between them; what comes at the wrong time is refused, which is no matter. It ends as
-    /// the last one, behind one more cycle.
-    pub(crate) fn work<R: Wait>(&mut self, rt: &R, worker: WorkerNo) -> Result<(), Fault>
-        requires { IsSeated self.old }
-        ensures { StaysSeated self.old self.new }
+    /// the last one, behind one more cycle. It does cycles of the jobs' heap too, and one more of them.
+    pub(crate) fn work<R: Wait>(
+        &mut self,
+        rt: &R,
+        worker: WorkerNo,
+        cleaning: &mut CleaningStation,
+    ) -> Result<(), Fault>
+        requires { IsSeated self.old × IsCleanSeated cleaning.old }
+        ensures { StaysSeated self.old self.new × StaysCleanSeated cleaning.old cleaning.new }
     {
         let mut now: u64 = 0;
         for _ in rt.forever() {
@@ -307,6 +322,9 @@ impl<'a> Station<'a> {
             now = now.saturating_add(1);
             if worker == WorkerNo(0) {
                 self.lead(rt, now, is_last);
+            }
+            if worker == WorkerNo(0) && (is_last || now % CLEANING == 0) {
+                cleaning.cycle(rt)?;
             }
             self.assist(rt, worker, now)?;
             if is_last && worker == WorkerNo(0) {
@@ -513,20 +531,24 @@ impl<'a> Station<'a> {
     }
 
     /// Takes what was put in until the queue is closed and nothing stands, and notes its numbers. Each object is
-    /// adopted and let go. Once no worker runs, the first poller that waits in vain closes the queue.
+    /// adopted and let go. Once no worker runs, the first poller that waits in vain closes the queue. Behind each poll it
+    /// runs the jobs of what is gone.
     pub(crate) fn poll<R: Wait>(
         &mut self,
         rt: &R,
         mutator: MutNo,
+        cleaning: &mut CleaningStation,
         taken: &mut Vec<ObjNo>,
     ) -> Result<(), Fault>
-        requires { IsSeated self.old }
-        ensures { StaysSeated self.old self.new }
+        requires { IsSeated self.old × IsCleanSeated cleaning.old }
+        ensures { StaysSeated self.old self.new × StaysCleanSeated cleaning.old cleaning.new }
     {
         let mut time: u64 = 0;
         for _ in rt.forever() {
             time = time.saturating_add(1);
-            if self.poll_at(rt, mutator, time, taken)? {
+            let is_at_the_end = self.poll_at(rt, mutator, time, taken)?;
+            self.tally.count_jobs(cleaning.clean(rt)?);
+            if is_at_the_end {
                 return Ok(());
             }
         }
