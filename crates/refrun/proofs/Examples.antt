@@ -7,7 +7,6 @@ use Rattle.refrun.proofs.Common.{DoubleObject, MissingWord, BadWord}
 use Rattle.refrun.proofs.Common.{ℕ, Config}
 use Rattle.ref_base.specs.declared.span_rule.SpanRule.{SpanRule}
 use Rattle.ref_base.specs.declared.span_rule.SpanRule.TheVariants.{Fixed, Scaled}
-use Rattle.refrun.specs.StressChecks.{ran_well}
 use Rattle.refrun.specs.Versions.{header_rule, is_in_version}
 use Rattle.ref_text.specs.declared.fault.LineFault.TheVariants.{UnknownStep, BadHeader, BadConfig, UnknownLine}
 use Rattle.ref_text.specs.declared.fault.TextFault.TheVariants.{Line}
@@ -166,15 +165,3 @@ it_is_declared = record {
     graph_is = refl;
   };
 }
-
--- ---- jobs of a stress run
-
-a_job_runs_once : ran_well (record { is_due = true; runs = 1; is_early = false }) ≡ true
-a_job_runs_once = refl
-
-a_job_that_was_taken_out_never_runs : (ran_well (record { is_due = false; runs = 0; is_early = false }) ≡ true)
-    × (ran_well (record { is_due = false; runs = 1; is_early = false }) ≡ false)
-a_job_that_was_taken_out_never_runs = (refl, refl)
-
-a_job_does_not_run_while_its_object_lives : ran_well (record { is_due = true; runs = 1; is_early = true }) ≡ false
-a_job_does_not_run_while_its_object_lives = refl

@@ -3,7 +3,7 @@ use Rattle.refrun.proofs.Common.{◌≡◌, ℕ, ◌+◌, ◌++◌, [], ◌∷�
 use Rattle.refrun.proofs.Common.{first_state, Graph, plain_object, Config, ObjectReach, Refused, New, Refer, Weak}
 use Rattle.refrun.proofs.Common.{Plain, DeclaresGraph, words_of, listing_text, StageJobs, IsScriptRun, SpellsScriptStep}
 use Rattle.refrun.proofs.Common.{IsFirstFailure, trace_text, ScriptReply, ScriptRow, ScriptStep}
-use Rattle.refrun.proofs.Common.{ap, get_or, true, false}
+use Rattle.refrun.proofs.Common.{ap, get_or}
 use Rattle.std.proofs.Common.{replicate}
 use Rattle.std.proofs.lemmas.Fmt.{decimal_digit}
 use Rattle.ref_base.specs.declared.plain_step.PlainStep.TheVariants.{Copy}
@@ -15,7 +15,6 @@ use Rattle.ref_base.specs.declared.reply.Reply.TheVariants.{Object}
 use Rattle.refrun.specs.ScriptRuns.{IsScriptTrace}
 use Rattle.ref_base.specs.declared.span_rule.SpanRule.TheVariants.{Fixed, Scaled}
 use Rattle.ref_base.specs.declared.step.Step.TheVariants as world
-use Rattle.refrun.specs.declared.outcomes.JobFate.{JobFate}
 use Rattle.refrun.specs.declared.script_step.ScriptReply.TheVariants as replies
 use Rattle.refrun.specs.declared.script_step.ScriptStep.TheVariants as steps
 
@@ -157,13 +156,3 @@ another_order_does_not_pass passes = let in_order = passes.1 0 [] (omega arith) 
 a_missing_report_does_not_pass : ¬ (IsFirstFailure (2 ∷ 3 ∷ []) (2 ∷ 3 ∷ []) [] ((2 ∷ 3 ∷ []) ∷ [])
     ((2 ∷ []) ∷ (5 ∷ []) ∷ []) [] None)
 a_missing_report_does_not_pass passes = let reported = passes.4 5 refl in absurd cc
-
--- a job that was to run and never ran, and one that ran twice
-abbrev runs_of : ℕ → JobFate
-runs_of runs = record { is_due = true; runs = runs; is_early = false }
-
-a_job_that_never_ran_does_not_pass : ¬ (IsFirstFailure [] [] [] [] [] (runs_of 1 ∷ runs_of 0 ∷ []) None)
-a_job_that_never_ran_does_not_pass passes = let ran = passes.5 1 (runs_of 1) (omega arith) in absurd cc
-
-a_job_that_ran_twice_does_not_pass : ¬ (IsFirstFailure [] [] [] [] [] (runs_of 2 ∷ []) None)
-a_job_that_ran_twice_does_not_pass passes = let ran = passes.5 0 (runs_of 1) (omega arith) in absurd cc
