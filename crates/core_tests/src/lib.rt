@@ -1,6 +1,6 @@
-//! The tests of the crates below the programs, against values that were worked out by hand: graphs and strengths,
-//! limits and the soft policy, words, pages and lists, the objects of a heap, its marking, the whole heap, queues, the
-//! table of a cleaner, and the world of them.
+//! The tests of the crates below the programs, against values that were worked out by hand. They are of graphs and
+//! strengths, limits and the soft policy, words, pages and lists, the objects of a heap, its marking and the whole
+//! heap. Others are of queues, the table of a cleaner, and the world of them.
 //!
 //! A story is a table, whose rows are calls, each with its answer, and each subject has one runner, which makes a
 //! story's calls in turn. A failure prints the row, counted from 0. What a script can say stands in the program

@@ -229,6 +229,7 @@ kept_by_the_span_itself =
     row (steps.Plain (plain.Scan 0)) (replies.Scanned 2) ∷
     row (steps.Plain (plain.Scan 0)) (replies.Scanned 1) ∷ []
 
+-- promise: Marker::begin, World::step: a scaled span is not the configuration's own
 kept_by_the_span_itself_is_not_legal : ¬ (IsLegal (scaled_config_of 1) kept_by_the_span_itself)
 kept_by_the_span_itself_is_not_legal legal = grind (arith, it_is_not_kept)
 

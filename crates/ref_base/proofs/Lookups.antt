@@ -1,6 +1,7 @@
 -- What a look-up finds after an object is changed or made, and what lists of values hold after one is set.
 use Rattle.ref_base.proofs.Common.{◌≡◌, ℕ, zero, suc, ◌<◌, true, false, ◌==◌, refl, arith, List, [], ◌∷◌, ◌++◌, length}
-use Rattle.ref_base.proofs.Common.{Option, Some, None, ◌⊎◌, inl, inr, cases_Bool, slice_index_or, slice_set, or_left, or_right}
+use Rattle.ref_base.proofs.Common.{Option, Some, None, ◌⊎◌, inl, inr, cases_Bool, slice_index_or, slice_set, or_left}
+use Rattle.ref_base.proofs.Common.{or_right}
 use Rattle.ref_base.proofs.Common.{false≢true, eq-eqb, has, Object, Reference, object_at, is_there, numbers, Allowed}
 use Rattle.ref_base.proofs.Common.{present, allowed_referent, IsRising, changed_at}
 use Rattle.ref_base.proofs.HasLaws.{has-first}

@@ -1,6 +1,6 @@
 -- Lists of numbers that rise.
-use Rattle.ref_base.proofs.Common.{◌≡◌, ℕ, ◌+◌, ◌<◌, true, false, ◌==◌, sym, ap, ◌∙◌, arith, List, [], ◌∷◌, inl, inr, suc}
-use Rattle.ref_base.proofs.Common.{refl, cases_Bool, true≢false, false≢true, eqb-true, or_cases, has, IsRising}
+use Rattle.ref_base.proofs.Common.{◌≡◌, ℕ, ◌+◌, ◌<◌, true, false, ◌==◌, sym, ap, ◌∙◌, arith, List, [], ◌∷◌, inl, inr}
+use Rattle.ref_base.proofs.Common.{suc, refl, cases_Bool, true≢false, false≢true, eqb-true, or_cases, has, IsRising}
 use Rattle.std.specs.List.Sorted.{IsStrictlyIncreasing}
 use Rattle.ref_base.proofs.HasLaws.{has-first}
 use native.Mathlib.Numerals.{unary_clauses}

@@ -282,7 +282,7 @@ of_puts a who (notice ∷ rest) outs b row =
     subst (λ (o : Outs). IsWantedLast o.done) same
     (wanting_last (queue_at a.world notice.queue) (notice ∷ rest) row.0.done row.2.2 row.2.3)
 
--- a refused item of a puts is its last
+-- a refused item of a row of puts is its last
 pub wanted_at_last : (a : State) (who : Actor) (outs : Outs) (fault : Option Fault) (b : State)
     → IsAnswer a fault (steps.Puts who) (replies.Outs outs) b → IsWantedLast outs.done
 wanted_at_last a who outs (Some fault) b row = absurd (let no : replies.Outs outs ≡ replies.Refused fault = row.0 in cc)

@@ -180,7 +180,7 @@ Closes a q false = Gives replies.Done (with_world a (closed_queue a.world q))
 
 -- ---- the cycle
 
--- so many empty lists
+-- as many empty lists as there are lists
 abbrev pub emptied : List (List ℕ) → List (List ℕ)
 emptied lists = map (λ ns. []) lists
 

@@ -111,7 +111,7 @@ got_at clock r = if is_soft r.strength then with_stamp clock r else r
 abbrev pub with_clock : Heap → ℕ → Heap
 with_clock h now = record h { clock = now }
 
--- so many fields, all of them null
+-- k fields, all of them null
 abbrev pub nulls : ℕ → List (Option ℕ)
 nulls k = replicate k None
 

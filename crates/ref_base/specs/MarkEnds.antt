@@ -55,7 +55,7 @@ abbrev pub IsAfterMark : Config → List Row → ℕ → Cause → Type 0
 IsAfterMark config rows n Own = Unit {0}
 IsAfterMark config rows n (Cycle cycle k) = MarkEnded config rows cycle n
 
--- so it is of each of these notices
+-- where the cause of one of these notices is a cycle, that cycle's mark ended before, and showed this of its reference
 abbrev pub AllAfterMarks : Config → List Row → List Notice → Type 0
 AllAfterMarks config rows = AllByRecursion (λ notice. IsAfterMark config rows notice.object notice.cause)
 

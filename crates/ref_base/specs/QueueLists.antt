@@ -15,7 +15,7 @@ module _ {T : Type 0} where
   abbrev pub new_queue : ℕ → Lists T
   new_queue q = record { queue = q; taken = []; stands = []; closed = false }
 
-  -- so many such queues, numbered from this number on
+  -- queues into which nothing was ever put, as many as the second number says, numbered from the first on
   abbrev pub new_queues : ℕ → ℕ → List (Lists T)
   new_queues first zero = []
   new_queues first (suc count) = new_queue first ∷ new_queues (first + 1) count

@@ -14,7 +14,7 @@ use Rattle.ref_base.specs.declared.reach.ObjectReach.{ObjectReach}
 abbrev pub with_reached : List Object → List ℕ → ℕ → List ℕ
 with_reached os ns n = if is_there os n then with_root ns n else ns
 
--- the same of each of some candidates in turn
+-- the numbers with each of some candidates in turn, as `with_reached` adds it
 abbrev pub added_all : List Object → List ℕ → List ℕ → List ℕ
 added_all os ns [] = ns
 added_all os ns (c ∷ cs) = added_all os (with_reached os ns c) cs

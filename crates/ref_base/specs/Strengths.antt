@@ -7,12 +7,12 @@ use Rattle.ref_base.specs.declared.reach.Reach.{Reach}
 use Rattle.ref_base.specs.declared.reach.Reach.TheVariants.{Strong, Soft, Weak, Phantom, Unreachable}
 use Rattle.ref_base.specs.declared.reach.ObjectReach.{ObjectReach}
 
--- this is a phantom reference to n
+-- there is a reference, which is a phantom one to n
 abbrev pub IsPhantomReferenceTo : ℕ → Option Reference → Type 0
 IsPhantomReferenceTo n None = ⊥
 IsPhantomReferenceTo n (Some r) = (is_phantom r.strength ≡ true) × (r.referent ≡ Some n)
 
--- this is an object, and a phantom reference to n
+-- there is an object, which is a phantom reference to n
 abbrev pub IsPhantomObjectTo : ℕ → Option Object → Type 0
 IsPhantomObjectTo n None = ⊥
 IsPhantomObjectTo n (Some o) = IsPhantomReferenceTo n o.reference

@@ -111,7 +111,7 @@ with_hand w (Worker k) hand = record w { worker_hands = slice_set w.worker_hands
 abbrev pub with_queue : World → ℕ → Lists Notice → World
 with_queue w q queue = record w { queues = slice_set w.queues q queue }
 
--- so many more were swept
+-- count more objects were swept
 abbrev pub with_swept : World → ℕ → World
 with_swept w count = record w { swept = w.swept + count }
 

@@ -115,7 +115,7 @@ impl fmt::Display for Fault {
     }
 }
 
-// It is spelled as its variant.
+// `Debug` prints what `Display` prints: the name of the variant.
 impl fmt::Debug for Fault {
     fn fmt<W: fmt::Write>(&self, f: &mut fmt::Formatter<W>) -> fmt::Result {
         fmt::Display::fmt(self, f)

@@ -8,13 +8,13 @@ use crate::Fault;
 /// What became of an item of a batch, but for its position (this project's profile).
 #[derive(Clone, Copy, Debug, PartialEq, Eq)]
 pub enum Done {
-    /// It stands last now.
+    /// The item stands last in the queue now.
     Added,
     /// Its number was put in before.
     Already,
     /// The queue takes nothing any more.
     Closed,
-    /// It was refused so, and what stands behind it in the batch wasn't tried.
+    /// The item was refused with this fault. What stands behind it in the batch wasn't tried.
     Refused(Fault),
 }
 
@@ -37,12 +37,12 @@ impl Done {
 /// What became of an item of a batch (this project's profile).
 #[derive(Clone, Copy, Debug, PartialEq, Eq)]
 pub enum Out {
-    /// It stands last now. This many were ever put in before it.
+    /// The item stands last in the queue now. The number says how many were ever put in before it.
     Added(u64),
     /// Its number was put in before.
     Already,
     /// The queue takes nothing any more.
     Closed,
-    /// It was refused so, and what stands behind it in the batch wasn't tried.
+    /// The item was refused with this fault. What stands behind it in the batch wasn't tried.
     Refused(Fault),
 }

@@ -10,6 +10,7 @@ pub struct Policy {
     pub clock: u64,
     /// Whether the cycle keeps soft references at all.
     pub urgency: Urgency,
-    /// It keeps a soft reference if its clock less the reference's stamp is at most this.
+    /// How far the stamp of a soft reference may lie behind the clock, at most, for a normal cycle to keep its
+    /// referent.
     pub span: u64,
 }

@@ -10,7 +10,7 @@ use std::fmt;
 pub enum Urgency {
     /// The cycle keeps the soft references that were made or got lately.
     Normal,
-    /// It keeps none.
+    /// The cycle keeps no soft references.
     Urgent,
 }
 

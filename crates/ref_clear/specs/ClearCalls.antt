@@ -101,11 +101,11 @@ queue_in k m s = registered_in (reference_of k.heap (slot_at k.heap m s))
 
 -- ---- steps
 
--- this reply, or the fault where the step is refused
+-- the reply, or the fault where the step is refused
 abbrev pub reply_or_fault : ClearHeap → NamedStep → Reply → Reply
 reply_or_fault c step reply = unless_refused (refusal_in c step) replies.Refused reply
 
--- this heap, or the one before where the step is refused
+-- the heap after the step, or the one before where the step is refused
 abbrev pub left : ClearHeap → NamedStep → ClearHeap → ClearHeap
 left c step after = unless_refused (refusal_in c step) (λ fault. c) after
 

@@ -48,7 +48,7 @@ begun_with c now urgency = with_mark c (shaded_all (cycle_begun c.mark now urgen
 
 -- ---- clearing
 
--- it goes last in the worker's pending list, if it is registered with a queue
+-- reference n goes last in the worker's pending list, if it is registered with a queue
 abbrev pub heap_pended : ClearHeap → ℕ → ℕ → Option ℕ → ClearHeap
 heap_pended c w n None = c
 heap_pended c w n (Some q) = record {
@@ -63,7 +63,7 @@ heap_looked_at c w n =
     then heap_pended (with_mark c (cut_at c.mark n)) w n (registered_in (reference_at c.mark.heap n))
     else c
 
--- it takes the first of what it found, and looks at it
+-- the worker takes the first of what it found, and looks at it
 abbrev pub looked_from : ClearHeap → ℕ → List ℕ → ClearHeap
 looked_from c w [] = c
 looked_from c w (n ∷ rest) = heap_looked_at (with_mark c (with_found_taken c.mark w)) w n

@@ -37,7 +37,7 @@ abbrev pub pending_by : Linked → Pending
 pending_by l =
     record { object = l.no; queue = unwrap_or (registered_in l.reference) 0; cycle = l.cleared_in }
 
--- the same by its object and its tag
+-- what is told of pending reference n by its object and its tag
 abbrev pub pending_in : List Object → List Tag → ℕ → Pending
 pending_in os ts n = record {
   object = n;
@@ -106,7 +106,7 @@ pub record HandsNext (c : ClearHeap) (w : ℕ) (with : Option Pending) (reply : 
   pub hands : stays_behind with (pending_at c w) ≡ false → HeapDoes c (Hand w) reply d
   pub stays : stays_behind with (pending_at c w) ≡ true → (reply ≡ Nothing) × (d ≡ c)
 
--- so many of the worker's pending references may be handed on
+-- count of the worker's pending references may be handed on
 pub record MayHandOn (c : ClearHeap) (w count : ℕ) : Type 0 where
   pub there : is_worker c.mark.heap w ≡ true
   pub pending : count ≤ length (pending_at c w)

@@ -4,7 +4,7 @@
 //! As a mark ends, each reference to what it doomed reads as cleared for everybody at once. Then each worker looks at
 //! the references that it found. It clears those whose referent is doomed; one of them that is registered with a queue
 //! stands in the worker's pending list until its notice is handed on. A notice is a hold of its reference, for the one
-//! queue that the reference is registered with, and is made in two places alone: where a worker hands on what it
+//! queue that the reference is registered with. Notices are made in two places alone: where a worker hands on what it
 //! cleared, and where the program unhooks a reference. What is doomed is swept at last, and its cells are free.
 //!
 //! `Stands` of `specs/Standing.antt` says which states of the abstract collector a heap stands for; that it stands for

@@ -11,6 +11,6 @@ allows allow.NoReferents s = false
 allows allow.Soft s = is_soft s
 allows allow.SoftAndWeak s = if is_soft s then true else is_weak s
 
--- the same of references
+-- whether a path may go through this reference
 abbrev pub allowed : Allow → Allowed
 allowed a r = allows a r.strength

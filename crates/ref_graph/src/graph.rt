@@ -15,9 +15,9 @@ use std::marker::Model;
 
 /// An object graph: objects, what they refer to, and roots, the numbers that a program reaches by itself (package
 /// `java.lang.ref` of Java SE 17). That objects have numbers and at most 8 fields is this project's profile. All its
-/// memory is of the allocator that it was made with: 28 bytes for each object, 8 for each field, 4 for each root, and
-/// for the numbers of objects, and for those of roots, 4 bytes for each number up to their greatest below 2 ^ 20, and a
-/// place in a hash table for each from there on. A list that grows has room for up to twice as many.
+/// memory is of the allocator that it was made with: 28 bytes for each object, 8 for each field and 4 for each root.
+/// Two tables of numbers, those of objects and those of roots, take 4 bytes for each number up to their greatest below
+/// 2 ^ 20. From there on each number takes a place in a hash table. A list that grows has room for up to twice as many.
 #[derive(Drop)]
 pub struct Graph<A: Allocator = Global> {
     // In the order in which they were added: a search looks each up by number, and only a listing sorts them.
@@ -60,11 +60,11 @@ impl<A: Allocator + Copy> Graph<A> {
     /// object of its number was there, which then stays as it is. A field may name an object that isn't there, or comes
     /// later: while it isn't there, no path goes on to it.
     ///
-    /// Tried in this order: `BadField` where there are more than 8 fields, false where the number is there, `NoMemory`
-    /// where a growth is refused, or where there are 2 ^ 32 - 1 objects, or objects with 2 ^ 32 fields in all. In each
-    /// of these nothing has changed, though room that was made for the fields is kept where a further growth is
-    /// refused. False and `BadField` take no memory. In expected constant time, amortized, and in time of how far its
-    /// number, where it is below 2 ^ 20, is above all of those before.
+    /// Tried in this order: `BadField` where there are more than 8 fields, false where the number is there, and
+    /// `NoMemory`. That comes where a growth is refused, or where there are 2 ^ 32 - 1 objects, or objects with 2 ^ 32
+    /// fields in all. In each of the three nothing has changed, though room that was made for the fields is kept where
+    /// a further growth is refused. False and `BadField` take no memory. In expected constant time, amortized, and in
+    /// time of how far its number, where it is below 2 ^ 20, is above all of those before.
     pub fn add_object(&mut self, no: ObjNo, fields: &[Option<ObjNo>]) -> Result<bool, Fault>
         ensures answer { AnswersObject self.old (plain_object no fields.now) result }
         ensures after { self.new ≡ after_object self.old (plain_object no fields.now) result }

@@ -17,7 +17,7 @@ use std::marker::Model;
 /// Numbers below this one are near. A table of all of them takes 4 MiB.
 const NEAR: u32 = 1_048_576;
 
-/// So many entries come to the table at once.
+/// The length of the table is a multiple of this.
 const STEP: usize = 1_024;
 
 /// Numbers of objects, in the order in which they came, none twice. In a clause it is their list.
@@ -90,7 +90,7 @@ impl<A: Allocator + Copy> NumberList<A> {
         place_before(entry_of(self.near.as_slice(), no))
     }
 
-    // The same of a far number. It is kept out of its callers.
+    // Where a far number stands, if it came. Never compiled into its callers.
     #[inline(never)]
     fn place_of_far(&self, no: ObjNo) -> Option<usize>
         requires { first_far ≤ no }
@@ -241,7 +241,7 @@ fn reach<A: Allocator>(near: &mut Vec<u32, A>, no: ObjNo) -> Result<(), AllocErr
     extend(near, no.0 as usize)
 }
 
-// The same, where the table doesn't reach it. It is kept out of its callers.
+// The table grows until it reaches this near number, and no entry changes. Never compiled into its callers.
 #[inline(never)]
 fn extend<A: Allocator>(near: &mut Vec<u32, A>, at: usize) -> Result<(), AllocError>
     requires { at < first_far }

@@ -44,7 +44,7 @@ fn add_hung<A: Allocator + Copy, B: Allocator + Copy>(
 }
 
 // What a search found: first what paths lead to that go through no references, then what else they lead to through soft
-// ones, then through weak ones too; and what hangs on a phantom reference among all of them.
+// ones, then through weak ones too. Apart from that stands what hangs on a phantom reference among all of them.
 #[derive(Drop)]
 struct Found<B: Allocator> {
     reached: NumberList<B>,
@@ -118,9 +118,9 @@ impl<B: Allocator + Copy> Found<B> {
     }
 }
 
-/// How strongly the object of this number is reachable (package `java.lang.ref` of Java SE 17). This project's profile
-/// is that the referent of a phantom reference is phantom reachable only where that reference is itself reachable by
-/// strong, soft and weak steps, and that what lies behind such a referent isn't by that.
+/// How strongly the object of this number is reachable (package `java.lang.ref` of Java SE 17). The referent of a
+/// phantom reference is phantom reachable only where that reference is itself reachable by strong, soft and weak steps.
+/// What lies behind such a referent isn't phantom reachable by that. Both are this project's profile.
 ///
 /// `NoSuchObject` exactly where there is no such object, which takes no memory to tell; else `NoMemory` where a growth
 /// is refused. In expected time of the number of objects, fields and roots, and of the objects' greatest number below
@@ -157,7 +157,7 @@ pub fn strengths<A: Allocator + Copy, B: Allocator + Copy>(
     }
 }
 
-// The same, with the allocator's error.
+// How strongly each object is reachable, by number, or the allocator's error.
 fn list<A: Allocator + Copy, B: Allocator + Copy>(
     alloc: B,
     graph: &Graph<A>,

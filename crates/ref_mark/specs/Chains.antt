@@ -47,7 +47,7 @@ chain_from c link = record c { first = if c.first == c.last then 0 else link }
 abbrev pub chain_without_first : List Tag → Chain → Chain
 chain_without_first ts c = if c.first == 0 then c else chain_from c (link_at ts c.first)
 
--- it is looked at, if there is one
+-- the first of a chain is looked at, if there is one
 abbrev pub first_looked_at : Ground → Option ℕ → ℕ → Ground
 first_looked_at g None cycle = g
 first_looked_at g (Some n) cycle = ground_looked_at g n cycle
@@ -76,7 +76,7 @@ Links ts last n [] = n ≡ 0
 Links ts last n (m ∷ ms) =
     (n ≡ m) × ((m == 0) ≡ false) × (is_tagged ts m ≡ true) × Links ts last (next_of ts last m) ms
 
--- this is the last of these numbers, if there are any
+-- last is the last of these numbers, if there are any
 abbrev pub Ends : ℕ → List ℕ → Type 0
 Ends last [] = Unit {0}
 Ends last (m ∷ []) = last ≡ m

@@ -25,7 +25,7 @@ use Rattle.ref_mark.specs.CycleHeaps.{cycle_begun, scanned, cycle_in_phase, cycl
 use Rattle.ref_mark.specs.CycleHeaps.{moves_ended}
 use Rattle.ref_mark.specs.MarkViews.{ground_of}
 
--- this where nothing is refused, and else what becomes of the fault
+-- what is accepted where nothing is refused, and else what becomes of the fault
 abbrev pub unless_refused : {T : Type 0} → Option Fault → (Fault → T) → T → T
 unless_refused None otherwise accepted = accepted
 unless_refused (Some fault) otherwise accepted = otherwise fault

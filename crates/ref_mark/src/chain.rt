@@ -44,7 +44,8 @@ impl Chain {
         self.last = no.0;
     }
 
-    /// Lists the object behind the last one, as `push`. In constant time where the one that was last lies at this place.
+    /// Lists the object behind the last one, as `push`. In constant time where the one that was last lies at this
+    /// place.
     #[inline(always)]
     pub fn push_near<A: Allocator + Copy>(
         &mut self,

@@ -104,7 +104,7 @@ pub record IsSoundMoves (ways : Ways) (good last : Colour) (stage : Stage) (has_
 abbrev pub AreSoundMoves : Stored → Type 0
 AreSoundMoves s = IsSoundMoves s.table.ways s.table.round.good s.last s.stage s.has_choice s.condemning
 
--- the same, moves are sound, and what slots, holds and objects name is there, and isn't condemned
+-- the ground is sound, its moves are, and what slots, holds and objects name is there, and isn't condemned
 pub record IsSoundObjects (s : Stored) : Type 0 where
   pub ground : IsSoundGround s
   pub moves : AreSoundMoves s

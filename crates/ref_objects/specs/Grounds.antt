@@ -125,8 +125,8 @@ pub record Lay : Type 0 where
 abbrev pub laid : Space → Lay → Space
 laid s lay = record s { ways = lay.ways; cells = lay.cells }
 
--- whether a choice of objects wins room: at least two pages have from 1 to 32 objects. Before the first cycle none does,
--- since nothing has died, and at most one page has neither no object nor 64.
+-- whether a choice of objects wins room: at least two pages have from 1 to 32 objects. Before the first cycle none
+-- does, since nothing has died, and at most one page has neither no object nor 64.
 unfoldable pub wins_room : Space → Bool
 wins_room s = not (nat_lt (sparse_count s.ways.pages.uses) 2)
 
@@ -213,7 +213,7 @@ first_ground config number start = record {
   space = first_space config.cells start;
 }
 
--- this is made, unless it is refused with just this fault, or memory isn't there
+-- new is made, unless it is refused with just this fault, or memory isn't there
 abbrev pub IsMade : {T : Type 0} → Option Fault → T → Result T Fault → Type 0
 IsMade refusal new (Ok answer) = (refusal ≡ None) × (answer ≡ new)
 IsMade None new (Err fault) = fault ≡ NoMemory
@@ -233,7 +233,7 @@ is_condemned g n = g.condemning && is_unmarked g n
 abbrev pub is_spared : Ground → ℕ → Bool
 is_spared g n = is_there g.heap.objects n && not (is_condemned g n)
 
--- it names what is there and isn't condemned, if anything
+-- a value names what is there and isn't condemned, if it names anything
 abbrev pub IsSparedIfAny : Ground → Option ℕ → Type 0
 IsSparedIfAny g None = Unit {0}
 IsSparedIfAny g (Some n) = is_spared g n ≡ true
@@ -259,7 +259,7 @@ abbrev pub IsRefused : {T : Type 0} → Option Fault → Result T Fault → Type
 IsRefused refusal (Ok answer) = refusal ≡ None
 IsRefused refusal (Err fault) = refusal ≡ Some fault
 
--- the same of a call that takes a hold: it comes back
+-- a call that takes a hold is refused with just this fault, and gives the hold back, or not refused at all
 abbrev pub GivesBack : {T : Type 0} → Option Fault → HoldName → Result T (Fault × HoldName) → Type 0
 GivesBack refusal hold (Ok answer) = refusal ≡ None
 GivesBack refusal hold (Err back) = (refusal ≡ Some back.0) × (back.1 ≡ hold)
@@ -354,7 +354,7 @@ IsInOrder (n ∷ ns) = AllFrom n ns × IsInOrder ns
 
 -- ---- what calls leave
 
--- this where the call was accepted, and else what was there
+-- what is left after a call where it was accepted, and else what was there before
 abbrev pub if_done : {T E S : Type 0} → Result T E → S → S → S
 if_done (Ok answer) after before = after
 if_done (Err fault) after before = before
@@ -413,7 +413,7 @@ after_minting g (Err fault) = g
 abbrev pub ground_marked : Ground → ℕ → Ground
 ground_marked g n = if is_unmarked g n then record g { marked = one_more g.marked n } else g
 
--- the same of what a slot holds, if anything
+-- what a slot holds is marked, if it holds anything
 abbrev pub ground_marked_if_any : Ground → Option ℕ → Ground
 ground_marked_if_any g None = g
 ground_marked_if_any g (Some n) = ground_marked g n
@@ -423,7 +423,7 @@ abbrev pub newly_marked : Ground → Option ℕ → Option ℕ
 newly_marked g None = None
 newly_marked g (Some n) = if is_unmarked g n then Some n else None
 
--- the same of several, in order
+-- what several slots hold is marked, in order
 abbrev pub all_marked : Ground → List (Option ℕ) → Ground
 all_marked g [] = g
 all_marked g (value ∷ values) = all_marked (ground_marked_if_any g value) values
@@ -517,9 +517,9 @@ after_freeing g n =
 -- ---- what holds at all times
 
 -- objects and slots are in order, and so are the holds; there are at most as many objects as cells, and marks as
--- objects; what is marked is there, and what is unhealed; each object has its tag; what slots, holds and objects name is
--- spared; each object lies in one cell and in no other; and of open pages just those cells are taken in which an object
--- lies, or which are reserved for one that is still to move, of chosen ones those in which an object lies
+-- objects; what is marked is there, and what is unhealed; each object has its tag; what slots, holds and objects name
+-- is spared; each object lies in one cell and in no other; and of open pages just those cells are taken in which an
+-- object lies, or which are reserved for one that is still to move, of chosen ones those in which an object lies
 pub record IsWellFormed (g : Ground) : Type 0 where
   pub orderly : IsOrderly g.heap g.next
   pub held : IsInOrder g.heap.holds

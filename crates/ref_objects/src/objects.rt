@@ -34,9 +34,9 @@ use std::marker::Model;
 
 /// The objects of a heap: their fields and references, the slots of the mutators, and the holds that are out.
 ///
-/// All its memory is taken as it is made, and none by any other call: 5,920 bytes for each page of 64 cells, of which
-/// there are twice as many as the objects fill that there may be, and 64 for each mutator's slots. What a slot or a
-/// field holds is found by its word, in constant time. An object is found by its number in logarithmic time, and in
+/// All its memory is taken as it is made, and none by any other call. A page of 64 cells takes 5,920 bytes, and there
+/// are twice as many pages as the cells of the configuration fill. The slots of a mutator take 64 bytes. What a slot or
+/// a field holds is found by its word, in constant time. An object is found by its number in logarithmic time, and in
 /// constant time where none with a greater number was freed before the gaps were last closed: so is each that was made
 /// since.
 #[derive(Drop)]
@@ -108,8 +108,8 @@ impl<A: Allocator + Copy> Objects<A> {
 
     /// Makes a plain object with so many null fields; the slot holds it. Tried in this order: `NoSuchActor`, `BadField`
     /// above 8 fields, `NumbersSpent`, `NoCell` where there are as many objects as there may be. In constant time, but
-    /// for the full pages that it passes over, each once, and again after an object in front of them was freed; and one
-    /// call in as many as there are cells passes over them where `end_cycle` wasn't called for so long.
+    /// for two things. It passes over each full page once, and again after an object in front of that page was freed.
+    /// And one call in as many as there are cells takes time of the cells, where `end_cycle` wasn't called for so long.
     pub fn alloc_obj(&mut self, mutator: MutNo, into: SlotNo, fields: u32) -> Result<ObjNo, Fault>
         ensures refused { IsRefused (new_refusal self.old.heap self.old.next mutator into fields) result }
         ensures answer { IfOk result (λ no. no ≡ self.old.next) }

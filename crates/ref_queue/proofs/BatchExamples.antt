@@ -29,6 +29,7 @@ it_stands_in_order : after_batch one_stands batch (Ok all_tried)
     ≡ record one_stands { stands = (8, 1) ∷ (9, 1) ∷ (10, 1) ∷ [] }
 it_stands_in_order = refl
 
+-- promise: Outs::get, Queue::put_batch: positions follow one another
 positions_follow_one_another : out_at all_tried 2 ≡ Some (out.Added 3)
 positions_follow_one_another = refl
 
@@ -46,20 +47,24 @@ it_does_not_stop_where_nothing_is_refused : ¬ (AnswersBatch object_of queue_of 
     (Ok (record { before = 2; done = Already ∷ Added ∷ [] })))
 it_does_not_stop_where_nothing_is_refused is = absurd is.3
 
+-- promise: Queue::put_batch: what was put in is not added again
 what_was_put_in_is_not_added_again : ¬ (AnswersBatch object_of queue_of one_stands batch
     (Ok (record { before = 2; done = Added ∷ Added ∷ Added ∷ [] })))
 what_was_put_in_is_not_added_again is = true≢false is.2.0.1
 
+-- promise: Queue::put_batch: twice in a batch is added once
 twice_in_one_batch_is_once : ¬ (AnswersBatch object_of queue_of one_stands ((9, 1) ∷ (9, 1) ∷ [])
     (Ok (record { before = 2; done = Added ∷ Added ∷ [] })))
 twice_in_one_batch_is_once is = true≢false is.2.1.0.1
 
+-- promise: Queue::put_batch: a closed queue adds none
 a_closed_queue_adds_none : ¬ (AnswersBatch object_of queue_of closed_queue batch (Ok all_tried))
 a_closed_queue_adds_none is = true≢false is.2.1.0.2
 
 a_batch_for_two_queues_comes_back : AnswersBatch object_of queue_of one_stands ((9, 1) ∷ (10, 0) ∷ []) (Err WrongQueue)
 a_batch_for_two_queues_comes_back = (refl, refl)
 
+-- promise: Queue::put_batch: with another queue's item no item is put
 and_no_item_of_it_is_put : ¬ (AnswersBatch object_of queue_of one_stands ((9, 1) ∷ (10, 0) ∷ [])
     (Ok (record { before = 2; done = Added ∷ Added ∷ [] })))
 and_no_item_of_it_is_put is = true≢false (sym is.0)
@@ -76,6 +81,7 @@ all_that_stand_are_taken : AnswersPolls object_of two_stand 5 [] (Took (8 ∷ 9 
     ((8, 1) ∷ (9, 1) ∷ [])
 all_that_stand_are_taken = (omega arith, refl, refl, refl)
 
+-- promise: Queue::poll_batch: no more than were asked for
 no_more_than_were_asked_for_are_taken : ¬ (AnswersPolls object_of two_stand 1 [] (Took (8 ∷ 9 ∷ [])) none_stands
     ((8, 1) ∷ (9, 1) ∷ []))
 no_more_than_were_asked_for_are_taken is = absurd (omega (arith, ap length is.1))
@@ -90,5 +96,6 @@ nor_does_it_stand_first_in_the_batch : (left : Lists Slip)
 nor_does_it_stand_first_in_the_batch left is =
     let first : 9 ≡ 8 = ap (λ (slips : List Slip). (get_or slips 0 (0, 0)).0) is.3 in absurd (omega (arith, first))
 
+-- promise: Queue::poll_batch: not Empty while two stand
 it_is_not_empty_while_two_stand : ¬ (AnswersPolls object_of two_stand 5 [] Empty two_stand [])
 it_is_not_empty_while_two_stand is = let none = is.0 in absurd cc

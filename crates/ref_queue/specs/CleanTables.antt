@@ -12,7 +12,7 @@ pub record Registry (K J : Type 0) : Type 0 where
   pub jobs : List (ℕ × (K × J))
   pub closed : Bool
 
--- it is stored as the pair of its fields
+-- how a table is stored: as the pair of its fields
 abbrev pub registry_code : {K J : Type 0} → Coded K → Coded J → Coded (Registry K J)
 registry_code {K} {J} key job =
     code_by

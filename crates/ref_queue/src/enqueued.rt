@@ -75,8 +75,8 @@ impl<A: Allocator + Copy> Enqueued<A> {
         }
     }
 
-    /// It comes, and is last then, unless it came before. Whether it is new. In expected constant time, amortized.
-    /// Where memory is refused nothing has changed.
+    /// The number comes last, unless it came before. Returns whether it is new. In expected constant time, amortized.
+    /// Where memory is refused, nothing has changed.
     #[inline(always)]
     pub(crate) fn insert(&mut self, number: ObjNo) -> Result<bool, AllocError>
         ensures is_new { IfOk result (λ is_new. has self.old number ≡ not is_new) }

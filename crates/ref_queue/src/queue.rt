@@ -11,7 +11,7 @@ use std::marker::Model;
 /// What a put answers where it is not refused.
 #[derive(Debug, Drop)]
 pub enum Put<T> {
-    /// It stands last now. This many were ever put in before it.
+    /// The parcel stands last in the queue now. The number says how many were ever put in before it.
     Added(u64),
     /// Its number was put in before, so it comes back: a reference is enqueued at most once.
     Already(T),
@@ -117,7 +117,8 @@ impl<T: Parcel, A: Allocator + Copy> Queue<T, A> {
         }
     }
 
-    // The same of an item for this queue, where it is closed, or there is no room for the item yet.
+    // Puts in an item for this queue, where the queue is closed or has no room for the item yet. Never compiled into
+    // its callers.
     #[inline(never)]
     fn put_without_room(&mut self, item: T) -> Result<Put<T>, (Fault, T)>
         requires { T.queue_of item ≡ self.old.queue }
@@ -180,7 +181,7 @@ impl<T: Parcel, A: Allocator + Copy> Queue<T, A> {
         }
     }
 
-    // The same, where each item is for this queue.
+    // Puts in the items of a batch, each of which is for this queue, one after the other.
     fn put_each<B: Allocator>(&mut self, batch: &mut Batch<T, B>) -> Outs
         requires { are_own T.object_of T.queue_of self.old batch.old ≡ true }
         ensures count { result.before ≡ length (enqueued T.object_of self.old) }
@@ -236,7 +237,8 @@ impl<T: Parcel, A: Allocator + Copy> Queue<T, A> {
         }
     }
 
-    // The same, where the queue is closed, or there is no room for the item yet.
+    // Puts an item of a batch in, where the queue is closed or has no room for the item yet. Where the item isn't added
+    // it goes behind the others.
     #[inline(never)]
     fn put_next_without_room<B: Allocator>(&mut self, item: T, batch: &mut Batch<T, B>) -> Done
         requires own { T.queue_of item ≡ self.old.queue }
@@ -334,7 +336,7 @@ impl<T: Parcel, A: Allocator + Copy> Queue<T, A> {
     }
 }
 
-// The same numbers in a vector of their own.
+// A vector of these numbers.
 fn copied<A: Allocator>(alloc: A, numbers: &[ObjNo]) -> Result<Vec<ObjNo, A>, Fault>
     ensures numbers { IfOk result (λ v. v.items ≡ numbers.now) }
     ensures err { OnErr result (result ≡ Err Fault.NoMemory) }

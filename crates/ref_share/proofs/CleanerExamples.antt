@@ -202,6 +202,7 @@ module _ (start : Option ClearHeap) where
   it_stands : LooksOnce (table (registered ∷ [])) 2 (Ok true) (table (registered ∷ looked ∷ []))
   it_stands = ((refl, refl, refl), ([], refl), refl)
 
+  -- promise: SharedCleaner::is_registered: no answer without a look in the table
   stands_without_a_look : ¬ (LooksOnce (table []) 2 (Ok true) (table []))
   stands_without_a_look is = let none = is.2 in absurd cc
 
@@ -268,6 +269,7 @@ module _ (start : Option ClearHeap) where
     refl,
   )
 
+  -- promise: SharedCleaner::clean_some: a round without a job is not counted
   counted_on_without_a_job : (q : QueueView) (w : HeapView)
       → ¬ (GoesOn (polls []) (calls_of []) (table []) (Ok 1) q w (table []))
   counted_on_without_a_job q w goes =

@@ -130,6 +130,6 @@ abbrev pub RegistersOwn : {J : Type 0} → CleanStep HoldName J → Type 0
 RegistersOwn (steps.Register n hold job) = hold.object ≡ n
 RegistersOwn step = Unit {0}
 
--- so it is of each of the calls
+-- each job that one of the calls registers is kept with a hold of its own reference
 abbrev pub RegisterOwn : {J : Type 0} → List (CleanEntry J) → Type 0
 RegisterOwn {J} = AllByRecursion (λ (call : CleanEntry J). RegistersOwn call.step)

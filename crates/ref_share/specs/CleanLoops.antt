@@ -42,7 +42,7 @@ PollsBy Waits v (Some answer) w = PollsUntil v answer w
 PollsBy Waits v None w = ⊥
 PollsBy Once v answer w = PollsOnce v answer w
 
--- the same, told by the notice that it took: without one nothing stood, or the queue is closed
+-- a poll, told by the notice that it took: without one nothing stood, or the queue is closed
 abbrev pub PollsFor : Polling → QueueView → Result (Option HeldNotice) ShareFault → QueueView → Type 0
 PollsFor polling v (Ok (Some notice)) w = PollsBy polling v (Some (Ok (Took notice))) w
 PollsFor polling v (Ok None) w = PollsBy polling v None w ⊎ PollsBy polling v (Some (Ok Closed)) w
@@ -102,10 +102,10 @@ module _ {J : Type 0} where
         ⊎ ((notice : HeldNotice) × PollsBy polling last (Some (Ok (Took notice))) q'
         × CleansDead notice u d (Err fault) v' c'))
 
-    -- so of a thread that waits for each notice, until the queue is closed
+    -- the rounds of a thread that waits for each notice, until the queue is closed
     abbrev pub GoesRound : Result ℕ ShareFault → QueueView → HeapView → CleanView J → Type 0
     GoesRound = GoesBy Waits
 
-    -- and of one that takes those that stand
+    -- the rounds of a thread that takes those that stand
     abbrev pub GoesOn : Result ℕ ShareFault → QueueView → HeapView → CleanView J → Type 0
     GoesOn = GoesBy Once

@@ -17,8 +17,8 @@ use Rattle.ref_share.specs.declared.cleaned_heap.CleanedHeap.{CleanedHeap}
 abbrev pub HasSeats : {J : Type 0} → CleanedHeap J → Type 0
 HasSeats h = IsHeapSeat h.heap h.heap_seat × IsQueueSeat h.queue h.queue_seat × IsCleanSeat h.cleaner h.clean_seat
 
--- It was just made: heap and queue have the number 0, the cleaner is told by this queue, and each has its first seat,
--- by which nothing was called.
+-- A new cleaned heap: heap and queue have the number 0, the cleaner is told by this queue, and each of the three has
+-- its first seat, by which nothing was called.
 pub record IsNewCleanedHeap {J : Type 0} (config : Config) (h : CleanedHeap J) : Type 0 where
   pub heap : IsNewHeap h.heap config 0 0 h.heap_seat
   pub queue : IsNewQueue h.queue 0 0 h.queue_seat
@@ -38,6 +38,6 @@ pub record AreEnded {J A : Type 0} (WasRun : J → Type 0) (q : SharedQueue A) (
   pub table_open : IfErr table (λ _. IsLeftOpen IsItself IsCleanTurn (clean_view clean_seat))
   pub run : (n : ℕ) (hold : HoldName) (job : J) → job_left_in (found table) n ≡ Some (hold, job) → WasRun job
 
--- so were those of a program of one thread
+-- the queue and the cleaner of a program of one thread were ended, as `AreEnded` says
 abbrev pub IsEnded : {J : Type 0} → (J → Type 0) → CleanedHeap J → (notices : ℕ) → Type 0
 IsEnded WasRun h notices = AreEnded WasRun h.queue h.queue_seat h.clean_seat notices

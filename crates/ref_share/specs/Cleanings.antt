@@ -129,7 +129,7 @@ IsWithoutTurn (steps.Take object) fault = fault ≡ Refused TurnsSpent
 IsWithoutTurn (steps.Has object) fault = fault ≡ Refused TurnsSpent
 IsWithoutTurn (steps.Register object hold job) fault = fault ≡ Held hold TurnsSpent
 
--- the same; or no turn is left for it
+-- the object's job is taken, or there is none; or no turn is left for it
 abbrev pub TakesOnce : {J : Type 0} → CleanView J → ℕ → Result (Option (HoldName × J)) ShareFault → CleanView J → Type 0
 TakesOnce c object (Ok taken) d = TakesJob c object taken d
 TakesOnce c object (Err (Refused TurnsSpent)) d = RanOut c d

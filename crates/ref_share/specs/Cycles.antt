@@ -68,7 +68,7 @@ Then {X = X} first second x result z =
     ((y : X) × first x (Ok tt) y × second y result z)
     ⊎ ((fault : ShareFault) × (result ≡ Err fault) × first x (Err fault) z)
 
--- it begins, marks and clears
+-- a cycle begins, marks and clears
 abbrev pub MarksAndClears : (worker now : ℕ) → Urgency → HeapView → Result (Unit {0}) ShareFault → HeapView → Type 0
 MarksAndClears worker now urgency =
     Then (IsBegun now urgency)

@@ -54,7 +54,7 @@ abbrev pub Refuses : HeapView → NamedStep → Fault → HeapView → Type 0
 Refuses v step TurnsSpent w = RanOut v w
 Refuses v step fault w = Called v step (replies.Told (told.Refused fault)) w
 
--- the same of a step that would spend the hold, which the heap goes on counting
+-- a step that would spend the hold is refused, as `Refuses` says, and the heap goes on counting the hold
 abbrev pub KeepsBack : HeapView → NamedStep → HoldName → Fault → HeapView → Type 0
 KeepsBack v step hold TurnsSpent w = RanOut v w
 KeepsBack v step hold fault w = Called v step (replies.Back fault hold) w

@@ -90,7 +90,7 @@ module _ (v : QueueView) where
   abbrev pub polled : Answer HeldNotice → QueueEntry
   polled answer = entry v.number steps.Poll (replies.Polled answer)
 
-  -- so many polls of this seat, which found nothing
+  -- polls of this seat, count of them, which found nothing
   abbrev pub empty_polls : ℕ → List QueueEntry
   empty_polls count = replicate count (polled answers.Empty)
 
@@ -128,7 +128,7 @@ module _ (v : QueueView) where
   PollsNow (Err (Refused TurnsSpent)) w = RanOut v w
   PollsNow answer w = ⊥
 
-  -- the same of one poll that waits for its turn, where none is the answer that nothing stood
+  -- one poll that waits for its turn, where none is the answer that nothing stood
   abbrev pub PollsOnce : Option (Result Polled ShareFault) → QueueView → Type 0
   PollsOnce None w = Called v steps.Poll (replies.Polled answers.Empty) w
   PollsOnce (Some (Ok (Took notice))) w = Called v steps.Poll (replies.Polled (answers.Took notice)) w

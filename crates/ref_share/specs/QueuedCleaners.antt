@@ -13,8 +13,8 @@ module _ {J : Type 0} where
   abbrev pub IsQueuedSeat : QueuedCleaner J → QueuedSeat J → Type 0
   IsQueuedSeat c s = IsCleanSeat c.cleaner s.clean × IsQueueSeat c.queue s.queue
 
-  -- It was just made, with its first seat, by which nothing was called: its queue has the number 0, and tells it what
-  -- is gone.
+  -- A new cleaner with its queue and its first seat, by which nothing was called: the queue has the number 0, and tells
+  -- the cleaner what is gone.
   pub record IsNewQueuedCleaner (c : QueuedCleaner J) (s : QueuedSeat J) : Type 0 where
     pub queue : IsNewQueue c.queue 0 0 s.queue
     pub told_by : c.cleaner.frame ≡ 0

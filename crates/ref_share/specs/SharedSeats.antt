@@ -10,6 +10,6 @@ module _ {M A S R F X : Type 0} (stands_for : M → X → Type 0) (steps_to : X 
   abbrev pub IsSeatIn : SeatFor M S R F → Type 0
   IsSeatIn s = IsSeatFrom stands_for steps_to shared.turn (first_state shared.frame) s.seat
 
-  -- it was just made, its tickets beginning so, with its first seat
+  -- the value was just made, its tickets beginning so, with its first seat
   abbrev pub IsFirstIn : ℕ → SeatFor M S R F → Type 0
   IsFirstIn first s = IsFirstFrom stands_for steps_to shared.turn (first_state shared.frame) first s.seat

@@ -23,7 +23,7 @@ module _ {M S R X : Type 0} (stands_for : M → X → Type 0) (steps_to : X → 
     pub stands : stands_for machine x
     pub history : IsHistoryFrom x (view s)
 
-  -- it is the first seat of a turn whose tickets begin so: it has seen and made nothing
+  -- the seat is the first of a turn whose tickets begin so, and has seen and made nothing
   pub record IsFirstFrom {A F : Type 0} (t : Turn M A S R F) (x : X) (first : ℕ) (s : SeatOf M S R) : Type 0 where
     pub seat : IsSeatFrom t x s
     pub first_is : (view s).first ≡ first

@@ -19,7 +19,7 @@ Does step v (Ok reply) w = Performs v step (Ok reply) w
 Does step v (Err (Refused fault)) w = Declined v step fault w
 Does step v (Err fault) w = ⊥
 
--- the same, but that there is no answer where no cell was left
+-- the step is the heap's one call, and answers so, but that there is no answer where no cell was left
 abbrev pub DoesUnlessFull : PlainStep → HeapView → Result (Option Reply) ShareFault → HeapView → Type 0
 DoesUnlessFull step v (Ok (Some reply)) w = Does step v (Ok reply) w
 DoesUnlessFull step v (Ok None) w = Declined v step NoCell w

@@ -91,7 +91,7 @@ module _ {A : Type 0} (k : ℕ) (queues : List (SharedQueue A)) where
       → (r : QueueSeat) × (slice_get seats q ≡ Some r)
       × (notices_put k q (queue_view s).mine ≡ notices_put k q (queue_view r).mine))
 
-  -- so often one of these
+  -- a notice or a batch was delivered, or other calls were made, as often as the number says
   abbrev pub Works : ℕ → HeapView → List QueueSeat → HeapView → List QueueSeat → Type 0
   Works zero v seats w after = (w ≡ v) × (after ≡ seats)
   Works (suc count) v seats w after =

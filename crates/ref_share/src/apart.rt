@@ -22,10 +22,10 @@ impl<A: Allocator + Copy> SharedCleaner<A> {
     /// The other slot is used on the way, and is empty afterwards: what it held is let go.
     ///
     /// Four turns: three of the heap, by which the reference is made, held, and dropped from the slot, and one of the
-    /// table. `Refused` with the faults of the four, which are tried in this order: those of a `Refer`, of a `hold` and
-    /// of a `Drop`, with `TurnsSpent` where the heap has no turn left, those of `CleanTable::register`, and
-    /// `TurnsSpent` where the table has none left. The job comes back then, and registered is nothing. A hold that was
-    /// taken before is released by one more turn of the heap, or it is `Held` where the heap doesn't take it. The
+    /// table. `Refused` with the faults of the four, tried in this order. First come those of a `Refer`, of a `hold`
+    /// and of a `Drop`, with `TurnsSpent` where the heap has no turn left. Then come those of `CleanTable::register`,
+    /// and `TurnsSpent` where the table has none left. The job comes back then, and registered is nothing. A hold that
+    /// was taken before is released by one more turn of the heap, or it is `Held` where the heap doesn't take it. The
     /// reference stays in the slot where it was made and one of the two turns behind that is refused. Only the table
     /// takes memory.
     ///

@@ -9,7 +9,7 @@ const SPIN_ROUNDS: u32 = 7;
 
 const YIELD_ROUNDS: u32 = 2;
 
-// So often a caller polls before it listens.
+// How often a caller polls before it listens.
 const ROUNDS_AWAKE: u32 = SPIN_ROUNDS + YIELD_ROUNDS;
 
 /// A bell. Who listens first and polls then hears what is rung after that poll.

@@ -42,11 +42,11 @@ impl<A: Allocator + Copy> SharedCleaner<A> {
     /// a `Cleaner` of Java SE 17.
     ///
     /// Each notice takes polls of the queue, a turn of the heap, by which it is released, and one of the table, which
-    /// gives its job out; where there is one, a turn of the heap more, by which its hold is released, and the job is
-    /// run. It may never return. Takes no memory but what the jobs take.
+    /// gives its job out. Where there is a job, one turn of the heap more releases its hold, and the job is run. It may
+    /// never return. Takes no memory but what the jobs take.
     ///
     /// `Refused(TurnsSpent)` where the queue or the table has no turn left: then it takes no further job. `Held` where
-    /// the heap has no turn left for a release, or does not count the hold, which comes back: a job whose notice could
+    /// the heap has no turn left for a release, or does not count the hold, which comes back. A job whose notice could
     /// not be released stays in the table, and one that was taken is still run and told to the gate.
     pub fn clean_loop<R: Wait, G: Gate>(
         &self,
@@ -78,8 +78,8 @@ impl<A: Allocator + Copy> SharedCleaner<A> {
         )
     }
 
-    /// Runs the jobs of what is gone whose notices stand now, and answers how many it ran: as `clean_loop`, but that it
-    /// ends as soon as a poll finds nothing, so that a program of one thread cleans between its own calls.
+    /// Runs the jobs whose notices stand now, and returns how many it ran. As `clean_loop`, but it ends as soon as a
+    /// poll finds nothing, so that a program of one thread cleans between its own calls.
     ///
     /// Turns and faults are as those of `clean_loop`. Takes no memory but what the jobs take.
     pub fn clean_some<R: Wait, G: Gate>(

@@ -31,8 +31,8 @@ impl<A: Allocator + Copy> SharedCleaner<A> {
     /// the heap, or it is `Held` where the heap has no turn left for that. Only the table takes memory.
     ///
     /// While the slot holds the reference, an `enqueue` of that slot reports it, and then the job runs **though its
-    /// object lives**; after a `clear` of it nothing reports it, and the job runs by `clean` alone. `register_apart`
-    /// leaves it in no slot.
+    /// object lives**. After a `clear` of that slot nothing reports the reference, and the job runs by `clean` alone.
+    /// `register_apart` leaves it in no slot.
     ///
     /// By the caller: a cleaner is used with one heap, and no other call uses the mutator meanwhile.
     pub fn register<R: Wait>(
@@ -61,10 +61,10 @@ impl<A: Allocator + Copy> SharedCleaner<A> {
     /// Runs the job, unless it was taken before: then it is `Gone`. As `Cleanable.clean` of Java SE 17, at most once
     /// over all threads, and in no turn: others go on while it runs.
     ///
-    /// Four turns at most: one of the table, which gives the job out, and three of the heap, by which the reference is
-    /// adopted into `slot`, cleared, so that it is never enqueued, and dropped, as far as turns are left. Tried in this
-    /// order: `Refused(NoSuchActor)` where mutator or slot is outside the heap's, `Refused(TurnsSpent)` where the table
-    /// has no turn left; then the job stays. Takes no memory but what the job takes.
+    /// Four turns at most: one of the table, which gives the job out, and three of the heap, as far as turns are left.
+    /// By those three the reference is adopted into `slot`, cleared, so that it is never enqueued, and dropped. Tried
+    /// in this order: `Refused(NoSuchActor)` where mutator or slot is outside the heap's, `Refused(TurnsSpent)` where
+    /// the table has no turn left; then the job stays. Takes no memory but what the job takes.
     ///
     /// By the caller: no other call uses the mutator meanwhile.
     pub fn clean<R: Wait>(

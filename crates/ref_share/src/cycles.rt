@@ -14,11 +14,11 @@ use std::sync::Wait;
 /// One whole cycle: it begins with this clock and urgency, what is found dead is cleared and freed, and what was
 /// cleared is told to its queue. It ends with the phase Idle.
 ///
-/// Its steps: a begin; scans until the mark's end is accepted, since what mutators read meanwhile has to be scanned
-/// too; looks at what was found, until the clearing's end is; what is pending of the worker, by `deliver_all`; sweeps,
-/// until the sweep's end is accepted. The seats make no other call. Other threads may use the heap meanwhile, and help
-/// with the worker's steps of other numbers. It may never return, as where others load without end. Takes no memory but
-/// what the queues take.
+/// First comes a begin, and then scans until the mark's end is accepted, since what mutators read meanwhile has to be
+/// scanned too. Then come looks at what was found, until the clearing's end is accepted. At last what is pending of the
+/// worker is handed on by `deliver_all`, and sweeps follow until the sweep's end is accepted. The seats make no other
+/// call. Other threads may use the heap meanwhile, and help with the worker's steps of other numbers. It may never
+/// return, as where others load without end. Takes no memory but what the queues take.
 ///
 /// `Refused` with the faults of a begin, before which nothing was done; with those of the other steps where other
 /// threads end a phase meanwhile (`WrongPhase`); or `TurnsSpent`. With the faults of `deliver_one` the clearing has

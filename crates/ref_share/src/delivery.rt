@@ -27,9 +27,9 @@ use std::sync::Wait;
 /// by the heap. The lists have an entry for each queue of the heap's configuration, in order, by the caller.
 ///
 /// `Refused` with the faults of an unhook, or `TurnsSpent` where the heap has no turn left: then nothing was done.
-/// `Notice` where the notice could not be put in: `TurnsSpent` where the queue has no turn left, `NoMemory`, and
-/// `BadQueue` just where one of the lists ends before its queue's place, and `WrongQueue` where another queue stands
-/// there. `Held` where the heap has no turn left for the release, or doesn't count the hold.
+/// `Notice` where the notice could not be put in: with `TurnsSpent` where the queue has no turn left, or with
+/// `NoMemory`. Its fault is `BadQueue` just where one of the lists ends before its queue's place, and `WrongQueue`
+/// where another queue stands there. `Held` where the heap has no turn left for the release, or doesn't count the hold.
 pub fn enqueue<R: Wait, A: Allocator + Copy>(
     rt: &R,
     heap: &SharedHeap<A>,
@@ -84,12 +84,12 @@ pub fn deliver_one<R: Wait, A: Allocator + Copy>(
 /// expected time of the notices, amortized. Only what is added takes memory.
 ///
 /// `Refused` with the faults of a hand of a batch, as `BadConfig` where `max` is outside 1 to 32, or `TurnsSpent` where
-/// the heap has no turn left: then nothing was done. `Refused` too where the notices could not be put in, which are in
-/// the batch then: with `TurnsSpent` where the queue has no turn left, with `BadQueue` just where one of the lists ends
-/// before its place, and with `WrongQueue` where another queue stands there; and with `NoMemory` where one of them was
-/// refused so: then the batch holds all that were not added, and nothing was released. `Held` where a hold could not be
-/// released, since the heap has no turn left for it, or doesn't count it: the batch holds those that were to be
-/// released after it.
+/// the heap has no turn left: then nothing was done. `Refused` also where the notices could not be put in: then they
+/// are in the batch. The fault is `TurnsSpent` where the queue has no turn left, `BadQueue` just where one of the lists
+/// ends before its place, and `WrongQueue` where another queue stands there. The fault is `NoMemory` where one of the
+/// notices was refused so: then the batch holds all that were not added, and nothing was released. `Held` where a hold
+/// could not be released, since the heap has no turn left for it, or doesn't count it: the batch holds those that were
+/// to be released after it.
 pub fn deliver_batch<R: Wait, A: Allocator + Copy>(
     rt: &R,
     heap: &SharedHeap<A>,

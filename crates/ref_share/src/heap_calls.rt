@@ -82,12 +82,12 @@ impl<A: Allocator + Copy> SharedHeap<A> {
         self.notice(rt, seat, HeapStep::Hand { worker })
     }
 
-    /// The notices of the next references that the worker cleared, all of one queue and one cycle, so many at most, in
-    /// the batch, behind what is in it, once the turn is free; none where none is pending. The batch comes back in each
-    /// case. Tried in this order: `TurnsSpent` where no turn is left, `NoSuchActor` where the worker is outside the
-    /// configuration, `BadConfig` where `max` is not from 1 to the room that is left in the batch, which has room for
-    /// 32, `NumbersSpent` where fewer holds than one for each notice can be counted. Refused, heap and batch are as
-    /// before. Takes no memory.
+    /// Puts the notices of the next references that the worker cleared into the batch, behind what is in it, once the
+    /// turn is free. They are `max` at most, and all of one queue and one cycle; none where none is pending. The batch,
+    /// which has room for 32, comes back in each case. Tried in this order: `TurnsSpent` where no turn is left,
+    /// `NoSuchActor` where the worker is outside the configuration, `BadConfig` where `max` is not from 1 to the room
+    /// that is left in the batch. Last comes `NumbersSpent`, where fewer holds than one for each notice can be counted.
+    /// Refused, heap and batch are as before. Takes no memory.
     pub fn hand_batch<R: Wait>(
         &self,
         rt: &R,
@@ -128,10 +128,10 @@ impl<A: Allocator + Copy> SharedHeap<A> {
         }
     }
 
-    /// The slot then holds what the hold holds, once the turn is free, and the hold is spent. Tried in this order, and
-    /// then the hold comes back and the heap is as before: `TurnsSpent` where no turn is left, `NoSuchActor` where
-    /// mutator or slot is outside the configuration, `ForeignHold` where the heap doesn't count the hold. Takes no
-    /// memory.
+    /// The slot then holds what the hold holds, once the turn is free, and the hold is spent. Where it is refused the
+    /// hold comes back, and the heap is as before. Tried in this order: `TurnsSpent` where no turn is left,
+    /// `NoSuchActor` where mutator or slot is outside the configuration, `ForeignHold` where the heap doesn't count the
+    /// hold. Takes no memory.
     pub fn adopt<R: Wait>(
         &self,
         rt: &R,

@@ -57,21 +57,24 @@ ghost use Rattle.ref_share.specs.declared.answers.ShareFault.{ShareFault};
 ghost use Rattle.ref_share.specs.declared.clean_machine.CleanStep.TheVariants.{Take, Has};
 ghost use Rattle.ref_share.specs.declared.clean_machine.CleanReply.TheVariants.{Taken, Looked};
 
-/// After every history of a queue its lists are those of the entries: what was taken, followed by what stands, is what
-/// was put in, in order; nothing was put in twice; and it is closed where an entry closed it.
+// promise: SharedQueue::put, SharedQueue::poll_now, SharedQueue::finish: taken, then standing, is put in, in order
+/// After every history of a queue its lists are those of the entries. What was taken, followed by what stands, is what
+/// was put in, in order; nothing was put in twice. The queue is closed where an entry closed it.
 pub fn the_lists_of_a_queue_are_those_of_its_history()
     ensures { (number : ℕ) (calls : List QueueEntry) (last : NoticeLists) → IsQueueRun number calls last
         → KeepsLists calls last }
 {}
 
+// promise: SharedQueue::put, SharedQueue::put_batch, SharedQueue::close: nothing behind a close
 /// In every history of a queue nothing is put in behind a close.
 pub fn nothing_is_put_in_behind_a_close()
     ensures { (number : ℕ) (front back : List QueueEntry) (last : NoticeLists)
         → IsQueueRun number (front ++ back) last → is_closed_after front ≡ true → all_put_in back ≡ [] }
 {}
 
-/// In every history of a queue each notice that was added, alone or in a batch, is for this queue, and is told how many
-/// were put in before: by the calls before its own, and in its own before it.
+// promise: SharedQueue::put, SharedQueue::put_batch: its own queue, and its position
+/// In every history of a queue each notice that was added, alone or in a batch, is for this queue. Its position is how
+/// many were put in before: by the calls before its own, and in its own before it.
 pub fn each_added_notice_is_for_its_queue()
     ensures { (number : ℕ) (front back : List QueueEntry) (call : QueueEntry) (last : NoticeLists) (i : ℕ)
         (notice : HeldNotice) (position : ℕ) → IsQueueRun number (front ++ call ∷ back) last
@@ -79,7 +82,8 @@ pub fn each_added_notice_is_for_its_queue()
         → (notice.queue ≡ number) × (position ≡ length (all_put_in front) + i) }
 {}
 
-/// After every history of a heap what is held is what its entries gave out and did not take back: each notice that an
+// promise: SharedHeap::call: how often each object is held
+/// After every history of a heap what is held is what its entries gave out and did not take back. Each notice that an
 /// unhook or a hand gave, and a hold, is a hold of its object; an accepted adopt or release takes one back.
 pub fn what_is_held_was_given_out_and_not_taken_back()
     ensures { (config : Config) (number : ℕ) (calls : List HeapEntry) (last : State)
@@ -87,16 +91,18 @@ pub fn what_is_held_was_given_out_and_not_taken_back()
         → tally last.world.heap.holds n + tally (spent calls) n ≡ tally (minted calls) n }
 {}
 
-/// Where an entry of a heap's history takes a hold back, of a notice that a thread carried or of another, an entry
-/// before it gave one out of this object which was not taken back yet.
+// promise: SharedHeap::adopt, SharedHeap::release: given out before
+/// Where an entry of a heap's history takes a hold of an object back, an entry before it gave one of that object out
+/// which was not taken back yet. The hold may be that of a notice that a thread carried, or another.
 pub fn each_hold_that_is_taken_back_was_given_out()
     ensures { (config : Config) (number : ℕ) (front back : List HeapEntry) (call : HeapEntry) (last : State) (n : ℕ)
         → IsHeapRun config number (front ++ call ∷ back) last → spent_by call.step call.reply ≡ n ∷ []
         → tally (spent front) n < tally (minted front) n }
 {}
 
+// promise: SharedHeap::call: at one instant for all seats, for good
 /// What a mark's end clears in the history of a heap, it clears at one instant and for good, whichever seats make the
-/// calls: each new clear reads as cleared in every state from then on, or it is no longer there.
+/// calls. Each new clear reads as cleared in every state from then on, or it is no longer there.
 pub fn what_a_marks_end_clears_reads_as_cleared_from_then_on()
     ensures { (config : Config) (number count : ℕ) (front : List HeapEntry) (a b : State) (calls : List HeapEntry)
         (c : State) (n : ℕ) → IsHeapRun config number front a → IsHeapTurn a (Plain EndMark) (Told (Doomed count)) b
@@ -104,6 +110,7 @@ pub fn what_a_marks_end_clears_reads_as_cleared_from_then_on()
         → referent_of (reference_at c.world.heap n) ≡ None }
 {}
 
+// promise: SharedHeap::call: never got again, by any seat
 /// And no get of it answers an object from then on, whoever holds it.
 pub fn no_get_answers_what_a_marks_end_cleared()
     ensures { (config : Config) (number count : ℕ) (front : List HeapEntry) (a b : State) (calls : List HeapEntry)
@@ -113,6 +120,7 @@ pub fn no_get_answers_what_a_marks_end_cleared()
         → slot_at c.world.heap m s ≡ Some n → ¬ (IsHeapTurn c (Plain (Get m d s)) (Told (Object k)) e) }
 {}
 
+// promise: SharedHeap::call: no seat gets it, in a slot, a hold or a notice
 /// What a mark's end dooms in the history of a heap, no call gives from then on, neither into a slot nor as a hold or a
 /// notice, whichever seat makes it.
 pub fn no_call_gives_what_a_marks_end_doomed()
@@ -124,16 +132,18 @@ pub fn no_call_gives_what_a_marks_end_doomed()
         → ⊥ }
 {}
 
-/// After every history of a heap, also while references are cleared and while the sweep goes on, nothing reaches what
-/// is doomed and not swept yet: no slot, hold or pending reference names it, and no other object has it as a field or
+// promise: SharedHeap::call: until it is swept, nothing else leads to what is doomed
+/// After every history of a heap nothing reaches what is doomed and not swept yet, also while references are cleared
+/// and while the sweep goes on. No slot, hold or pending reference names it, and no other object has it as a field or
 /// as its referent.
 pub fn nothing_else_refers_to_the_doomed()
     ensures { (config : Config) (number : ℕ) (calls : List HeapEntry) (last : State)
         → IsHeapRun config number calls last → AreOutOfReach last.doomed (graph_of last.world) }
 {}
 
+// promise: SharedHeap::call: a path enters the doomed by a new clear
 /// Where a mark ends in the history of a heap, each path through soft and weak referents to what it dooms has a first
-/// step to the doomed, and that is by the referent of a soft or weak reference that is a new clear.
+/// step to the doomed. That step is by the referent of a soft or weak reference that is a new clear.
 pub fn each_path_to_what_a_marks_end_dooms_leaves_by_a_new_clear()
     ensures { (a : State) (count : ℕ) (b : State) (n : ℕ) (before : List ℕ)
         → IsHeapTurn a (Plain EndMark) (Told (Doomed count)) b
@@ -142,23 +152,26 @@ pub fn each_path_to_what_a_marks_end_dooms_leaves_by_a_new_clear()
         × LeavesBy a.world.heap.objects (doomed_at a) outer inner }
 {}
 
+// promise: SharedHeap::call: once in a cycle at most, by all workers
 /// In the history of a heap no object is scanned twice in a cycle.
 pub fn no_object_is_scanned_twice_in_a_cycle()
     ensures { (config : Config) (number : ℕ) (calls : List HeapEntry) (last : State)
         → IsHeapRun config number calls last → IsDistinct nat_eq (scanned_in_cycle (rows_of calls)) }
 {}
 
-/// And where a mark's end is refused because an object is left to scan, one is: it was ever kept in the mark, it was
-/// made before the cycle began, and no call of the cycle scanned it.
+// promise: SharedHeap::call: GreyLeft only where one is left to scan
+/// Where a mark's end is refused in the history of a heap because an object is left to scan, one is. That object was
+/// ever kept in the mark, was made before the cycle began, and no call of the cycle scanned it.
 pub fn a_mark_goes_on_only_while_an_object_is_left()
     ensures { (config : Config) (number : ℕ) (front : List HeapEntry) (a b : State)
         → IsHeapRun config number front a → IsHeapTurn a (Plain EndMark) (Told (Refused GreyLeft)) b
         → (n : ℕ) × IsLeft a n }
 {}
 
+// promise: SharedHeap::unhook, SharedHeap::hand: its own queue, and an entry as cause
 /// In the history of a heap each notice that an unhook or a hand gives, of one or of a batch, comes from the entries up
-/// to that one: one of them made its reference, registered with the notice's queue; and one is its cause, an unhook
-/// that gave a notice of the reference, or its clearing, in the cycle and by the worker that the cause names.
+/// to that one. One of them made its reference, registered with the notice's queue, and one is its cause. That is an
+/// unhook that gave a notice of the reference, or its clearing, in the cycle and by the worker that the cause names.
 pub fn each_notice_that_is_given_has_its_own_queue_and_cause()
     ensures { (config : Config) (number : ℕ) (front back : List HeapEntry) (call : HeapEntry) (last : State)
         → IsHeapRun config number (front ++ call ∷ back) last
@@ -166,8 +179,10 @@ pub fn each_notice_that_is_given_has_its_own_queue_and_cause()
         (notices_given call.step call.reply) }
 {}
 
-/// And each whose cause is a cycle comes after the end of that cycle's mark: in the world that the entries before that
-/// end give by replay, the notice's reference has a referent, an object to which no kept path leads.
+// promise: SharedHeap::hand: its referent was outside every kept path
+/// In the history of a heap each notice that is given and whose cause is a cycle comes after the end of that cycle's
+/// mark. In the world that the entries before that end give by replay, the notice's reference has a referent, an object
+/// to which no kept path leads.
 pub fn each_notice_of_a_cycle_comes_after_its_mark_ended()
     ensures { (config : Config) (number : ℕ) (front back : List HeapEntry) (call : HeapEntry) (last : State)
         → IsHeapRun config number (front ++ call ∷ back) last
@@ -175,12 +190,14 @@ pub fn each_notice_of_a_cycle_comes_after_its_mark_ended()
         → HeapMarkEnded config number front cycle notice.hold.object) (notices_given call.step call.reply) }
 {}
 
+// promise: SharedHeap::hand: by workers; an unhook may give another notice of it
 /// In the history of a heap workers hand each reference on at most once, over all cycles.
 pub fn each_reference_is_handed_on_at_most_once()
     ensures { (config : Config) (number : ℕ) (calls : List HeapEntry) (last : State)
         → IsHeapRun config number calls last → IsDistinct nat_eq (all_handed_on calls) }
 {}
 
+// promise: SharedHeap::hand, SharedHeap::hand_batch: in the worker's clearing order
 /// And of what is registered with a queue, a worker hands the references on in the order in which it cleared them: none
 /// comes before one that was cleared earlier, though some may never come.
 pub fn each_worker_hands_on_in_its_clearing_order()
@@ -189,6 +206,7 @@ pub fn each_worker_hands_on_in_its_clearing_order()
         → is_subsequence (handed_in k q calls) (clearing_order (rows_of calls) k q) ≡ true }
 {}
 
+// promise: deliver_one, deliver_batch: one thread's, while turns are left
 /// A worker's thread hands on by `deliver_one` and `deliver_batch` alone, with one seat of the heap and one of each
 /// queue, and makes other calls in between. Then, while turns are left, each queue's seat has put in just the notices
 /// that the heap's has handed on for that queue of what the worker cleared, in the same order.
@@ -197,6 +215,7 @@ pub fn each_queue_gets_what_a_worker_hands_on<A>()
         → Works k queues count v seats w after → KeepsPace k queues v seats → KeepsPace k queues w after }
 {}
 
+// promise: deliver_all: so the law before holds of it, wherever it stops
 /// A delivery of all that is pending is such work, while turns are left, whichever worker's it is.
 pub fn a_delivery_of_all_is_a_workers_work<A>()
     ensures { (k worker : ℕ) (queues : List (SharedQueue A)) (v w : HeapView) (seats after : List QueueSeat)
@@ -204,6 +223,7 @@ pub fn a_delivery_of_all_is_a_workers_work<A>()
         → had_turn result ≡ true → (count : ℕ) × Works k queues count v seats w after }
 {}
 
+// promise: cycle: so that law holds of it, wherever it stops
 /// And a whole cycle is, wherever it stops: it hands on nothing but by its deliveries, and puts nothing else in.
 pub fn a_cycle_is_a_workers_work<A>()
     ensures { (k worker now : ℕ) (urgency : Urgency) (queues : List (SharedQueue A)) (v w : HeapView)
@@ -212,6 +232,7 @@ pub fn a_cycle_is_a_workers_work<A>()
         → had_turn result ≡ true → (count : ℕ) × Works k queues count v seats w after }
 {}
 
+// promise: deliver_one, deliver_batch, deliver_all: in the worker's clearing order
 /// What a worker's thread puts into a queue comes in the order in which the worker cleared it.
 pub fn each_queue_gets_it_in_the_workers_clearing_order<A>()
     ensures { (heap : SharedHeap A) (heap_seat : HeapSeat) (k q : ℕ) (queues : List (SharedQueue A))
@@ -221,16 +242,18 @@ pub fn each_queue_gets_it_in_the_workers_clearing_order<A>()
         (clearing_order (rows_of (heap_view heap_seat).seen) k q) ≡ true }
 {}
 
-/// After a history of a heap in which a reference was registered apart, among calls that neither put it into a slot nor
-/// give a hold of it, it is in no slot, and of it one hold was given.
+// promise: SharedCleaner::register_apart: in no slot, and held once
+/// A reference may be registered apart in the history of a heap, among calls that neither put it into a slot nor give a
+/// hold of it. After that history it is in no slot, and of it one hold was given.
 pub fn what_is_registered_apart_is_in_no_slot()
     ensures { (config : Config) (number queue m src dst n : ℕ) (calls : List HeapEntry) (last : State)
         → IsHeapRun config number calls last → AreOfOneApart queue m src dst n calls
         → IsApart config number calls n }
 {}
 
-/// And as long as no call puts it into a slot again, as an adopt of a hold of it would, each notice of it that a call
-/// gives is of a cycle, whose mark ended before, where its referent was dead.
+// promise: SharedCleaner::register_apart: its notices are of a death while it is put into no slot
+/// As long as no call puts what is apart into a slot again, as an adopt of a hold of it would, each notice of it that a
+/// call gives is of a cycle. That cycle's mark ended before, where its referent was dead.
 pub fn nothing_but_a_death_is_told_of_what_is_apart()
     ensures { (config : Config) (number n : ℕ) (front between back : List HeapEntry) (call : HeapEntry) (last : State)
         → IsHeapRun config number ((front ++ between) ++ call ∷ back) last
@@ -239,8 +262,9 @@ pub fn nothing_but_a_death_is_told_of_what_is_apart()
         (notices_given call.step call.reply) }
 {}
 
-/// A job that a cleaner's thread took in one of its rounds, of a reference that was apart, in the heap's history,
-/// from some call on and was put into no slot since, is of an object that was dead at a mark's end: that end stands
+// promise: SharedCleaner::clean_loop: its object was found dead before, if it was put into no slot
+/// A cleaner's thread may take a job in one of its rounds, of a reference that was apart, in the heap's history, from
+/// some call on and was put into no slot since. Then the job's object was dead at a mark's end, and that end stands
 /// among the calls that the thread's seat of the heap has seen by then. For the thread gave two holds of the reference
 /// back, of the notice and of the job, and a cleaner that registers each job with a hold of its own reference had but
 /// one.
@@ -257,7 +281,8 @@ pub fn a_job_of_what_is_apart_runs_once_its_object_was_found_dead<J, A>()
         r.notice.hold.object }
 {}
 
-/// What `register_apart` registers is kept apart, in the calls that its seat of the heap has seen by then: it is in no
+// promise: SharedCleaner::register_apart: if others name no slot of the mutator, and none adopts it
+/// What `register_apart` registers is kept apart, in the calls that its seat of the heap has seen by then. It is in no
 /// slot and no object, and of it no two holds were given, unless a mark's end found its object dead meanwhile. So it is
 /// where those of the calls since, which other seats made, name no slot of the mutator, and none adopts a hold of it.
 pub fn what_register_apart_registers_is_kept_apart<J, A>()
@@ -269,7 +294,8 @@ pub fn what_register_apart_registers_is_kept_apart<J, A>()
         → IsKeptApart heap.frame.config heap.frame.heap_no (heap_view after).seen cleanable.obj }
 {}
 
-/// What is kept apart stays so through every call but an adopt of a hold of it: no other call puts it into a slot or
+// promise: SharedCleaner::register_apart: it is put into no slot while none adopts it
+/// What is kept apart stays so through every call but an adopt of a hold of it. No other call puts it into a slot or
 /// into an object, and none gives a second hold of it, unless a mark's end found its object dead.
 pub fn what_is_kept_apart_is_put_into_no_slot_but_by_an_adopt()
     ensures { (config : Config) (number n : ℕ) (front back : List HeapEntry) (last : State)
@@ -277,6 +303,7 @@ pub fn what_is_kept_apart_is_put_into_no_slot_but_by_an_adopt()
         → PutInNoSlot n back × IsKeptApart config number (front ++ back) n }
 {}
 
+// promise: SharedCleaner::register_apart: its notices are of a death while none adopts it
 /// Each notice of what is kept apart that a call gives behind calls of which none adopts a hold of it is of a cycle,
 /// whose mark ended before, where its referent was dead.
 pub fn nothing_but_a_death_is_told_of_what_is_kept_apart()
@@ -287,8 +314,9 @@ pub fn nothing_but_a_death_is_told_of_what_is_kept_apart()
         (notices_given call.step call.reply) }
 {}
 
-/// And a job that a cleaner's thread took in one of its rounds, of a reference that was kept apart from some call on
-/// and of which no call since adopts a hold, is of an object that was dead at a mark's end: that end stands among the
+// promise: SharedCleaner::clean_loop: its object was found dead before, if none adopts its hold
+/// A cleaner's thread may take a job in one of its rounds, of a reference that was kept apart from some call on and of
+/// which no call since adopts a hold. Then the job's object was dead at a mark's end, and that end stands among the
 /// calls that the thread's seat of the heap has seen by then.
 pub fn a_job_of_what_is_kept_apart_runs_once_its_object_was_found_dead<J, A>()
     ensures { (heap : SharedHeap A) (seat : HeapSeat) (cleaner : SharedCleaner J A) (own : CleanSeat J)
@@ -302,6 +330,7 @@ pub fn a_job_of_what_is_kept_apart_runs_once_its_object_was_found_dead<J, A>()
         → WasFoundDead heap.frame.config heap.frame.heap_no (heap_view seat).seen r.notice.hold.object }
 {}
 
+// promise: SharedCleaner::register, SharedCleaner::clean: the job registered last, unless it was taken since
 /// After every history of a cleaner, whatever its jobs are, each object has the job that was registered for it last,
 /// with its hold, unless that was taken since.
 pub fn each_object_has_the_job_that_its_history_left<J>()
@@ -309,12 +338,14 @@ pub fn each_object_has_the_job_that_its_history_left<J>()
         → (n : ℕ) → job_of last n ≡ job_left n None calls }
 {}
 
+// promise: SharedCleaner::clean, SharedCleaner::unregister: a take answers the job that was left
 /// And just that is what an entry of a take answers.
 pub fn each_take_gives_the_job_that_was_left<J>()
     ensures { (front back : List (CleanEntry J)) (by n : ℕ) (taken : Option (HoldName × J)) (last : Jobs J)
         → IsCleanRun (front ++ entry by (Take n) (Taken taken) ∷ back) last → taken ≡ job_left n None front }
 {}
 
+// promise: SharedCleaner::is_registered: a look answers whether a job was left
 /// And an entry of a look answers whether one was left.
 pub fn each_look_tells_whether_a_job_was_left<J>()
     ensures { (front back : List (CleanEntry J)) (by n : ℕ) (answer : Bool) (last : Jobs J)
@@ -322,6 +353,7 @@ pub fn each_look_tells_whether_a_job_was_left<J>()
         → answer ≡ is_some (job_left n None front) }
 {}
 
+// promise: SharedCleaner::clean, SharedCleaner::clean_loop: a job is taken once at most, over all threads
 /// In every history of a cleaner, between two takes that both gave a job of one object, one was registered for it:
 /// over all threads, each registered job is taken at most once.
 pub fn each_registered_job_is_taken_at_most_once<J>()

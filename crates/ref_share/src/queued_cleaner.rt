@@ -200,8 +200,7 @@ impl QueuedCleaner<Job> {
             .clean_loop(rt, clean, heap, heap_seat, &self.queue, queue, gate)
     }
 
-    /// Runs the jobs of what is gone whose notices stand now, as `SharedCleaner::clean_some`, and answers how many that
-    /// were.
+    /// Runs the jobs whose notices stand now, as `SharedCleaner::clean_some`, and returns how many it ran.
     pub fn clean_some<R: Wait, G: Gate>(
         &self,
         rt: &R,

@@ -45,7 +45,7 @@ impl<M: Machine, A: Allocator + Copy> Shared<M, A> {
         self.turn.call(rt, &mut seat.seat, step)
     }
 
-    // The same at once or not at all.
+    // Does one step if the turn is free, and else nothing. Never waits.
     pub(crate) fn try_step(
         &self,
         seat: &mut SeatFor<M>,

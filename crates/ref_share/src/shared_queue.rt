@@ -143,11 +143,12 @@ impl<A: Allocator + Copy> SharedQueue<A> {
         polled(self.try_step(seat, QueueStep::Poll))
     }
 
-    /// Takes the first that stand, so many at most, into a batch, behind what is in it, or answers that nothing stands,
-    /// at once or not at all; the batch comes back in each case. It answers the numbers of what it took, first first.
+    /// Takes the first that stand, `max` at most, into a batch, behind what is in it, or returns that nothing stands,
+    /// at once or not at all. The batch comes back in each case. Returns the numbers of what it took, first first.
     /// Tried in this order: `Refused(TurnsSpent)` where no turn is left, `Busy` where another turn is open, or took
-    /// this one, `Refused(BadConfig)` where `max` is not from 1 to the room that is left in the batch, which has room
-    /// for 32; that one takes a turn, in which nothing is done. In time of what is taken. Takes no memory.
+    /// this one, and `Refused(BadConfig)`. The last comes where `max` is not from 1 to the room that is left in the
+    /// batch, which has room for 32, and takes a turn, in which nothing is done. In time of what is taken. Takes no
+    /// memory.
     pub fn poll_batch_now(
         &self,
         seat: &mut QueueSeat<A>,

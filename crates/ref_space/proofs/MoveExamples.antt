@@ -23,6 +23,7 @@ chosen_page p = record p { chosen = true }
 
 -- ---- which are chosen
 
+-- promise: Pages::choose: an empty page is not chosen
 an_empty_page_is_not_sparse : is_sparse (filled 5 0 0) ≡ false
 an_empty_page_is_not_sparse = refl
 
@@ -32,6 +33,7 @@ one_taken_cell_is_enough = refl
 half_of_the_cells_are_few : is_sparse (filled 5 0 32) ≡ true
 half_of_the_cells_are_few = refl
 
+-- promise: Pages::choose: a page with 33 taken cells is not chosen
 one_more_is_too_many : is_sparse (filled 5 0 33) ≡ false
 one_more_is_too_many = refl
 
@@ -67,9 +69,11 @@ one_sparse_page_is_too_few = refl
 two_addresses_are_enough : choose_refusal (at_next (2 ^ 32 - 2) three) ≡ None
 two_addresses_are_enough = refl
 
+-- promise: Pages::choose: one address is too few for two pages
 one_address_is_too_few : choose_refusal (at_next (2 ^ 32 - 1) three) ≡ Some AddressesSpent
 one_address_is_too_few = refl
 
+-- promise: Pages::choose: NoRoom comes before AddressesSpent
 too_few_pages_come_first : choose_refusal (at_next (2 ^ 32) (filled 5 0 32 ∷ filled 6 1 33 ∷ [])) ≡ Some NoRoom
 too_few_pages_come_first = refl
 
@@ -81,6 +85,7 @@ nothing_changes_then = refl
 a_chosen_page_is_passed_over : next_cell chosen_three ≡ Some (1, 33)
 a_chosen_page_is_passed_over = refl
 
+-- promise: Pages::place: nothing is placed in a chosen page
 a_free_cell_of_it_is_no_place : ¬ (IsFirstFree chosen_three 0 32)
 a_free_cell_of_it_is_no_place is = true≢false (sym is.is_free)
 
@@ -106,6 +111,7 @@ a_list_of_places (suc zero) below = refl
 a_list_of_places (suc (suc zero)) below = refl
 a_list_of_places (suc (suc (suc page))) below = absurd (omega (arith, below))
 
+-- promise: Pages::renumber: no other list tells where each frame's page stands
 no_other_list : ¬ (AreMapped 3 (renumbered_uses 8 emptied_three) (0 ∷ 1 ∷ 2 ∷ []))
 no_other_list mapped = let first : 1 ≡ 0 = mapped 0 (omega arith) in absurd (omega (arith, first))
 
@@ -113,9 +119,11 @@ a_page_with_taken_cells_is_not_emptied : ¬ (AreEmptied chosen_three)
 a_page_with_taken_cells_is_not_emptied emptied =
     let none : 32 ≡ 0 = emptied.0 refl in absurd (omega (arith, none))
 
+-- promise: Pages::renumber: an open page keeps its address
 an_open_page_keeps_its_address : ¬ (IsRenumbered 8 (filled 6 1 33) 8)
 an_open_page_keeps_its_address is = let same : 8 ≡ 6 = is.0 refl in absurd (omega (arith, same))
 
+-- promise: Pages::renumber: an address is not used again
 no_address_is_used_again : ¬ (IsRenumbered 8 (chosen_page (filled 5 0 0)) 5)
 no_address_is_used_again is = let order = is.1 refl in absurd (omega (arith, order))
 
@@ -127,11 +135,14 @@ they_rise = (omega arith, (omega arith, (omega arith, omega arith)))
 none_is_at_the_next_address : ¬ (AreBetween 5 three 7)
 none_is_at_the_next_address between = let last = between.1.1.1 in absurd (omega (arith, last))
 
+-- promise: Pages::renumber: no two pages have one address
 no_two_pages_have_one_address : ¬ (AreBetween 5 (filled 5 0 0 ∷ filled 5 1 0 ∷ []) 8)
 no_two_pages_have_one_address between = let own = between.1.0 in absurd (omega (arith, own))
 
+-- promise: Pages::new, Pages::len: no two pages have one frame
 no_two_pages_have_one_frame : ¬ (AreFramed (filled 5 0 0 ∷ filled 6 0 0 ∷ []))
 no_two_pages_have_one_frame framed = let times : 2 ≡ 1 = framed 0 in absurd (omega (arith, times))
 
+-- promise: Pages::new, Pages::len: no frame is left out
 no_frame_is_left_out : ¬ (AreFramed (filled 5 1 0 ∷ []))
 no_frame_is_left_out framed = let times : 0 ≡ 1 = framed 0 in absurd (omega (arith, times))

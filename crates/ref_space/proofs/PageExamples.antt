@@ -35,10 +35,12 @@ three = full_page ∷ half_page ∷ empty_page ∷ []
 the_first_page_with_room : next_place three ≡ Some (1, 1)
 the_first_page_with_room = refl
 
+-- promise: Pages::place: not the last page that has room
 not_the_last_page_with_room : ¬ (next_place three ≡ Some (2, 0))
 not_the_last_page_with_room is =
     let pages : 1 ≡ 2 = ap (λ (at : ℕ × ℕ). at.0) (same_Some (1, 1) (2, 0) is) in absurd (omega (arith, pages))
 
+-- promise: Pages::place: no free cell is passed over
 no_free_cell_is_passed_over : ¬ (IsFirstFree three 2 0)
 no_free_cell_is_passed_over is = true≢false (is.in_front 1 1 (omega arith))
 
@@ -55,6 +57,7 @@ that_cell_is_taken_then = refl
 none_where_all_are_full : next_place (full_page ∷ full_page ∷ []) ≡ None
 none_where_all_are_full = refl
 
+-- promise: Pages::place: none only where all open pages are full
 none_only_where_all_are_full : ¬ (IsNextPlace three None)
 none_only_where_all_are_full none = true≢false none.1.0
 
@@ -70,12 +73,14 @@ a_cell_that_is_not_there_is_not_free = refl
 
 -- ---- counts
 
+-- promise: Pages::taken: three taken cells are three
 three_are_taken : taken_of three ≡ 3
 three_are_taken = refl
 
 they_are_in_two_pages : Packed 2 three
 they_are_in_two_pages = (refl, tt)
 
+-- promise: Pages::place, Pages::give: what lies in two pages is not packed in one
 they_are_not_in_one : ¬ (Packed 1 three)
 they_are_not_in_one packed = let none = packed.0 in absurd (omega (arith, none))
 
@@ -89,6 +94,7 @@ a_new_page_is_whole = (refl, (refl, tt))
 its_address_follows_the_one_before : (use_at (fresh_pages 5 0 2) 1).address ≡ 6
 its_address_follows_the_one_before = refl
 
+-- promise: Pages::new: two pages are two
 there_is_no_third : use_at (fresh_pages 5 0 2) 2 ≡ record { address = 0; frame = 0; chosen = false; free = [] }
 there_is_no_third = refl
 
@@ -101,6 +107,7 @@ its_first_cell_is_the_next_place = refl
 these_are_filled_in_turn : AreFilled three
 these_are_filled_in_turn = inl (refl, inr (refl, tt))
 
+-- promise: Pages::choose: pages that only fill are not both half full
 no_two_pages_are_half_full : AreFilled (half_page ∷ half_page ∷ []) → ⊥
 no_two_pages_are_half_full (inl full) = true≢false full.0
 no_two_pages_are_half_full (inr empty) = let none = empty.0 in absurd (omega (arith, none))

@@ -28,6 +28,7 @@ pages = fresh_page 5 0 ∷ []
 abbrev unmoved : Ways
 unmoved = ways_of (record { uses = pages; next = 6 }) [] A true
 
+-- promise: Word::of_place, Word::place: a word leads to the object in its cell
 its_word_leads_to_object_7 : target_by unmoved occupants (word_of_place R 0) ≡ Some 7
 its_word_leads_to_object_7 = refl
 
@@ -44,9 +45,11 @@ null_may_be_held = refl
 no_word_of_a_free_cell : leads_by R unmoved occupants false (word_of_place R 1) ≡ true → ⊥
 no_word_of_a_free_cell leads = false≢true leads
 
+-- promise: Word::of_place, Word::place: not to another frame
 no_word_of_another_frame : leads_by R unmoved occupants false (word_of_place R 64) ≡ true → ⊥
 no_word_of_another_frame leads = false≢true leads
 
+-- promise: Word::place: no place in front of the first frame
 no_word_in_front_of_the_first : leads_by R unmoved occupants false (word_in_colour R 0 63) ≡ true → ⊥
 no_word_in_front_of_the_first leads = false≢true leads
 
@@ -54,6 +57,7 @@ no_word_in_front_of_the_first leads = false≢true leads
 a_slot_may_hold_it : leads_by R unmoved occupants true (word_of_place R 0) ≡ true
 a_slot_may_hold_it = refl
 
+-- promise: Table::set_slot, Table::copy_slot: a slot holds words of the good colour alone
 no_slot_holds_it_in_another_colour : leads_by R unmoved occupants true (word_of_place A 0) ≡ true → ⊥
 no_slot_holds_it_in_another_colour leads = false≢true leads
 
@@ -93,6 +97,7 @@ they_are_told = refl
 no_bits_of_its_frame : bits_told pages (word_of_place R 0) ≡ 13835058055282163776 → ⊥
 no_bits_of_its_frame same = absurd (omega (arith, same))
 
+-- promise: Table::word_at: not the bits of another cell
 no_bits_of_another_cell : IsWordHeld R unmoved occupants false (Some 7) 13835058055282164033 → ⊥
 no_bits_of_another_cell is =
     let cell : 1 ≡ is.cell = ap cell_in is.parts in
@@ -106,12 +111,14 @@ no_bits_of_another_cell is =
     at_odds (suc frame) cell address one lies =
         let nowhere : (use_of pages (suc frame)).address ≡ 0 = grind arith in absurd (omega (arith, address, nowhere))
 
+-- promise: Table::word_at: not the bits of another colour
 no_bits_of_another_colour : IsWordHeld R unmoved occupants true (Some 7) 4611686018427388224 → ⊥
 no_bits_of_another_colour is =
     let colour : 1 ≡ colour_number is.colour = ap colour_in is.parts in
     let good : colour_number is.colour ≡ 3 = ap colour_number (is.healed refl) in
     absurd (omega (arith, colour, good))
 
+-- promise: Table::word_at: null is 0
 null_has_no_word : IsWordHeld R unmoved occupants true None 13835058055282164032 → ⊥
 null_has_no_word is = absurd (omega (arith, is))
 
@@ -154,9 +161,11 @@ table = record {
 number_8_is_unnamed : IsUnnamed table 8
 number_8_is_unnamed = record { slots = refl; objects = (refl, tt) }
 
+-- promise: Table::free: what a slot holds is named
 what_a_slot_holds_is_named : IsUnnamed table 7 → ⊥
 what_a_slot_holds_is_named unnamed = false≢true (sym unnamed.slots)
 
+-- promise: Table::free: what a field holds is named
 what_a_field_holds_is_named : IsUnnamed table 9 → ⊥
 what_a_field_holds_is_named unnamed = false≢true (sym unnamed.objects.0)
 
@@ -175,9 +184,11 @@ it_lies_once = record {
     first_alone (suc zero) n at = absurd (none-some n at)
     first_alone (suc (suc place)) n at = absurd (none-some n at)
 
+-- promise: Table::len: no object lies in two cells
 no_object_lies_twice : LieOnce (Some 7 ∷ Some 7 ∷ []) (λ n. n == 7) → ⊥
 no_object_lies_twice laid = let same = laid.once 0 1 7 refl refl in absurd (omega (arith, same))
 
+-- promise: Table::len: what lies in a cell is there
 what_lies_there_is_there : LieOnce occupants (λ n. n == 8) → ⊥
 what_lies_there_is_there laid = true≢false (sym (laid.there 0 7 refl))
 
@@ -194,6 +205,7 @@ null_was_read is = refl
 a_good_word_was_read : IfRead after_a_load 7 (Some 1) (are_in_colour A (coloured_word A 5 3))
 a_good_word_was_read is = refl
 
+-- promise: Table::word_at, Table::word_of_referent: a word of another colour wasn't read last
 no_word_from_before_was_read : IfRead after_a_load 7 (Some 1) (are_in_colour A (coloured_word R 5 3)) → ⊥
 no_word_from_before_was_read so = true≢false (sym (so refl))
 

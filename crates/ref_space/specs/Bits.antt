@@ -3,7 +3,7 @@ use Rattle.std.specs.Prelude.{ℕ, zero, suc, ◌/◌, ◌%◌, Bool, true, fals
 use Rattle.std.specs.Prelude.{List, [], ◌∷◌, Option, Some, None}
 use Rattle.std.specs.Option.{option_map}
 
--- so many of the lowest bits
+-- the lowest bits, as many as the number says
 abbrev pub bits : ℕ → ℕ → List Bool
 bits zero w = []
 bits (suc k) w = (w % 2 == 1) ∷ bits k (w / 2)

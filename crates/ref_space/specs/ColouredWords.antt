@@ -35,7 +35,7 @@ coloured_word colour page cell = colour_number colour * 2 ^ 62 + page * 64 + cel
 abbrev pub IsWordOf : ℕ → Colour × ℕ × ℕ → Type 0
 IsWordOf word (colour, page, cell) = IsCell page cell × (word ≡ coloured_word colour page cell)
 
--- it has this colour, which the two highest bits tell
+-- the word has this colour, which the two highest bits tell
 abbrev pub is_coloured : ℕ → Colour → Bool
 is_coloured word colour = word / 2 ^ 62 == colour_number colour
 

@@ -99,11 +99,11 @@ leads_by good ways os has_to value =
 abbrev pub HasTarget : Table → Option ℕ → Type 0
 HasTarget t value = leads_by t.round.good t.ways t.occupants false value ≡ true
 
--- the same, and it has the good colour
+-- the value is null, or leads to an object, and then has the good colour where the table is tuned
 abbrev pub IsHealed : Table → Option ℕ → Type 0
 IsHealed t value = leads_by t.round.good t.ways t.occupants true value ≡ true
 
--- it is null, or has this colour
+-- the value is null, or has this colour
 abbrev pub IsInColour : Colour → Option ℕ → Type 0
 IsInColour colour value = is_in_colour colour value ≡ true
 

@@ -126,7 +126,7 @@ with_placed ps = record ps { uses = placing ps.uses }
 abbrev pub with_given : Pages → ℕ → ℕ → Pages
 with_given ps frame cell = record ps { uses = with_cell ps.uses (place_of ps.uses frame) cell true }
 
--- so many objects are placed
+-- objects are placed, as many as the number says
 abbrev pub placings : ℕ → List Use → List Use
 placings zero ps = ps
 placings (suc k) ps = placing (placings k ps)
@@ -145,7 +145,7 @@ AreWhole (p ∷ ps) = (length p.free ≡ 64) × AreWhole ps
 abbrev pub is_open_at : List Use → ℕ → ℕ → Bool
 is_open_at ps page cell = not (use_at ps page).chosen && is_free_at ps page cell
 
--- this free cell of an open page comes before each other
+-- the cell is free in an open page, and comes before each other such cell
 pub record IsFirstFree (ps : List Use) (page cell : ℕ) : Type 0 where
   pub is_free : is_open_at ps page cell ≡ true
   pub in_front : (other own : ℕ) → other < page → is_open_at ps other own ≡ false

@@ -49,7 +49,7 @@ pub record RoundView : Type 0 where
   pub good : Colour
   pub read : Option WordName
 
--- the same, of a round that goes on
+-- a round that goes on, with the word that was read last in it
 abbrev pub round_of : Round → Option WordName → RoundView
 round_of round read = record { number = round.number; good = round.good; read = read }
 

@@ -28,13 +28,13 @@ use std::mem::size_of;
 pub enum Change {
     /// Its reference is cleared, if it is one.
     Cut,
-    /// It is stamped, if it is a reference.
+    /// Its reference gets this stamp, if it is one.
     Stamp(u64),
     /// A worker cleared it in this cycle.
     ClearedIn(u64),
     /// Its reference is cleared, in this cycle.
     ClearIn(u64),
-    /// It links to the object of this number, or to none.
+    /// Its link leads to the object of this number, or, where that is 0, to none.
     Link(u32),
 }
 
@@ -229,7 +229,7 @@ impl Cell {
         self.stamp = stamp;
     }
 
-    /// Writes this of the object.
+    /// Writes this change into the object, if there is one.
     #[inline(always)]
     pub(crate) fn change(&mut self, change: Change)
         ensures { self.new ≡ option_map (change_of change) self.old }

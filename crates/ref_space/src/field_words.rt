@@ -27,7 +27,7 @@ impl Model for Words {
 }
 
 impl Words {
-    /// So many fields, each null.
+    /// As many null fields as `count` says.
     #[inline(always)]
     pub(crate) fn nulls(count: usize) -> Self
         requires { count ≤ 8 }
@@ -39,7 +39,7 @@ impl Words {
         }
     }
 
-    /// The same fields.
+    /// A copy of the fields.
     #[inline(always)]
     pub(crate) fn copied(&self) -> Self
         ensures { result ≡ self.now }

@@ -24,7 +24,7 @@ impl Model for Fields {
 }
 
 impl Fields {
-    /// So many fields, each null.
+    /// As many null fields as `count` says.
     pub(crate) fn nulls(count: usize) -> Self
         requires { count ≤ 8 }
         ensures { result ≡ replicate count None }
@@ -55,7 +55,7 @@ impl Fields {
         }
     }
 
-    /// This one more, last.
+    /// Adds a field, which holds `value`, behind the others.
     pub fn push(&mut self, value: Option<ObjNo>)
         requires { length self.old < 8 }
         ensures { self.new ≡ self.old ++ value ∷ [] }

@@ -92,7 +92,8 @@ pub(crate) fn place_of(cells: &[Cell], index: &[Entry], no: ObjNo) -> Option<usi
     }
 }
 
-/// The same: at once where the object lies at this place.
+/// The place of the object of this number. In constant time where the object lies at `place`, and else in time as for
+/// `count_below`.
 #[inline(always)]
 pub(crate) fn place_near(cells: &[Cell], index: &[Entry], no: ObjNo, place: usize) -> Option<usize>
     requires rises { Rises index.now }
@@ -105,7 +106,8 @@ pub(crate) fn place_near(cells: &[Cell], index: &[Entry], no: ObjNo, place: usiz
     }
 }
 
-// The same by a search. It is never compiled into its caller, whose code for what lies where it lay stays short so.
+// The place of the object of this number, by a search. Never compiled into its caller, so that the code for an object
+// that hasn't moved stays short.
 #[inline(never)]
 fn place_searched(cells: &[Cell], index: &[Entry], no: ObjNo) -> Option<usize>
     requires { Rises index.now }

@@ -10,6 +10,7 @@ ghost use Rattle.ref_space.specs.Pages.{AreFilled};
 ghost use Rattle.ref_space.specs.Pages.{choosing, chosen_if_sparse, sparse_count, sparse_cells, use_of};
 ghost use Rattle.ref_space.specs.Pages.{renumbered_uses, AreFramed, AreBetween, AreEmptied, IsRenumbered};
 
+// promise: word_of, parts_of, has_colour: a word tells its own parts, and one colour
 /// A word tells the parts that it was made of, no other number tells any, and the words of other parts are other words.
 pub fn a_word_tells_its_parts()
     ensures parts { (colour : Colour) (page cell : ℕ) → IsCell page cell
@@ -21,11 +22,13 @@ pub fn a_word_tells_its_parts()
         → coloured_word c page cell ≡ coloured_word d other own → (c ≡ d) × (page ≡ other) × (cell ≡ own) }
 {}
 
+// promise: Pages::place: none exactly where no open page has a free cell
 /// An object is placed in the first free cell of an open page, and nowhere just where no open page has one.
 pub fn the_next_place_is_the_first_free_cell()
     ensures { (ps : List Use) → IsNextPlace ps (next_place ps) }
 {}
 
+// promise: Pages::new: addresses follow one another
 /// New pages have the addresses from the first one on.
 pub fn new_pages_have_addresses_that_follow()
     ensures count { (first frame count : ℕ) → length (fresh_pages first frame count) ≡ count }
@@ -33,6 +36,7 @@ pub fn new_pages_have_addresses_that_follow()
         → (use_at (fresh_pages first frame count) page).address ≡ first + page }
 {}
 
+// promise: Pages::place, Pages::give: one cell changes, and no page or address
 /// A cell that was taken or given back is so, each other is as it was, and so are the pages and their addresses.
 pub fn no_other_cell_changes()
     ensures own { (ps : List Use) (page cell : ℕ) (is_free : Bool) → AreWhole ps → page < length ps → cell < 64
@@ -50,6 +54,7 @@ pub fn no_other_cell_changes()
         → (use_at (with_cell ps page cell is_free) other).frame ≡ (use_at ps other).frame }
 {}
 
+// promise: Pages::place, Pages::give, Table::push: there is room while fewer cells are taken than there are
 /// There is always room: while fewer cells of open pages are taken than there are, the next object has a place. With it
 /// one more is taken, and with each that is given back one fewer.
 pub fn there_is_always_room()
@@ -61,6 +66,7 @@ pub fn there_is_always_room()
     ensures none { (first frame count : ℕ) → taken_of (fresh_pages first frame count) ≡ 0 }
 {}
 
+// promise: Pages::place, Pages::give: what is taken stays in the first open pages
 /// All taken cells of open pages stay in the first c of these, while fewer are taken than these have.
 pub fn what_is_placed_stays_packed()
     ensures placed { (c : ℕ) (ps : List Use) → AreWhole ps → Packed c (opened ps) → taken_of (opened ps) < 64 * c
@@ -70,6 +76,7 @@ pub fn what_is_placed_stays_packed()
     ensures none { (c first frame count : ℕ) → Packed c (opened (fresh_pages first frame count)) }
 {}
 
+// promise: Pages::place, Pages::choose: what only fills has no two sparse pages
 /// Of pages that are filled one after another, and from which nothing goes, at most one is neither full nor empty: so
 /// fewer than two have from 1 to 32 taken cells.
 pub fn what_only_fills_has_one_sparse_page()
@@ -78,8 +85,9 @@ pub fn what_only_fills_has_one_sparse_page()
     ensures sparse { (ps : List Use) → AreWhole ps → AreFilled ps → sparse_count ps < 2 }
 {}
 
-/// There is always room for what moves: of twice as many pages as the taken cells fill, a choice leaves so many open
-/// that all that lies in the chosen ones can be placed, one after another. It stays packed.
+// promise: Pages::choose, Table::select: all that lies in chosen pages has a place in others
+/// There is always room for what moves. Of twice as many pages as the taken cells fill, a choice leaves so many open
+/// that all that lies in the chosen ones can be placed, one after another. What is open stays packed.
 pub fn there_is_room_for_what_moves()
     ensures room { (c k : ℕ) (ps : List Use) → AreWhole ps → has_chosen ps ≡ false → Packed c ps → length ps ≡ 2 * c
         → k < sparse_cells ps → is_some (next_place (placings k (choosing ps))) ≡ true }
@@ -87,6 +95,7 @@ pub fn there_is_room_for_what_moves()
         → length ps ≡ 2 * c → k ≤ sparse_cells ps → Packed c (opened (placings k (choosing ps))) }
 {}
 
+// promise: Pages::choose, Table::select: just the pages with 1 to 32 taken cells are chosen
 /// A choice takes out just the pages with 1 to 32 taken cells, and changes nothing else of a page.
 pub fn a_choice_is_of_sparse_pages()
     ensures pages { (ps : List Use) (page : ℕ) → page < length ps
@@ -95,6 +104,7 @@ pub fn a_choice_is_of_sparse_pages()
         → length (chosen_frames (choosing ps)) ≡ sparse_count ps }
 {}
 
+// promise: Pages::renumber, Table::renumber: no address is given twice, no cell changes
 /// A renumbering leaves each frame its free cells, where nothing lies in the chosen ones. All pages are open then.
 /// Addresses rise, and an open page keeps its own; each chosen one gets an address that none ever had.
 pub fn a_renumbering_keeps_what_lies_in_frames()

@@ -1,8 +1,8 @@
-//! The space of a heap: pages of 64 cells with bitmaps of the free ones; coloured words, by which slots and fields name
-//! an object by a colour, a page's frame and a cell, and by the page's address where they are shown; and the table of
-//! the objects that lie there, found by number. A collector that moves objects changes colours and addresses, and no
-//! program sees either. Coloured pointers are those of ZGC (JEP 333); pages of 64 cells, three colours and where their
-//! bits stand are this project's profile.
+//! The space of a heap: pages of 64 cells with bitmaps of the free ones, coloured words, and the table of the objects
+//! that lie there, found by number. By such a word a slot or a field names an object: by a colour, a page's frame and a
+//! cell. Where a word is shown, it has the page's address in place of the frame. A collector that moves objects changes
+//! colours and addresses, and no program sees either. Coloured pointers are those of ZGC (JEP 333); pages of 64 cells,
+//! three colours and where their bits stand are this project's profile.
 #![tactic(auto)]
 
 mod cell;

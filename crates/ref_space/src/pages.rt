@@ -49,8 +49,9 @@ impl<A: Allocator> Model for Pages<A> {
 }
 
 impl<A: Allocator + Copy> Pages<A> {
-    /// So many pages with all cells free, of the frames from 0 on, at this address and those that follow it, which are
-    /// all below 2^32. The one error is that memory is refused. In time of their count.
+    /// As many pages as `count` says, with all cells free, of the frames from 0 on. Their addresses begin at
+    /// `first_address`, follow one another, and are all below 2^32. The one error is that memory is refused. In time of
+    /// their count.
     pub fn new(alloc: A, count: usize, first_address: u32) -> Result<Self, AllocError>
         requires { first_address + count ≤ 2 ^ 32 }
         ensures { IfOk result (λ ps. ps ≡ new_pages first_address count) }
@@ -256,9 +257,9 @@ impl<A: Allocator> Pages<A> {
         self.chosen[at] as usize
     }
 
-    /// Takes for each taken cell of the chosen pages, in order, the next free cell of an open one, while there is one,
-    /// and writes its place into the list, which has an entry for each place. Takes no memory, in time of the chosen
-    /// pages, and as for so many calls of `place`.
+    /// Takes the next free cell of an open page, while there is one, for each taken cell of the chosen pages, in order.
+    /// Writes the place of each cell that it takes into the list, which has an entry for each place. Takes no memory,
+    /// in time of the chosen pages, and as for so many calls of `place`.
     pub fn reserve(&mut self, forwards: &mut [u32])
         requires each { length forwards.old ≡ 64 * length self.old.uses }
         requires small { length forwards.old ≤ 2 ^ 32 }
@@ -270,7 +271,8 @@ impl<A: Allocator> Pages<A> {
         }
     }
 
-    // The same for each taken cell of this frame, whose page is chosen.
+    // Takes the next free cell of an open page, while there is one, for each taken cell of this frame, whose page is
+    // chosen.
     #[inline(always)]
     fn reserve_frame(&mut self, frame: usize, forwards: &mut [u32])
         requires frame { frame < length self.old.uses }
@@ -299,7 +301,8 @@ impl<A: Allocator> Pages<A> {
         self.pages[self.place_of(frame)].free_cells()
     }
 
-    // The same for what lies at this place.
+    // Takes the next free cell of an open page, if there is one, for what lies at place `from`, and writes its place
+    // into the list.
     #[inline(always)]
     fn reserve_place(&mut self, from: usize, forwards: &mut [u32])
         requires from { from < length forwards.old }
@@ -328,7 +331,7 @@ impl<A: Allocator> Pages<A> {
     }
 }
 
-// So many pages with all cells free, of the frames from 0 on and from this address on.
+// As many pages as `count` says, with all cells free, of the frames from 0 on. Their addresses follow one another.
 fn free_pages<A: Allocator>(
     alloc: A,
     count: usize,

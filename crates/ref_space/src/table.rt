@@ -125,7 +125,7 @@ impl<A: Allocator + Copy> Table<A> {
         Self::with_room(alloc, room, slots, first_page).map_err(|_| Fault::NoMemory)
     }
 
-    // The same.
+    // A table of no objects, as `new` returns it, or the allocator's error.
     fn with_room(alloc: A, room: usize, slots: usize, first_page: u32) -> Result<Self, AllocError>
         requires small { room ≤ 2 ^ 16 }
         requires begins { 1 ≤ first_page }
@@ -340,7 +340,7 @@ fn heal_slots(slots: &mut [Word], cells: &[Cell], forwards: &[u32], good: Colour
     }
 }
 
-// So many free cells.
+// As many free cells as `room` says.
 fn free_cells<A: Allocator>(alloc: A, room: usize) -> Result<Vec<Cell, A>, AllocError>
     ensures { IfOk result (λ v. v.items ≡ replicate room None) }
 {
@@ -362,7 +362,7 @@ fn no_moves<A: Allocator>(alloc: A, count: usize) -> Result<Vec<u32, A>, AllocEr
     Ok(forwards)
 }
 
-// So many empty slots.
+// As many empty slots as `count` says.
 fn empty_slots<A: Allocator>(alloc: A, count: usize) -> Result<Vec<Word, A>, AllocError>
     ensures { IfOk result (λ v. v.items ≡ replicate count None) }
 {

@@ -110,7 +110,7 @@ impl Word {
         u64::from(self.bits % PLACES).checked_sub(64)
     }
 
-    /// The same, and behind all places for null, so that one test serves for both.
+    /// Where its cell lies, by place, and behind all places for null, so that one test serves for both.
     #[inline(always)]
     pub fn index(self) -> usize
         ensures { IsIndexOf (place_by self) result }

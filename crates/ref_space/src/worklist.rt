@@ -15,7 +15,7 @@ use std::marker::Model;
 #[derive(Drop)]
 pub struct Worklist<A: Allocator = Global> {
     entries: Vec<Entry, A>,
-    // So many at the front were taken out. They stay until the end is reached, so that no push has to look where the
+    // How many at the front were taken out. They stay until the end is reached, so that no push has to look where the
     // list begins.
     taken: usize,
     room: usize,
@@ -81,8 +81,8 @@ impl<A: Allocator> Worklist<A> {
         }
     }
 
-    // The same where the end is reached: what was taken out makes room. It is never compiled into its caller, since the
-    // end is seldom reached.
+    // Adds an entry, last, where the vector is full: what was taken out makes room. Never compiled into its caller,
+    // since that is seldom.
     #[inline(never)]
     fn push_closed_up(&mut self, entry: Entry)
         requires { length self.old.stands < self.old.room }

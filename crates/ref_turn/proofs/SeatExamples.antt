@@ -131,6 +131,7 @@ it_ends_within_a_turn = (
 abbrev at_the_last_ticket : View ℕ ℕ ℕ
 at_the_last_ticket = record after { first = 2 ^ 64 - 3 }
 
+-- promise: Turn::finish: with all tickets ended no turn is left open
 with_no_ticket_to_come_none_is_left_open : ¬ (IsLeftOpen IsCount Counts at_the_last_ticket)
 with_no_ticket_to_come_none_is_left_open left =
     let more = starts_length left.0.seen at_the_last_ticket.seen left.1.1 in

@@ -9,6 +9,7 @@ use lib.ListN.{get_elem?}
 use mathlib.Core.Option.{some}
 
 module _ {M X S R : Type 0} (stands_for : M → X → Type 0) (steps_to : X → S → R → X → Type 0) (k : Origin M) where
+  -- promise: Turn::call, Turn::try_call: no turn ends twice
   -- two turns have ended, where one ticket was drawn
   pub no_turn_ends_twice : (s : State (Option M) (View M S R)) → s.words ≡ 2 ∷ 1 ∷ []
       → ¬ (Turned stands_for steps_to k s)
@@ -18,6 +19,7 @@ module _ {M X S R : Type 0} (stands_for : M → X → Type 0) (steps_to : X → 
   abbrev pub holder : View M S R
   holder = record (first_view k) { stage = Open; drawn = 1 }
 
+  -- promise: Turn::call, Turn::try_call: no two seats hold the turn
   -- a second seat holds the turn as well
   pub no_two_hold_the_turn : (s : State (Option M) (View M S R)) → s.views ≡ holder ∷ holder ∷ []
       → ¬ (Turned stands_for steps_to k s)
@@ -35,6 +37,7 @@ module _ {M X S R : Type 0} (stands_for : M → X → Type 0) (steps_to : X → 
   abbrev pub away : State (Option M) (View M S R)
   away = record { words = k.first ∷ (k.first + 1) ∷ []; homes = none ∷ []; views = holder ∷ [] }
 
+  -- promise: Turn::finish: while a turn is open the slot has no machine
   pub an_open_turn_has_the_machine_away : k.first + 1 < 2 ^ 64 → (Turned stands_for steps_to k away)
   an_open_turn_has_the_machine_away small = record {
     log = [];

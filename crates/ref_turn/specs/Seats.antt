@@ -10,15 +10,15 @@ module _ {S R : Type 0} where
   entry number step reply = record { by = number; step = step; reply = reply }
 
 module _ {M S R : Type 0} where
-  -- the same seat of the same turn
+  -- both views are of one seat of one turn
   abbrev pub IsSame : View M S R → View M S R → Type 0
   IsSame v w = (w.number ≡ v.number) × (w.first ≡ v.first) × (w.start ≡ v.start)
 
-  -- it has seen at least as much, and made no call
+  -- the seat has seen at least as much, and made no call
   abbrev pub Longer : View M S R → View M S R → Type 0
   Longer v w = IsSame v w × StartsWith w.seen v.seen × (w.mine ≡ v.mine)
 
-  -- it has seen at least as much and then its one new call, which is the last of its own
+  -- the seat has seen at least as much and then its one new call, which is the last of its own
   abbrev pub Extends : View M S R → Entry S R → View M S R → Type 0
   Extends v e w =
       IsSame v w
@@ -39,7 +39,7 @@ module _ {M S R : Type 0} where
       × Reaches stands_for steps_to v.start log m
       × (v.first + length log < 2 ^ 64)
 
-  -- it looked at the ended turns in this call, and more tickets were drawn than turns had ended, but not the last
+  -- the seat looked at the ended turns in this call, and more tickets were drawn than turns had ended, but not the last
   abbrev pub SawBusy : View M S R → View M S R → Type 0
   SawBusy v w = (v.looks < w.looks) × (w.first + length w.seen < w.drawn) × (w.drawn < 2 ^ 64 - 1)
 

@@ -22,15 +22,15 @@ module _ {M S R : Type 0} where
   abbrev pub IsSamePlace : Seat (Option M) (View M S R) → Seat (Option M) (View M S R) → Type 0
   IsSamePlace p q = (q.table_id ≡ p.table_id) × (q.id ≡ p.id)
 
-  -- it holds no turn
+  -- the seat holds no turn
   abbrev pub IsIdle : Me (Option M) (View M S R) → Type 0
   IsIdle me = (me.0.stage ≡ Idle) × (me.1 ≡ [])
 
-  -- it holds the turn and a machine
+  -- the seat holds the turn and a machine
   abbrev pub HoldsMachine : Me (Option M) (View M S R) → M → Type 0
   HoldsMachine me m = (me.0.stage ≡ Open) × (me.1 ≡ (0, Some m) ∷ [])
 
-  -- it holds the turn, has seen the whole history, and the machine is in a state after that
+  -- the seat holds the turn, has seen the whole history, and the machine is in a state after that
   abbrev pub HoldsTurn : {X : Type 0} → (M → X → Type 0) → (X → S → R → X → Type 0) → Me (Option M) (View M S R)
       → Type 0
   HoldsTurn stands_for steps_to me =

@@ -12,13 +12,13 @@ pub struct Entry<S, R> {
 
 /// Where a seat stands.
 pub enum Stage<S, R> {
-    /// It was cut off another seat, and its number isn't known yet.
+    /// The seat was cut off another, and its number isn't known yet.
     Fresh,
-    /// It holds no turn.
+    /// The seat holds no turn.
     Idle,
-    /// It holds the turn.
+    /// The seat holds the turn.
     Open,
-    /// It took in a seat of this number, which had seen and made these entries.
+    /// The seat took in another of this number, which had seen and made these entries.
     Met(u64, LinkedList<Entry<S, R>>, LinkedList<Entry<S, R>>),
     /// Another seat took it in.
     Spent,
@@ -31,8 +31,9 @@ pub struct Origin<M> {
     pub start: Snapshot<Option<M>>,
 }
 
-/// What a seat knows: how its turn began, where it stands, its number, the history that it has seen, its own entries in
-/// that, a number that the tickets have reached, and how often it has looked at the count of ended turns.
+/// What a seat knows: how its turn began, where it stands, its number, the history that it has seen, and its own
+/// entries in that. Beside that it knows a number that the tickets have reached, and how often it has looked at the
+/// count of ended turns.
 pub struct View<M, S, R> {
     pub first: u64,
     pub start: Option<M>,

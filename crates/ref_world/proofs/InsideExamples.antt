@@ -19,6 +19,7 @@ a_close_leaves_the_heap c m q reply = refl
 no_rows_do_nothing : (c : Core) → DoesEach c [] c
 no_rows_do_nothing c = refl
 
+-- promise: World::step: moves end where none is left to move
 -- moves end where nothing is left to move
 moves_end_where_none_is_left : (c d : Core) → (cycles_of c.heap).phase ≡ Moving
     → (cycles_of c.heap).space.still_to_move ≡ []

@@ -28,7 +28,7 @@ abbrev pub IsRowOf : Core → Step → Reply → Core → Type 0
 IsRowOf old step reply new =
     (a : State) → Stands old a → (b : State) × IsRow a (record { step = step; reply = reply }) b × Stands new b
 
--- the same of a call that does the step, or refuses it
+-- the step, accepted or refused as the result says, is one row of the abstract collector
 abbrev pub Does : Core → Step → Result Reply Fault → Core → Type 0
 Does old step (Ok reply) new = IsRowOf old step reply new
 Does old step (Err fault) new = IsRowOf old step (Refused fault) new

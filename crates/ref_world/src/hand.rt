@@ -74,7 +74,7 @@ impl<A: Allocator + Copy> Hand<A> {
         }
     }
 
-    // This comes in front of what it holds.
+    // The notice comes in front of what the hand holds.
     pub(crate) fn put_back(&mut self, notice: WorldNotice)
         requires { length self.old < 32 }
         ensures { self.new ≡ notice ∷ self.old }

@@ -228,7 +228,7 @@ fn with_passage<A: Allocator + Copy>(
     }
 }
 
-// So many empty hands: NoMemory.
+// As many empty hands as `count` says. The one error is `NoMemory`.
 fn empty_hands<A: Allocator + Copy>(alloc: A, count: usize) -> Result<Vec<Hand<A>, A>, Fault>
     ensures ok { IfOk result (λ hands. hands.items ≡ replicate count []) }
     ensures err { OnErr result (result ≡ Err Fault.NoMemory) }

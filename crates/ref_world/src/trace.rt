@@ -27,8 +27,8 @@ pub struct Trace<A: Allocator = Global> {
 /// step was done then, and world and steps come back. Takes that room at once, and else what the puts take.
 ///
 /// Of a new world the rows are a legal trace, and what was taken from a queue, followed by what stands in it, is what
-/// was put in, in each worker's clearing order; a reference is put in at most once, only into its own queue, after its
-/// own enqueue call or after a mark ended with its referent outside every kept path; and nothing is put in after close.
+/// was put in, in each worker's clearing order. A reference is put in at most once, only into its own queue, after its
+/// own enqueue call or after a mark ended with its referent outside every kept path. Nothing is put in after close.
 pub fn run<A: Allocator + Copy>(
     alloc: A,
     world: World<A>,

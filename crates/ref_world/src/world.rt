@@ -110,7 +110,7 @@ impl<A: Allocator + Copy> World<A> {
     }
 }
 
-// So many open queues into which nothing was put.
+// As many open queues as `count` says, numbered from 0 on, into which nothing was put.
 fn empty_queues<A: Allocator + Copy>(
     alloc: A,
     count: u32,

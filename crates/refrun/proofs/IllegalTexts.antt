@@ -20,6 +20,7 @@ use Rattle.refrun.specs.declared.script_step.ScriptStep.TheVariants as steps
 
 -- ---- the text of a trace
 
+-- promise: run_script: the first row has number 1
 -- rows are numbered from 1
 the_first_row_has_number_1 : (row : ScriptRow) (rows : List ScriptRow)
     → take 13 (trace_text Fixed (row ∷ rows)) ≡ codes "reftrace 1" ++ 10 ∷ codes "1 "
@@ -30,6 +31,7 @@ the_version_is_not_1 : (rows : List ScriptRow) → ¬ (take 10 (trace_text Scale
 the_version_is_not_1 rows same =
     let last : 50 ≡ 49 = ap (λ (l : List ℕ). get_or l 9 0) same in absurd (omega (arith, last))
 
+-- promise: run_script: slots are read in their order
 -- `m0 copy s1 s0` is no copy into slot 0
 slots_exchanged_are_not_spelt :
     ¬ (SpellsScriptStep (words_of (codes "m0 copy s1 s0")) (steps.World (world.Plain (Copy 0 0 1))))
@@ -95,12 +97,15 @@ module _ {J : Type 0} (number note : J → ℕ) where
       → IsScriptRun number note referred jobs rows end last
   referred_by jobs last rows end run = grind arith
 
+  -- promise: run_script: no step is refused without cause
   refused_without_cause_is_no_trace : (jobs : List J) → ¬ (IsScriptTrace number note config jobs refused_without_cause)
   refused_without_cause_is_no_trace jobs trace = let answer = trace.2.2.0.1.0 in absurd cc
 
+  -- promise: run_script: NoCell comes where no cell is left
   no_cell_too_early_is_no_trace : (jobs : List J) → ¬ (IsScriptTrace number note config jobs no_cell_too_early)
   no_cell_too_early_is_no_trace jobs trace = grind arith
 
+  -- promise: run_script: no job is run that was not registered
   ran_unregistered_is_no_trace : (jobs : List J) → ¬ (IsScriptTrace number note config jobs ran_unregistered)
   ran_unregistered_is_no_trace jobs trace = grind arith
 
@@ -112,6 +117,7 @@ module _ {J : Type 0} (number note : J → ℕ) where
   told_another : (job given : J) → number job ≡ 3 → Some (entry given) ≡ Some (entry job) → 2 ≡ number given → ⊥
   told_another job given is_3 same told = grind arith
 
+  -- promise: run_script: no other reference's job is run
   ran_another_is_no_trace : (jobs : List J) → ¬ (IsScriptTrace number note config jobs ran_another)
   ran_another_is_no_trace jobs trace = grind arith
 
@@ -141,6 +147,7 @@ a_lone_object : (listed : List ObjectReach) → map (λ l. l.object) listed ≡ 
 a_lone_object [] same = absurd cc
 a_lone_object (l ∷ listed) same = let first : l.object ≡ 5 = cc in rw (first, decimal_digit 5 (omega arith)) refl
 
+-- promise: strength_text: an object is listed by its number
 an_object_is_listed_by_its_number : (printed : List ℕ)
     → PrintsStrengths (codes "refgraph 1" ++ 10 ∷ codes "plain 5") printed → take 2 printed ≡ codes "5 "
 unfolding lone_object
@@ -148,10 +155,12 @@ an_object_is_listed_by_its_number printed prints = grind (arith, a_lone_object)
 
 -- ---- lists
 
+-- promise: check_lists: what was taken in another order does not pass
 -- a poller that took 3 before 2 doesn't pass where 2 was put in before 3
 another_order_does_not_pass : ¬ (IsFirstFailure (2 ∷ 3 ∷ []) (2 ∷ 3 ∷ []) [] ((3 ∷ 2 ∷ []) ∷ []) [] [] None)
 another_order_does_not_pass passes = let in_order = passes.1 0 [] (omega arith) in absurd cc
 
+-- promise: check_lists: a kept reference that was not put in does not pass
 -- no report of 5, which the second mutator kept
 a_missing_report_does_not_pass : ¬ (IsFirstFailure (2 ∷ 3 ∷ []) (2 ∷ 3 ∷ []) [] ((2 ∷ 3 ∷ []) ∷ [])
     ((2 ∷ []) ∷ (5 ∷ []) ∷ []) [] None)

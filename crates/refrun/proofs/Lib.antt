@@ -25,4 +25,4 @@ pub mod NoEvidence
 pub mod Reports
 pub mod SeatLists
 mod ScriptExamples
-mod StressJobs
+mod JobExamples

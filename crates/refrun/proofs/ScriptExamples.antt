@@ -118,5 +118,6 @@ a_missing_report_is_shown = (
   λ among. true≢false (sym (contained (2 ∷ 3 ∷ []) 5 among)),
 )
 
+-- promise: evidence_of: what was put in is not shown as missing
 what_was_put_in_is_not_missing : ¬ (ShowsReports (λ ns. ns) (2 ∷ 3 ∷ []) kept (NoReport 2))
 what_was_put_in_is_not_missing shows = shows.4 (0, omega arith, refl)

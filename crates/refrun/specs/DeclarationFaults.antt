@@ -47,7 +47,7 @@ words_fault least more words =
     (if not (are_operands (take (least + more) words)) then Some BadWord else
     (if nat_lt (least + more) (length words) then Some ExtraWord else None))
 
--- the same where the name may be none
+-- the fault of the words behind a name, by how many the name wants: UnknownLine where no line has that name
 abbrev pub wanted_fault : Option Wanted → List (List ℕ) → Option LineFault
 wanted_fault None words = Some UnknownLine
 wanted_fault (Some wanted) words = words_fault wanted.least wanted.more words

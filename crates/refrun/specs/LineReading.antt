@@ -41,7 +41,7 @@ pub record ReadsLine (before : LinesLeft) (content : List ℕ) (after : LinesLef
   pub plain : plain_fault line ≡ None
   pub content_is : content ≡ content_of line
 
--- the same, if there was one
+-- the next line was read, as `ReadsLine` says, if there was one
 abbrev pub ReadsAny : LinesLeft → Option (Bor (List ℕ)) → LinesLeft → Type 0
 ReadsAny before None after = (before.lines ≡ []) × (after ≡ before)
 ReadsAny before (Some content) after = ReadsLine before content.now after

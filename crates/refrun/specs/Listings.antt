@@ -24,7 +24,7 @@ pub record ListsStrengths (graph : Graph) (printed : List ℕ) : Type 0 where
   pub strengths : AreStrengths graph listed
   pub is_text : printed ≡ listing_text listed
 
--- the same, of the graph that the text declares
+-- what is printed is the listing of the strengths of the graph that the text declares
 pub record PrintsStrengths (text printed : List ℕ) : Type 0 where
   pub graph : Graph
   pub declares : DeclaresGraph text graph

@@ -55,7 +55,8 @@ module _ {J : Type 0} (number : J → ℕ) where
       × Registers old.table object tt job (Err (fault, tt, job)) new.table
   RegistersStageJob object n old reply new = ⊥
 
-  -- the same by why the slot has no reference, if it hasn't, and by what the slot holds
+  -- When a `job` of the reference in a slot is answered so, by why the slot has no reference, if it hasn't, and by what
+  -- the slot holds.
   abbrev pub RegistersIn : Option Fault → Option ℕ → ℕ → StageJobs J → ScriptReply → StageJobs J → Type 0
   RegistersIn (Some fault) held n old reply new = (reply ≡ replies.World (Refused fault)) × (new ≡ old)
   RegistersIn None None n old reply new = ⊥
@@ -73,7 +74,8 @@ module _ {J : Type 0} (number note : J → ℕ) where
       × IsRow a (record { step = Plain (Clear m s); reply = Done }) b
   RunsJob object m s a old reply b new = ⊥
 
-  -- the same by why the slot has no reference, if it hasn't, and by what the slot holds
+  -- When a `run` of the reference in a slot is answered so, by why the slot has no reference, if it hasn't, and by what
+  -- the slot holds.
   abbrev pub RunsIn : Option Fault → Option ℕ → ℕ → ℕ → State → StageJobs J → ScriptReply → State → StageJobs J → Type 0
   RunsIn (Some fault) held m s a old reply b new =
       (reply ≡ replies.World (Refused fault)) × (b ≡ a) × (new ≡ old)

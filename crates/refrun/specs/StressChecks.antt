@@ -25,7 +25,7 @@ PutInAll enqueued kept = (n : ℕ) → has (concat kept) n ≡ true → has enqu
 abbrev pub ran_well : JobFate → Bool
 ran_well f = (f.runs == (if f.is_due then 1 else 0)) && not f.is_early
 
--- so did each job
+-- each job ran as it was to
 abbrev pub RanWell : List JobFate → Type 0
 RanWell fates = All (λ f. ran_well f ≡ true) fates
 

@@ -7,7 +7,7 @@ ghost use Rattle.ref_base.specs.CollectorRows.{is_subsequence};
 ghost use Rattle.ref_base.specs.Members.{has};
 ghost use Rattle.refrun.specs.StressChecks.{Passes, GivesEachOnce, RanWell, ran_well};
 ghost use Rattle.refrun.specs.StressEvidence.{before_place, IsEvidence, ShowsTwice, ShowsOrder, ShowsTotal};
-ghost use Rattle.refrun.specs.StressEvidence.{ShowsAgain, ShowsRest, ShowsReports, ShowsJob, ShowsJobs};
+ghost use Rattle.refrun.specs.StressEvidence.{ShowsAgain, ShowsRest, ShowsReports, ShowsJobs, IsWrong};
 
 use crate::lists::{Check, is_in_order};
 use crate::outcomes::JobFate;
@@ -59,19 +59,22 @@ pub enum Evidence {
     NoReport {
         number: ObjNo,
     },
-    /// Of `jobs`: the job was to run, and ran so often in the place of once.
-    JobRuns {
+    /// Of `jobs`: what is wrong with how the job ran.
+    Job {
         job: usize,
-        runs: u32,
+        wrong: WrongRun,
     },
-    /// Of `jobs`: the job began while its object lived.
-    JobEarly {
-        job: usize,
-    },
-    /// Of `jobs`: the job was not to run, and ran.
-    JobUnasked {
-        job: usize,
-    },
+}
+
+/// What is wrong with how a job ran. It prints behind the job's number.
+#[derive(Clone, Copy, Debug, PartialEq, Eq)]
+pub enum WrongRun {
+    /// The job was to run, and ran so often in the place of once.
+    Runs(u32),
+    /// The job began while its object lived.
+    Early,
+    /// The job was not to run, and ran.
+    Unasked,
 }
 
 impl fmt::Display for Evidence {
@@ -86,10 +89,7 @@ impl fmt::Display for Evidence {
                 poller,
                 before,
                 number,
-            } => match before {
-                Some(before) => write!(f, "poller {poller} took {number} behind {before}"),
-                None => write!(f, "poller {poller} took {number} first"),
-            },
+            } => write!(f, "poller {poller} took {number} {}", Behind(before)),
             Evidence::NotGiven { poller, number } => {
                 write!(
                     f,
@@ -113,10 +113,31 @@ impl fmt::Display for Evidence {
                 Told(taken)
             ),
             Evidence::NoReport { number } => write!(f, "no report of {number}"),
-            Evidence::JobRuns { job, runs: 0 } => write!(f, "job {job} never ran"),
-            Evidence::JobRuns { job, runs } => write!(f, "job {job} ran {runs} times"),
-            Evidence::JobEarly { job } => write!(f, "job {job} ran while its object lived"),
-            Evidence::JobUnasked { job } => write!(f, "job {job} ran, and was not to"),
+            Evidence::Job { job, wrong } => write!(f, "job {job} {wrong}"),
+        }
+    }
+}
+
+impl fmt::Display for WrongRun {
+    fn fmt<W: fmt::Write>(&self, f: &mut fmt::Formatter<W>) -> fmt::Result {
+        match *self {
+            WrongRun::Runs(0) => f.write_str("never ran"),
+            WrongRun::Runs(runs) => write!(f, "ran {runs} times"),
+            WrongRun::Early => f.write_str("ran while its object lived"),
+            WrongRun::Unasked => f.write_str("ran, and was not to"),
+        }
+    }
+}
+
+/// Behind which number another was taken, or that it was the first.
+#[derive(Clone, Copy)]
+struct Behind(Option<ObjNo>);
+
+impl fmt::Display for Behind {
+    fn fmt<W: fmt::Write>(&self, f: &mut fmt::Formatter<W>) -> fmt::Result {
+        match self.0 {
+            Some(number) => write!(f, "behind {number}"),
+            None => f.write_str("first"),
         }
     }
 }
@@ -384,26 +405,25 @@ fn not_well(jobs: &[JobFate]) -> Option<Evidence>
     ensures passes { IfNone result (RanWell jobs.now) }
 {
     for job in 0..jobs.len() {
-        let shown = wrong_of(job, jobs[job]);
-        if shown.is_some() {
-            return shown;
+        if let Some(wrong) = wrong_of(jobs[job]) {
+            return Some(Evidence::Job { job, wrong });
         }
     }
     None
 }
 
-/// What is wrong with how this job ran.
-fn wrong_of(job: usize, fate: JobFate) -> Option<Evidence>
-    ensures shows { IfSome result (ShowsJob job fate) }
+/// What is wrong with how a job ran.
+fn wrong_of(fate: JobFate) -> Option<WrongRun>
+    ensures shows { IfSome result (IsWrong fate) }
     ensures passes { IfNone result (ran_well fate ≡ true) }
 {
     let runs = fate.runs;
     if fate.is_early {
-        Some(Evidence::JobEarly { job })
+        Some(WrongRun::Early)
     } else if fate.is_due && runs != 1 {
-        Some(Evidence::JobRuns { job, runs })
+        Some(WrongRun::Runs(runs))
     } else if !fate.is_due && runs != 0 {
-        Some(Evidence::JobUnasked { job })
+        Some(WrongRun::Unasked)
     } else {
         None
     }

@@ -27,7 +27,7 @@ mod told;
 mod trace;
 mod version;
 
-pub use evidence::{Evidence, evidence_of};
+pub use evidence::{Evidence, WrongRun, evidence_of};
 pub use listing::strength_text;
 pub use lists::{Check, check_lists};
 pub use outcomes::JobFate;

@@ -18,15 +18,15 @@ use std::alloc::{AllocError, Allocator};
 use std::fmt;
 use std::fmt::Formatter;
 
-/// As many bytes as few lines are longer than.
+/// How many bytes are taken for a line at first: few lines are longer.
 const LINE_TEXT: usize = 20;
 
 /// Reads a graph text, and writes how strongly each of its objects is reachable.
 ///
-/// The whole text is read and all the output is made before anything is written. The answer is `Ok` where the output
-/// has gone out, and else the first of: `CannotRead` where a read failed; `TooLong`, or the fault of the first faulty
-/// line; `CannotWrite` where a write failed, and then a prefix of the output may have gone out. `NoMemory` may come in
-/// place of each but the last.
+/// The whole text is read and all the output is made before anything is written. Returns `Ok` where the output has gone
+/// out, and else the first of three: `CannotRead` where a read failed; `TooLong`, or the fault of the first faulty
+/// line; `CannotWrite` where a write failed. With the last a prefix of the output may have gone out, and `NoMemory` may
+/// come in place of each other.
 ///
 /// All its memory is of this allocator.
 pub fn strength_text<R: TextSource, W: TextSink, A: Allocator + Copy>(

@@ -64,7 +64,7 @@ impl Outcome {
 }
 
 impl Outcomes {
-    /// So many jobs, of which nothing was noted. All its memory is taken here.
+    /// Jobs of this count, of which nothing was noted. All its memory is taken here.
     pub(crate) fn new(alloc: Global, jobs: usize) -> Result<Self, AllocError> {
         let mut outcomes = Vec::new(alloc);
         for _ in 0..jobs {

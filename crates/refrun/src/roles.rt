@@ -531,8 +531,8 @@ impl<'a> Station<'a> {
     }
 
     /// Takes what was put in until the queue is closed and nothing stands, and notes its numbers. Each object is
-    /// adopted and let go. Once no worker runs, the first poller that waits in vain closes the queue. Behind each poll it
-    /// runs the jobs of what is gone.
+    /// adopted and let go. Once no worker runs, the first poller that waits in vain closes the queue. Behind each poll
+    /// it runs the jobs of what is gone.
     pub(crate) fn poll<R: Wait>(
         &mut self,
         rt: &R,

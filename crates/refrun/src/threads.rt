@@ -149,7 +149,7 @@ pub fn stress<R: Threads + Wait + Sync>(
 ///
 /// Mutators make references of each strength, enqueue every other one, and keep some to the end; workers run the
 /// collector and hand on what it cleared; pollers take what arrives. When the mutators have ended the workers bring the
-/// cycle to its end and one more behind it, so that each reference that was kept is reported; then they end, the queue
+/// cycle to its end and one more behind it, so that each reference that was kept is reported. Then they end, the queue
 /// is closed, and the pollers take what is left. The tally says meanwhile how far the run is, and can stop the
 /// mutators.
 ///

@@ -26,16 +26,16 @@ use std::alloc::{AllocError, Allocator};
 use std::fmt;
 use std::fmt::Formatter;
 
-/// As many bytes as few rows are longer than.
+/// How many bytes are taken for a row at first: few rows are longer.
 const ROW_TEXT: usize = 40;
 
 /// Reads a script, runs it with these jobs, and writes its trace.
 ///
-/// The whole text is read before the first step runs, and the whole trace is made before anything of it is written. The
-/// answer is `Ok` where the trace has gone out, and else the first of: `CannotRead` where a read failed; `TooLong`, or
-/// the fault of the first faulty line; `CannotWrite` where a write failed, and then a prefix of the trace may have gone
-/// out. `NoMemory` may come in place of each but the last. A growth that is refused inside a put or a `job` is a row of
-/// the trace, and the script goes on.
+/// The whole text is read before the first step runs, and the whole trace is made before anything of it is written.
+/// Returns `Ok` where the trace has gone out, and else the first of three: `CannotRead` where a read failed; `TooLong`,
+/// or the fault of the first faulty line; `CannotWrite` where a write failed. With the last a prefix of the trace may
+/// have gone out, and `NoMemory` may come in place of each other. A growth that is refused inside a put or a `job` is a
+/// row of the trace, and the script goes on.
 ///
 /// A `job` names a job by its number, so no two should have the same. The jobs are spent: one that no `run` took is
 /// dropped without being run.

@@ -5,8 +5,8 @@
 //! - a faulty text prints nothing, and is answered on standard error by the line in `NAME.err`, with status 3.
 //!
 //! It prints a line for each text, in the order of the names, and last how many there are. A text whose answer is
-//! another, one that has none of these files or two, and a file that is beside no text get a line that says so, and
-//! then the exit status is 1. `README.md` and files without an ending are left alone.
+//! another gets a line that says so. So does a text that has none of these files or two, and a file that is beside no
+//! text. Then the exit status is 1. `README.md` and files without an ending are left alone.
 #![tactic(auto)]
 
 ghost use Rattle.std.specs.Prelude.{◌≡◌, ◌<◌, ◌+◌};

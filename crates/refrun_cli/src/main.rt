@@ -1,5 +1,5 @@
-//! The program `refrun`. `refrun run` reads a script on standard input and prints its trace on standard output;
-//! `refrun strength` reads a graph text and prints how strongly each of its objects is reachable; `refrun stress` runs
+//! The program `refrun`. Its `refrun run` reads a script on standard input and prints its trace on standard output.
+//! `refrun strength` reads a graph text and prints how strongly each of its objects is reachable. `refrun stress` runs
 //! threads over one heap and one queue, and checks the queue's lists. What it says on standard error begins with
 //! `refrun: `, but for what `clap` says of a wrong command line. Exit statuses: 0 done, 2 a wrong command line, 3 a
 //! fault of the text or of reading and writing, 4 a check of stress that failed, 5 no memory.

@@ -1,6 +1,6 @@
-//! The tests of what no text in a file can show: what is printed of numbers, faults, strengths, steps, replies and
-//! rows; each line of a step; readers, writers and memory that fail, at each call in turn; texts and lines as long as
-//! they may be, and bytes that are no letters; the checks of lists; stress.
+//! The tests of what no text in a file can show. Some are of what is printed of numbers, faults, strengths, steps,
+//! replies and rows, of each line of a step, of the checks of lists, and of stress. In others readers, writers and
+//! memory fail, at each call in turn, or texts and lines are as long as they may be, or have bytes that are no letters.
 //!
 //! Scripts with their traces and graph texts with their listings are files of the program `refrun_cases`. Here stand a
 //! few for the loops over what fails, and tables of those whose bytes an editor would not show.

@@ -15,6 +15,7 @@ use refrun::{
 use std::alloc::Global;
 use std::io::{self, ErrorKind, Read, Write};
 
+// promise: run_script: ExtraWord with its line, and nothing is printed
 /// A word behind the last operand is told of, and nothing is printed.
 pub fn an_extra_word_is_told<W: TextSink>(alloc: Global, writer: &mut W) -> Result<(), TextFault>
     ensures told { TellsFault (Line 3 ExtraWord) result }
@@ -24,6 +25,7 @@ pub fn an_extra_word_is_told<W: TextSink>(alloc: Global, writer: &mut W) -> Resu
     run_script(alloc, &mut FromReader::new(script), writer, Vec::new(alloc))
 }
 
+// promise: run_script: NotAscii with its line, in a remark too, and nothing is printed
 /// A byte above 127 is told, in a remark too.
 pub fn a_byte_above_127_is_told<W: TextSink>(alloc: Global, writer: &mut W) -> Result<(), TextFault>
     ensures told { TellsFault (Line 3 NotAscii) result }
@@ -33,6 +35,7 @@ pub fn a_byte_above_127_is_told<W: TextSink>(alloc: Global, writer: &mut W) -> R
     run_script(alloc, &mut FromReader::new(script), writer, Vec::new(alloc))
 }
 
+// promise: strength_text: MissingWord with its line, and nothing is listed
 /// Of a graph text a line that wants a word is told of, and nothing is listed.
 pub fn a_missing_word_is_told<W: TextSink>(alloc: Global, writer: &mut W) -> Result<(), TextFault>
     ensures told { TellsFault (Line 3 MissingWord) result }
@@ -58,6 +61,7 @@ impl Write for Full {
     }
 }
 
+// promise: ToWriter::write_text: a writer that takes nothing is a failure
 /// Nothing goes out to a writer that takes nothing.
 pub fn a_full_writer_fails() -> bool
     ensures { result ≡ true }
@@ -65,6 +69,7 @@ pub fn a_full_writer_fails() -> bool
     ToWriter::new(Full).write_text(b"x".as_slice()).is_err()
 }
 
+// promise: FromReader::read: a read that failed is marked
 /// A read that failed is marked.
 pub fn a_failed_read_is_marked<R: Read>(source: &mut FromReader<R>) -> bool
     ensures { result ≡ true → ⟦<FromReader<R> as TextSource>⟧.has_failed source.new ≡ true }
@@ -73,6 +78,7 @@ pub fn a_failed_read_is_marked<R: Read>(source: &mut FromReader<R>) -> bool
     matches!(source.read(buffer.as_mut_slice()), Err(ReadError::Failed))
 }
 
+// promise: evidence_of: where the rest check fails something is told
 /// Where a number stands, something is told that shows it.
 pub fn what_stands_is_told(number: ObjNo, lists: &[Vec<ObjNo>]) -> bool
     ensures { result ≡ true }

@@ -8,6 +8,6 @@ use Rattle.thread_examples.specs.declared.runtime.heap_user.HeapUser.{HeapUser}
 abbrev pub IsUser : HeapUser → Type 0
 IsUser u = IsHeapSeat u.heap.now u.seat
 
--- so, and the queues' seats are those of the queues
+-- the heap's seat is one of the heap, and the queues' seats are those of the queues
 abbrev pub IsCollector : Collector → Type 0
 IsCollector c = IsUser c.user × AreSeats c.queues.now c.seats

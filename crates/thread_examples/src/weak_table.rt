@@ -1,6 +1,6 @@
 //! A table with weak values, as caches and canonical maps are: once nothing else refers to a value, its entry goes.
 //!
-//! Four threads share a heap: the program makes values and lets some go, the collector runs cycles, and two cleaners,
+//! Four threads share a heap. The program makes values and lets some go, and the collector runs cycles. Two cleaners,
 //! each with a queue of its own, take what that reports and remove the entries of what died. It prints the same in
 //! every run.
 
@@ -140,8 +140,8 @@ fn work<R: Threads + Wait + Sync>(
     )
 }
 
-/// Makes a value for each key, and a weak reference to it with its entry: that of the lower half of the keys is
-/// reported by the first queue, and that of the others by the second. Then it lets the values of odd keys go.
+/// Makes a value for each key, and a weak reference to it with its entry. The references of the lower half of the keys
+/// are reported by the first queue, and those of the others by the second. Then it lets the values of odd keys go.
 fn fill<R: Wait>(rt: &R, program: HeapUser, table: &Table) -> Result<(), Fault>
     requires { IsUser program }
 {

@@ -192,8 +192,8 @@ fn taken_by(alloc: Global, workers: u32) -> Result<usize, Fail> {
 
 #[test]
 fn a_heap_takes_5_920_bytes_a_page_16_a_cell_and_16_a_worker(rt: HostRuntime) -> Result<(), Fail> {
-    // Twice as many pages as its cells fill, of which each has 80, 8 and 4 bytes for each of its 64 cells, and 32; and
-    // the grey and the condemned list, of 8 bytes a cell.
+    // Twice as many pages as its cells fill, each with 80, 8 and 4 bytes for each of its 64 cells, and with 32. Beside
+    // them are the grey and the condemned list, of 8 bytes a cell.
     let pages = 128 * (64 * (80 + 8 + 4) + 32);
     let lists = 4_096 * (8 + 8);
     // Beside them are the 16 slots of one mutator.

@@ -1,5 +1,5 @@
 //! Moves between cycles, by the words that fields hold. The word of cell c of the page at address p is 64 * p + c and
-//! 2^62 times the number of its colour: 1 is A, that of the first cycle, and 3 is R, that of moves.
+//! 2^62 times the number of its colour. Colour 1 is A, that of the first cycle, and 3 is R, that of moves.
 
 use super::Ask::{InPhase, SlotOf, WordAt, WordOfReferent};
 use super::Call::{Ask, Collect, Keep, Mutate};

@@ -8,6 +8,7 @@ use ref_queue::CleanTable;
 use std::alloc::Global;
 use std::process::Abort;
 
+// promise: CleanTable::register, CleanTable::close: a closed table takes no job while one stands in it
 /// A closed table takes no job, also while one stands in it.
 fn a_closed_table_registers_nothing(table: &mut CleanTable<u64, u64>) -> bool
     ensures { result ≡ true }
@@ -20,6 +21,7 @@ fn a_closed_table_registers_nothing(table: &mut CleanTable<u64, u64>) -> bool
     }
 }
 
+// promise: CleanTable::register: a second job of an object doesn't take the first one's place
 /// A second job of an object is refused, and the first stays.
 fn a_registered_job_stays(table: &mut CleanTable<u64, u64>) -> bool
     requires { table.old ≡ new_registry }
@@ -35,6 +37,7 @@ fn a_registered_job_stays(table: &mut CleanTable<u64, u64>) -> bool
     }
 }
 
+// promise: CleanTable::take, CleanTable::close: a closed table gives out what it has
 /// A closed table still gives out what it has.
 fn a_closed_table_gives_its_jobs(table: &mut CleanTable<u64, u64>) -> bool
     requires { table.old ≡ new_registry }
@@ -47,6 +50,7 @@ fn a_closed_table_gives_its_jobs(table: &mut CleanTable<u64, u64>) -> bool
     table.take(ObjNo(7)).is_some()
 }
 
+// promise: CleanTable::take: no other object's job is given out
 /// Nothing is given out for an object that has no job.
 fn gives_no_other_objects_job(table: &mut CleanTable<u64, u64>) -> bool
     requires { table.old ≡ new_registry }
@@ -56,6 +60,7 @@ fn gives_no_other_objects_job(table: &mut CleanTable<u64, u64>) -> bool
     table.take(ObjNo(7)).is_none()
 }
 
+// promise: CleanTable::take_any: a job is told with its own object
 /// A job that is taken with no object named is told with its own.
 fn any_job_is_told_with_its_object(table: &mut CleanTable<u64, u64>) -> bool
     requires { table.old ≡ new_registry }

@@ -7,6 +7,7 @@ use ref_base::{Fault, ObjNo, Reach, Strength};
 use ref_graph::{Graph, strength_of};
 use std::alloc::Global;
 
+// promise: Graph::add_object: a second object of a number is told as not added
 /// An object that is there stays, and a second of its number is told so.
 fn a_second_object_is_not_added(graph: &mut Graph) -> bool
     requires { graph.old ≡ empty_graph }
@@ -21,6 +22,7 @@ fn a_second_object_is_not_added(graph: &mut Graph) -> bool
     }
 }
 
+// promise: Graph::add_reference: BadField comes first, also of a number that is there
 /// Nine fields are too many, also of an object that is there.
 fn nine_fields_are_too_many(graph: &mut Graph) -> bool
     ensures { result ≡ true }
@@ -32,6 +34,7 @@ fn nine_fields_are_too_many(graph: &mut Graph) -> bool
     }
 }
 
+// promise: Graph::add_root, strength_of: a root makes no object
 /// A root is no object by that.
 fn a_root_is_no_object(graph: &mut Graph, alloc: Global) -> bool
     requires { graph.old ≡ empty_graph }
@@ -44,6 +47,7 @@ fn a_root_is_no_object(graph: &mut Graph, alloc: Global) -> bool
     }
 }
 
+// promise: strength_of: the referent of a weak reference is weak
 /// The referent of a weak reference is weak.
 fn strength_of_a_weak_referent(graph: &mut Graph, alloc: Global) -> Reach
     requires { graph.old ≡ empty_graph }
@@ -62,6 +66,7 @@ fn strength_of_a_weak_referent(graph: &mut Graph, alloc: Global) -> Reach
     }
 }
 
+// promise: strength_of: what only an unreachable phantom reference has is unreachable
 /// The referent of a phantom reference that nothing reaches is unreachable.
 fn strength_behind_what_nothing_reaches(graph: &mut Graph, alloc: Global) -> Reach
     requires { graph.old ≡ empty_graph }

@@ -20,6 +20,7 @@ const CONFIG: Config = Config {
 
 const START: Start = Start::FIRST;
 
+// promise: Marker::get: a soft reference is stamped with the clock
 /// A get stamps the soft reference with the clock.
 fn a_get_renews_the_stamp(heap: &mut Marker) -> bool
     requires { heap.old ≡ first_cycle_heap CONFIG 1 START }
@@ -32,6 +33,7 @@ fn a_get_renews_the_stamp(heap: &mut Marker) -> bool
     heap.objects().stamp_of(ObjNo(2)) == 5
 }
 
+// promise: Marker::alloc_obj, Marker::end_mark: what is made in a mark is not doomed
 /// What is made in a mark is not doomed at its end.
 fn what_is_made_in_a_mark_survives_it(heap: &mut Marker) -> bool
     requires { heap.old ≡ first_cycle_heap CONFIG 1 START }
@@ -43,6 +45,7 @@ fn what_is_made_in_a_mark_survives_it(heap: &mut Marker) -> bool
     !heap.is_doomed(ObjNo(1))
 }
 
+// promise: Marker::hold, Marker::begin, Marker::adopt: what is held is scanned
 /// What is held is a root, and its heap takes the hold back.
 fn what_is_held_is_a_root(heap: &mut Marker) -> bool
     requires { heap.old ≡ first_cycle_heap CONFIG 1 START }
@@ -67,6 +70,7 @@ fn what_is_held_is_a_root(heap: &mut Marker) -> bool
     }
 }
 
+// promise: Marker::refers_to, Marker::clear, Marker::free: doomed is null at once, and left to the worker
 /// A doomed referent reads as null, its reference is not cleared by a mutator, and nothing is freed before the sweep.
 fn a_doomed_referent_reads_as_null(heap: &mut Marker) -> bool
     requires { heap.old ≡ first_cycle_heap CONFIG 1 START }

@@ -20,6 +20,7 @@ const CONFIG: Config = Config {
 
 const START: Start = Start::FIRST;
 
+// promise: Objects::alloc_obj: the last cell is given, and numbers follow
 /// Each cell takes an object, which has the next number.
 fn each_object_has_a_cell_and_a_number(objects: &mut Objects) -> bool
     requires { objects.old ≡ first_ground CONFIG 1 START }
@@ -32,6 +33,7 @@ fn each_object_has_a_cell_and_a_number(objects: &mut Objects) -> bool
     }
 }
 
+// promise: Objects::copy: the slot that is copied keeps its object
 /// A slot that is copied still holds what it held.
 fn a_copy_is_no_move(objects: &mut Objects) -> bool
     requires { objects.old ≡ first_ground CONFIG 1 START }
@@ -45,6 +47,7 @@ fn a_copy_is_no_move(objects: &mut Objects) -> bool
     }
 }
 
+// promise: Objects::store: the field that is named is written
 /// A store writes the field that it names.
 fn a_store_writes_its_field(objects: &mut Objects) -> bool
     requires { objects.old ≡ first_ground CONFIG 1 START }
@@ -55,6 +58,7 @@ fn a_store_writes_its_field(objects: &mut Objects) -> bool
     objects.fields_of(ObjNo(1)).get(0).is_some()
 }
 
+// promise: Objects::condemn, Objects::free: what nothing refers to is listed and may be freed
 /// An object that nothing refers to is condemned, and freed as the list has it.
 fn an_object_is_freed(objects: &mut Objects, condemned: &mut Worklist) -> bool
     requires made { objects.old ≡ first_ground CONFIG 1 START }
@@ -71,6 +75,7 @@ fn an_object_is_freed(objects: &mut Objects, condemned: &mut Worklist) -> bool
     }
 }
 
+// promise: Objects::alloc_ref: the clock is the stamp, and the queue is kept
 /// A soft reference, also one with fields, is stamped with the clock and registered with its queue.
 fn a_soft_reference_has_its_stamp_and_queue(objects: &mut Objects) -> bool
     requires { objects.old ≡ first_ground CONFIG 1 START }
@@ -83,6 +88,7 @@ fn a_soft_reference_has_its_stamp_and_queue(objects: &mut Objects) -> bool
     objects.stamp_of(ObjNo(2)) == 5 && objects.queue_of(ObjNo(2)).is_some()
 }
 
+// promise: Objects::set_cleared_in, Objects::cleared_in: of no other object
 /// The cycle in which an object was cleared is told of it, and of no other.
 fn a_clear_is_told_of_its_object_alone(objects: &mut Objects) -> bool
     requires { objects.old ≡ first_ground CONFIG 1 START }
@@ -94,6 +100,7 @@ fn a_clear_is_told_of_its_object_alone(objects: &mut Objects) -> bool
     objects.cleared_in(ObjNo(1)) == 7 && objects.cleared_in(ObjNo(2)) == 0
 }
 
+// promise: Objects::set_link, Objects::link_of: of no other object
 /// The link of an object is told of it, and of no other.
 fn a_link_is_told_of_its_object_alone(objects: &mut Objects) -> bool
     requires { objects.old ≡ first_ground CONFIG 1 START }
@@ -105,6 +112,7 @@ fn a_link_is_told_of_its_object_alone(objects: &mut Objects) -> bool
     objects.link_of(ObjNo(1)) == 2 && objects.link_of(ObjNo(2)) == 0
 }
 
+// promise: Objects::linked_of: link, clear and referent are those written
 /// A list has of a reference what was written.
 fn a_list_has_what_was_written(objects: &mut Objects) -> bool
     requires { objects.old ≡ first_ground CONFIG 1 START }
@@ -123,6 +131,7 @@ fn a_list_has_what_was_written(objects: &mut Objects) -> bool
         && linked.cleared_in == 7
 }
 
+// promise: Objects::look_at: a reference to what isn't marked is cleared
 /// A look clears a reference to what isn't marked.
 fn a_look_clears(objects: &mut Objects) -> bool
     requires { objects.old ≡ first_ground CONFIG 1 START }
@@ -134,6 +143,7 @@ fn a_look_clears(objects: &mut Objects) -> bool
     look.is_cleared
 }
 
+// promise: Objects::hold, Objects::release: one hold, and none once released
 /// A hold is counted once, and no more once it is released.
 fn a_hold_is_counted_till_its_release(objects: &mut Objects) -> bool
     requires { objects.old ≡ first_ground CONFIG 1 START }
@@ -153,6 +163,7 @@ fn a_hold_is_counted_till_its_release(objects: &mut Objects) -> bool
     }
 }
 
+// promise: Objects::adopt: another heap's hold is refused and comes back
 /// A heap adopts no hold of another heap.
 fn adopts_no_hold_of_another_heap(objects: &mut Objects, hold: Hold) -> bool
     requires { hold.heap_no ≢ objects.old.heap.no }

@@ -17,6 +17,7 @@ const SECOND: Slip = Slip {
     queue: 0,
 };
 
+// promise: Queue::close: a second close tells that the queue was closed
 /// What was closed says so at the second close.
 fn closes_once(queue: &mut Queue<Slip>) -> bool
     ensures { result ≡ false }
@@ -25,6 +26,7 @@ fn closes_once(queue: &mut Queue<Slip>) -> bool
     queue.close()
 }
 
+// promise: Queue::put: a parcel of another queue is WrongQueue
 /// A parcel of queue 0 is refused by queue 1.
 fn refuses_what_is_another_queues(alloc: Global) -> bool
     ensures { result ≡ true }
@@ -38,6 +40,7 @@ fn refuses_what_is_another_queues(alloc: Global) -> bool
     is_refused
 }
 
+// promise: Queue::poll: not Empty while something stands
 /// A queue is not empty while something stands in it.
 fn gives_out_what_stands(alloc: Global) -> bool
     ensures { result ≡ true }
@@ -52,6 +55,7 @@ fn gives_out_what_stands(alloc: Global) -> bool
     }
 }
 
+// promise: Queue::end: what stands is given in order
 /// What is left at a queue's end is given in the order in which it was put in.
 fn ends_with_the_first_first(alloc: Global) -> bool
     ensures { result ≡ true }
@@ -67,6 +71,7 @@ fn ends_with_the_first_first(alloc: Global) -> bool
     }
 }
 
+// promise: Queue::enqueued, Queue::taken, Queue::stands: what was taken is in two of the lists
 /// What was taken is among all that were put in and all that were taken, and stands no more.
 fn lists_what_was_taken(alloc: Global) -> bool
     ensures { result ≡ true }

@@ -6,6 +6,7 @@ use ref_base::{Config, Fault, ObjNo, Reply, SpanRule};
 use ref_space::keeps;
 use std::alloc::Global;
 
+// promise: keeps: a stamp that lies the whole span behind the clock is kept
 /// A soft reference is kept whose stamp is the whole span before the clock.
 fn keeps_at_the_whole_span() -> bool
     ensures { result ≡ true }
@@ -13,6 +14,7 @@ fn keeps_at_the_whole_span() -> bool
     keeps(10, 0, 10)
 }
 
+// promise: Config::check: eight mutators at most
 /// No heap has nine mutators.
 fn nine_mutators_are_too_many() -> bool
     ensures { result ≡ true }
@@ -28,6 +30,7 @@ fn nine_mutators_are_too_many() -> bool
     config.check().is_err()
 }
 
+// promise: Fault::number: a fault has its own number
 /// A hand that is full has fault 23.
 fn a_full_hand_is_fault_23() -> bool
     ensures { result ≡ true }
@@ -35,6 +38,7 @@ fn a_full_hand_is_fault_23() -> bool
     Fault::HandFull.number() == 23
 }
 
+// promise: Reply::fmt: each word of a reply is printed
 /// A reply prints each of its words.
 #[tactic(auto, using(std::proofs::lemmas::Fmt::decimal_digit))]
 fn a_reply_prints_each_word(alloc: Global) -> bool

@@ -18,19 +18,22 @@ ghost use Rattle.ref_base.specs.declared.reply.Reply.{Reply};
 ghost use Rattle.ref_base.specs.declared.plain_step.PlainStep.{PlainStep};
 ghost use Rattle.ref_base.specs.declared.step.Step.{Step};
 
+// promise: ref_world::run: an object is scanned once in a cycle at most
 /// In a legal trace no object is scanned twice in a cycle.
 pub fn no_object_is_scanned_twice_in_a_cycle()
     ensures { (config : Config) (rows : List Row) → IsLegal config rows → IsDistinct nat_eq (scanned_in_cycle rows) }
 {}
 
-/// In a legal trace, where a mark's end is refused because an object is left to scan, one is: it was ever kept in the
-/// mark, it was made before the cycle began, and no row of the cycle scanned it.
+// promise: World::step: GreyLeft only where one is left to scan
+/// In a legal trace, where a mark's end is refused because an object is left to scan, one is. That object was ever kept
+/// in the mark, was made before the cycle began, and no row of the cycle scanned it.
 pub fn a_mark_goes_on_only_while_an_object_is_left()
     ensures { (config : Config) (front : List Row) (a b : State) → IsRun (first_state config) front a
         → IsRow a (record { step = Step.Plain PlainStep.EndMark; reply = Reply.Refused Fault.GreyLeft }) b
         → (n : ℕ) × IsLeft a n }
 {}
 
+// promise: World::step: all new clears at once, for good
 /// What a mark's end clears in a legal trace, it clears at one instant and for good: each new clear reads as cleared in
 /// every state from then on, or it is no longer there.
 pub fn what_a_marks_end_clears_reads_as_cleared_from_then_on()
@@ -41,6 +44,7 @@ pub fn what_a_marks_end_clears_reads_as_cleared_from_then_on()
         → referent_of (reference_at c.world.heap n) ≡ None }
 {}
 
+// promise: World::step: a new clear is never got again
 /// And no get of it answers an object from then on, whoever holds it.
 pub fn no_get_answers_what_a_marks_end_cleared()
     ensures { (config : Config) (front : List Row) (a b : State) (count : ℕ) (rows : List Row) (c : State) (n : ℕ)
@@ -50,8 +54,9 @@ pub fn no_get_answers_what_a_marks_end_cleared()
         → ¬ (IsRow c (record { step = Step.Plain (PlainStep.Get m d s); reply = Reply.Object k }) e) }
 {}
 
-/// After every legal trace, also while references are cleared and while the sweep goes on, nothing reaches what is
-/// doomed and not swept yet: no slot, hold or pending reference names it, and no other object has it as a field or as
+// promise: World::step: until it is swept, nothing else leads to what is doomed
+/// After every legal trace nothing reaches what is doomed and not swept yet, also while references are cleared and
+/// while the sweep goes on. No slot, hold or pending reference names it, and no other object has it as a field or as
 /// its referent.
 pub fn nothing_else_refers_to_the_doomed()
     ensures { (config : Config) (rows : List Row) (b : State) → IsRun (first_state config) rows b

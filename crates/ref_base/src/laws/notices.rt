@@ -22,14 +22,16 @@ ghost use Rattle.ref_base.specs.declared.reply.Reply.{Reply};
 ghost use Rattle.ref_base.specs.declared.plain_step.PlainStep.{PlainStep};
 ghost use Rattle.ref_base.specs.declared.step.Step.{Step};
 
+// promise: World::step: no reference has two queues
 /// In a legal trace a reference is registered with one queue.
 pub fn a_reference_is_registered_with_one_queue()
     ensures { (config : Config) (rows : List Row) (n q r : ℕ) → IsLegal config rows
         → is_registered rows n q ≡ true → is_registered rows n r ≡ true → q ≡ r }
 {}
 
+// promise: ref_world::run: its own queue, and a row as cause
 /// In a legal trace each notice that was put in, which is the first of the hand in the replay, comes from the rows
-/// before: one of them made its reference, registered with the notice's queue; and one is its cause.
+/// before. One of them made its reference, registered with the notice's queue, and one is its cause.
 pub fn each_notice_that_is_put_in_has_its_own_queue_and_cause()
     ensures one { (config : Config) (front back : List Row) (who : Actor) (position : ℕ)
         → IsLegal config (front ++ record { step = Step.Put who; reply = Reply.Added position } ∷ back)
@@ -40,14 +42,16 @@ pub fn each_notice_that_is_put_in_has_its_own_queue_and_cause()
         → AllByRecursion (IsProven front) (added_among (hand_of (replayed config front) who) outs.done) }
 {}
 
-/// After every legal trace each notice that is out, in a hand or in a queue, comes from the rows: one of them made its
-/// reference, registered with the notice's queue; and one is its cause, an unhook that gave a notice of the reference,
-/// or its clearing, in the cycle and by the worker that the cause names.
+// promise: World::step: so has a notice in a hand or a queue
+/// After every legal trace each notice that is out, in a hand or in a queue, comes from the rows. One of them made its
+/// reference, registered with the notice's queue, and one is its cause. That is an unhook that gave a notice of the
+/// reference, or its clearing, in the cycle and by the worker that the cause names.
 pub fn each_notice_has_its_own_queue_and_cause()
     ensures { (config : Config) (rows : List Row) (b : State) → IsRun (first_state config) rows b
         → AreProven rows b.world }
 {}
 
+// promise: World::step: so has a notice as it is given
 /// And so does each notice that a row of a legal trace gives, an unhook's or one that a worker hands on: from the rows
 /// up to that one.
 pub fn each_notice_that_is_given_has_its_own_queue_and_cause()
@@ -57,14 +61,16 @@ pub fn each_notice_that_is_given_has_its_own_queue_and_cause()
         → AllByRecursion (IsProven (front ++ record { step = step; reply = reply } ∷ [])) (told_notices reply) }
 {}
 
+// promise: ref_world::run: its referent was outside every kept path
 /// After every legal trace each notice that is out, in a hand or in a queue, and whose cause is a cycle, comes after
-/// the end of that cycle's mark: and in the world that the rows before that end give by replay, the notice's reference
-/// has a referent, an object to which no kept path leads.
+/// the end of that cycle's mark. In the world that the rows before that end give by replay, the notice's reference has
+/// a referent, an object to which no kept path leads.
 pub fn each_notice_of_a_cycle_comes_after_its_mark_ended()
     ensures { (config : Config) (rows : List Row) (b : State) → IsRun (first_state config) rows b
         → AreAfterMarks config rows b.world }
 {}
 
+// promise: World::step: a worker clears what the mark's end found
 /// And so does each row of a legal trace in which a worker clears a reference: after the end of the mark of the cycle
 /// that goes on there.
 pub fn what_a_worker_clears_was_shown_by_its_mark_end()
@@ -74,6 +80,7 @@ pub fn what_a_worker_clears_was_shown_by_its_mark_end()
         → MarkEnded config front (replayed config front).cycle n }
 {}
 
+// promise: World::step: no notice is out more often than it is held
 /// After every legal trace each notice that is out, in a hand or in a queue, is a hold that the heap counts: none is
 /// out more often than its reference is held.
 pub fn each_notice_that_is_out_is_a_counted_hold()

@@ -17,12 +17,14 @@ ghost use Rattle.ref_base.specs.declared.row.Row.{Row};
 ghost use Rattle.ref_base.specs.declared.reply.Reply.{Reply};
 ghost use Rattle.ref_base.specs.declared.step.Step.{Step};
 
+// promise: ref_world::run: taken, then standing, is put in; nothing twice; none after close
 /// In a legal trace, of each queue: what was taken, followed by what stands, is what was put in; nothing is put in
 /// twice; and nothing is put in after a close that was accepted.
 pub fn a_legal_trace_keeps_each_queue()
     ensures { (config : Config) (rows : List Row) (q : ℕ) → IsLegal config rows → KeepsQueue q rows }
 {}
 
+// promise: World::queue: the lists are those that the rows say
 /// After every legal trace the lists of each queue are those of the rows: what was taken from it and what was put in,
 /// in order, and whether it was closed.
 pub fn the_lists_of_a_queue_are_those_of_the_rows()
@@ -32,6 +34,7 @@ pub fn the_lists_of_a_queue_are_those_of_the_rows()
         × ((queue_at b.world q).closed ≡ was_closed q rows) }
 {}
 
+// promise: ref_world::run: an added notice is told how many its queue got before
 /// In a legal trace a put that was added answers how many references its queue got before, where the queue is that of
 /// the notice which is the first of the hand in the replay.
 pub fn added_answers_the_position()
@@ -45,8 +48,9 @@ pub fn added_answers_the_position()
         × (outs.before ≡ length (put_into notice.queue front)) }
 {}
 
-/// In a legal trace, of what a worker cleared, a queue gets the references in the order in which the worker cleared
-/// those that are registered with it: none comes before one that was cleared earlier, though some may never come.
+// promise: ref_world::run: in each worker's clearing order
+/// In a legal trace a queue gets what a worker cleared, of the references that are registered with it, in the order in
+/// which the worker cleared them. None comes before one that was cleared earlier, though some may never come.
 pub fn each_queue_has_a_workers_references_in_its_clearing_order()
     ensures { (config : Config) (rows : List Row) (k q : ℕ) → IsLegal config rows
         → is_subsequence (added_of config k q rows) (clearing_order rows k q) ≡ true }

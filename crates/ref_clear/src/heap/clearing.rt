@@ -12,9 +12,9 @@ use ref_objects::{Look, Reference};
 use std::alloc::Allocator;
 
 impl<A: Allocator + Copy> Heap<A> {
-    /// Looks at the first reference that this worker found, and that it didn't look at since. Where its referent is
-    /// doomed it is cleared, and goes last in the worker's pending list if it is registered with a queue; where it has
-    /// another referent it is kept; where it has none it is skipped. None where nothing is left. Tried in this order:
+    /// Looks at the first reference that this worker found, and that it didn't look at since. A reference to the doomed
+    /// is cleared, and goes last in the worker's pending list if it is registered with a queue. One that has another
+    /// referent is kept, and one that has none is skipped. None where nothing is left. Tried in this order:
     /// `NoSuchActor`, `WrongPhase`. In logarithmic time.
     pub fn clear_next(&mut self, worker: WorkerNo) -> Result<Option<Looked>, Fault>
         ensures { HeapDoes self.old (Plain (ClearNext worker)) (reply_of looked_reply result) self.new }

@@ -63,8 +63,8 @@ impl<A: Allocator + Copy> Heap<A> {
     /// out and one for each of these would be more than 2^64 - 1: then nothing is handed on. Takes no memory. In
     /// logarithmic time for each notice.
     ///
-    /// That a collector hands its queues many references at once is as in ZGC; that `max` is 1 to the room that is left
-    /// in the batch, and that all are of one queue and one cycle, is this project's profile.
+    /// That a collector hands its queues many references at once is as in ZGC. This project's profile is that `max` is
+    /// 1 to the room that is left in the batch, and that all are of one queue and one cycle.
     pub fn hand_batch<B: Allocator>(
         &mut self,
         worker: WorkerNo,
@@ -155,9 +155,9 @@ impl<A: Allocator + Copy> Heap<A> {
     }
 
     /// Clears the reference in a slot, as `clear` does, and gives its notice if it is registered with a queue, each
-    /// time that it is called (as `Reference.enqueue` of Java SE 17 begins; the rest of it is the queue's). Tried in
-    /// this order: `NoSuchActor`, `EmptySlot`, `NotAReference`; where it is registered, `NumbersSpent` where 2^64 - 1
-    /// holds are out. In logarithmic time.
+    /// time that it is called. That is how `Reference.enqueue` of Java SE 17 begins; the rest of it is the queue's.
+    /// Tried in this order: `NoSuchActor`, `EmptySlot`, `NotAReference`; where it is registered, `NumbersSpent` where
+    /// 2^64 - 1 holds are out. In logarithmic time.
     pub fn unhook(&mut self, mutator: MutNo, reference: SlotNo) -> Result<Option<Notice>, Fault>
         ensures does { HeapDoes self.old (Unhook mutator reference) (reply_of notice_reply result) self.new }
         ensures own { IfOk result (λ notice. IsOfHeap self.old.mark.heap.no notice) }

@@ -37,10 +37,10 @@ impl<A: Allocator + Copy> Marker<A> {
         Ok(self.cycle)
     }
 
-    /// Scans the first of the grey list for this worker: what its fields refer to becomes grey, in order, and so does
-    /// the referent of a soft reference that the cycle keeps; another reference whose referent is white is found by
-    /// the worker. Each word of the object has the good colour then. Answers the object, or none where the list is
-    /// empty. Tried in this order: `NoSuchActor`, `WrongPhase`. In time of its fields.
+    /// Scans the first of the grey list for this worker. What its fields refer to becomes grey, in order, and so does
+    /// the referent of a soft reference that the cycle keeps. Another reference whose referent is white is found by the
+    /// worker. Each word of the object has the good colour then. Returns the object, or none where the list is empty.
+    /// Tried in this order: `NoSuchActor`, `WrongPhase`. In time of its fields.
     #[inline(always)]
     pub fn scan(&mut self, worker: WorkerNo) -> Result<Option<ObjNo>, Fault>
         ensures { MarkerDoes self.old (Plain (Scan worker)) (reply_of scan_reply result) self.new }

@@ -177,7 +177,7 @@ impl<A: Allocator + Copy> Objects<A> {
         self.table.set_slot(place, no);
     }
 
-    // Writes this of the object of this number.
+    // Writes this change into the object of this number.
     #[inline(always)]
     fn write(&mut self, no: ObjNo, change: Change)
         ensures { self.new ≡ written self.old no change }

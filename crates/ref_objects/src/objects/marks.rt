@@ -77,10 +77,10 @@ impl<A: Allocator + Copy> Objects<A> {
         self.table.mark_in(place)
     }
 
-    /// Scans the object of this entry: marks what its fields hold, and its referent where the policy keeps that, lists
-    /// what wasn't marked before, and heals it, so that each word that it holds has the good colour. Answers whether it
-    /// is a reference to an object that isn't marked even then. Nothing changes where there is no such object. In
-    /// constant time where the object lies at the entry's place, and else by one search.
+    /// Scans the object of this entry: marks what its fields hold, and its referent where the policy keeps that, and
+    /// lists what wasn't marked before. The object is healed, so that each word that it holds has the good colour.
+    /// Returns whether it is a reference to an object that isn't marked even then. Nothing changes where there is no
+    /// such object. In constant time where the object lies at the entry's place, and else by one search.
     #[inline(always)]
     pub fn scan(&mut self, entry: Entry, policy: Policy, grey: &mut Worklist<A>) -> bool
         requires tuned { self.old.space.stage ≡ Stage.Tuned }

@@ -135,10 +135,10 @@ impl<A: Allocator + Copy> Objects<A> {
         self.table.word_at(no, field as usize)
     }
 
-    /// The word that the reference of this number has as its referent, 0 where that is null: none where there is no such
-    /// object, or it is plain. Its page and cell are those in which its referent lies, and it has the good colour where
-    /// a cycle was the last to make a colour good, and has healed the reference. Mutators never see it: it is for who
-    /// inspects a heap.
+    /// The word that the reference of this number has as its referent, 0 where that is null: none where there is no
+    /// such object, or it is plain. Its page and cell are those in which its referent lies, and it has the good colour
+    /// where a cycle was the last to make a colour good, and has healed the reference. Mutators never see it: it is for
+    /// who inspects a heap.
     pub fn word_of_referent(&self, no: ObjNo) -> Option<u64>
         ensures there { is_some result ≡ is_some (reference_at self.now.heap no) }
         ensures word { IfSome result (IsWordOfReferent self.now no) }

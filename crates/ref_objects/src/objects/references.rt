@@ -155,7 +155,8 @@ impl<A: Allocator + Copy> Objects<A> {
         self.table.refers_to_unmarked_in(place)
     }
 
-    // This soft reference, which the slot at this place holds, is stamped with the clock where it answers an object.
+    // Stamps the soft reference `no`, which the slot at this place holds, with the clock, if a get of it answers an
+    // object: that is `value`.
     #[inline(always)]
     fn renew(&mut self, place: usize, no: ObjNo, reference: Reference, value: Option<ObjNo>)
         requires place { place < length self.old.heap.slots }
@@ -187,7 +188,7 @@ impl<A: Allocator + Copy> Objects<A> {
         }
     }
 
-    // Writes this of the object of this number, which the slot at this place holds.
+    // Writes this change into the object of this number, which the slot at this place holds.
     #[inline(always)]
     fn write_in(&mut self, place: usize, no: ObjNo, change: Change)
         requires place { place < length self.old.heap.slots }

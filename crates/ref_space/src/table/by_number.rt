@@ -166,7 +166,7 @@ impl<A: Allocator + Copy> Table<A> {
         }
     }
 
-    /// Writes this of the object of this number. Nothing changes where there is none.
+    /// Writes this change into the object of this number. Nothing changes where there is none.
     #[inline(always)]
     pub fn change(&mut self, no: ObjNo, change: Change)
         ensures { self.new ≡ changed self.old no (change_of change) }
@@ -176,7 +176,8 @@ impl<A: Allocator + Copy> Table<A> {
         }
     }
 
-    /// The same, of the object of this entry. In constant time where the object lies at the entry's place.
+    /// Writes this change into the object of this entry, if there is one. In constant time where the object lies at the
+    /// entry's place.
     #[inline(always)]
     pub fn change_near(&mut self, entry: Entry, change: Change)
         ensures { self.new ≡ changed self.old entry.no (change_of change) }
@@ -197,7 +198,8 @@ impl<A: Allocator + Copy> Table<A> {
         }
     }
 
-    /// The same; and where it is a reference to an object that isn't marked, it is cleared, in this cycle.
+    /// What a list has of the object of this number, as `linked` returns it. A reference to an object that isn't marked
+    /// is cleared, in this cycle.
     #[inline(always)]
     pub fn look_at(&mut self, no: ObjNo, cycle: u64) -> Look
         ensures answer { result ≡ table_look self.old no }

@@ -223,7 +223,7 @@ impl<A: Allocator + Copy> Table<A> {
         self.read = Snapshot::of(&name);
     }
 
-    /// Writes this of the object that a word leads to. Nothing changes where there is none.
+    /// Writes this change into the object that a word leads to. Nothing changes where there is none.
     #[inline(always)]
     pub(super) fn change_by(&mut self, object: Word, change: Change)
         ensures { self.new ≡ changed_of self.old object (change_of change) }

@@ -100,7 +100,8 @@ impl<A: Allocator + Copy> Table<A> {
         value.in_colour(self.round.good)
     }
 
-    // The same where pages are chosen. Few loads are made then, so it stands apart, and each other load stays short.
+    // What `bring` does where pages are chosen. Few loads are made then, so this code stands apart, and that of each
+    // other load stays short.
     #[cold]
     fn bring_chosen(&mut self, value: Word) -> Word
         requires { HasTarget self.old value }

@@ -72,8 +72,8 @@ impl<A: Allocator + Copy> Table<A> {
         }
     }
 
-    /// So does its referent, where it is a reference that the policy keeps. Whether it is one to an object that isn't
-    /// marked even then.
+    /// The object's referent becomes grey, if the policy keeps it: it is marked, and listed where it wasn't marked
+    /// before. Returns whether the object is a reference whose referent isn't marked even then.
     #[inline(always)]
     pub(super) fn grey_referent(
         &mut self,
@@ -117,7 +117,7 @@ impl<A: Allocator + Copy> Table<A> {
         }
     }
 
-    // The same: each word is looked up, since it may lead to what has moved.
+    // Heals each word of the object by looking it up, since it may lead to what has moved.
     fn heal_each(&mut self, no: ObjNo, place: usize)
         requires tuned { self.old.ways.tuned ≡ true }
         requires lies { LiesAt self.old no place }
@@ -130,7 +130,8 @@ impl<A: Allocator + Copy> Table<A> {
         self.cells[place].put_healed(referent, self.round.number);
     }
 
-    // The same where no pages are chosen: each word names the cell in which its object lies.
+    // Heals each word of the object where no pages are chosen: the word names the cell in which its object lies, and
+    // only its colour changes.
     #[inline(always)]
     fn recolour(&mut self, no: ObjNo, place: usize)
         requires settled { has_chosen self.old.ways.pages.uses ≡ false }

@@ -139,7 +139,7 @@ impl<A: Allocator + Copy> Table<A> {
         self.slots[into] = referent;
     }
 
-    /// Writes this of the object in the slot at this place. Nothing changes where there is none.
+    /// Writes this change into the object in the slot at this place. Nothing changes where there is none.
     #[inline(always)]
     pub fn change_in(&mut self, place: usize, change: Change)
         requires { place < length self.old.slots }

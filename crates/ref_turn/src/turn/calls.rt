@@ -30,7 +30,8 @@ impl<M: Machine, A: Allocator + Copy> Turn<M, A> {
         Turn::starting(alloc, machine, 0)
     }
 
-    /// The same, and the first ticket is `first`, so that `u64::MAX - first` tickets are left.
+    /// A turn over the machine, and its first seat. The first ticket is `first`, so that `u64::MAX - first` tickets are
+    /// left.
     ///
     /// `NoMemory` where a growth is refused: then the machine comes back.
     pub fn starting(
@@ -93,7 +94,8 @@ impl<M: Machine, A: Allocator> Turn<M, A> {
         Err(TurnFault::Spent(step))
     }
 
-    /// The same without waiting. Takes no memory but what the step takes.
+    /// Makes the step and ends the turn, where no other turn is open, and returns the machine's reply. Never waits.
+    /// Takes no memory but what the step takes.
     ///
     /// `Busy` where another turn was open at some moment of the call, `Spent` where no ticket is left: then nothing
     /// happened, and the step comes back.

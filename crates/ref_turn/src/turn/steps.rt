@@ -49,7 +49,7 @@ impl<M: Machine, A: Allocator> Turn<M, A> {
         Err(TurnFault::Busy(()))
     }
 
-    // The same, but it waits where a turn is open. False where no ticket is left.
+    // Waits until no other turn is open, and takes the turn. Returns false where no ticket is left.
     #[inline(always)]
     pub(super) fn wait_turn<W: Wait>(&self, rt: &W, place: &mut Place<M>) -> bool
         requires place { IsPlaceOf self.now place.old }

@@ -22,12 +22,12 @@ use std::alloc::Allocator;
 const SLOTS: u32 = 16;
 
 impl<A: Allocator + Copy> World<A> {
-    /// Does one step, and answers it. Refused, with the first fault that applies, it has changed nothing. A put is in
-    /// expected constant time, amortized; a puts in expected time of its notices, amortized. Both take memory where
-    /// they add a notice. Where that is refused, a put answers so, and its notice is in the hand again; a puts tells it
-    /// as the last of what became of its notices, and that notice and those behind it are in the hand, in order. A poll
-    /// and a close are in constant time, and a polls in time of what it takes. Any other step costs what the heap's
-    /// call costs. But for put and puts no step takes memory.
+    /// Does one step, and returns its reply. A step that is refused, with the first fault that applies, has changed
+    /// nothing. `Put` takes expected constant time, amortized, and `Puts` expected time of its notices, amortized. Both
+    /// take memory where they add a notice. Where that is refused, the notice that found none is in the hand again.
+    /// `Put` returns that memory was refused; `Puts` returns that as the last of what became of its notices, and those
+    /// behind that one stay in the hand, in order. `Poll` and `Close` take constant time, and `Polls` takes time of
+    /// what comes out. Any other step costs what the heap's call costs. But for `Put` and `Puts` no step takes memory.
     pub fn step(&mut self, step: Step) -> Reply
         ensures row { IsRowOf self.old step result self.new }
 

@@ -247,8 +247,8 @@ fn a_notice_that_finds_no_memory_comes_back(rt: HostRuntime) -> Result<(), Fail>
     Ok(())
 }
 
-/// What a register, or a register apart, is told with so many requests for memory met, on a new heap with object 1 in
-/// slot 0 and a new cleaner, whether a request was refused, and the job where it came back.
+/// What a register, or a register apart, is told on a new heap with object 1 in slot 0 and a new cleaner, with `met`
+/// requests for memory met. Beside that stands whether a request was refused, and the job where it came back.
 fn register_with<R: Wait>(
     rt: &R,
     memory: &Rationed<Global>,

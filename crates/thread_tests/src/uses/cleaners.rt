@@ -27,6 +27,7 @@ use std::process::Abort;
 use std::sync::Wait;
 use std::test::Fail;
 
+// promise: SharedCleaner::clean: the reference of a job that ran is taken back by the heap
 /// What is cleaned is taken back by the heap, which makes a step for it.
 fn retires_what_it_cleans<R: Wait>(
     rt: &R,
@@ -56,6 +57,7 @@ fn retires_what_it_cleans<R: Wait>(
     }
 }
 
+// promise: SharedCleaner::register, SharedHeap::perform, SharedHeap::hold: the reference is made, and then held
 /// A register makes two calls of the heap: the reference is made, and then a hold of the reference is taken.
 fn holds_the_reference<R: Wait>(
     rt: &R,
@@ -83,6 +85,7 @@ fn holds_the_reference<R: Wait>(
     }
 }
 
+// promise: SharedCleaner::clean_loop: a job that is counted has two holds given back
 /// For each job that it counts the loop has made two releases.
 fn releases_twice_for_each_job<R: Wait, G: Gate>(
     rt: &R,

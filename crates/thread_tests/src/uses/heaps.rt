@@ -19,6 +19,7 @@ use std::slice;
 use std::sync::Wait;
 use std::test::Fail;
 
+// promise: SharedHeap::call, SharedHeap::served: a step that was made took a turn
 /// A step that was made is served.
 fn serves_each_step<R: Wait>(rt: &R, heap: &SharedHeap, seat: &mut HeapSeat) -> Option<bool>
     requires { IsHeapSeat heap.now seat.old }
@@ -32,6 +33,7 @@ fn serves_each_step<R: Wait>(rt: &R, heap: &SharedHeap, seat: &mut HeapSeat) -> 
     if is_made { Some(before < after) } else { None }
 }
 
+// promise: SharedHeap::try_call: not Busy where no turn but the last is left
 /// With one turn left a try is not busy: no turn is open, or the last one was begun.
 pub fn is_busy_at_the_last_turn(heap: &SharedHeap, seat: &mut HeapSeat) -> bool
     requires seat { IsHeapSeat heap.now seat.old }
@@ -45,6 +47,7 @@ pub fn is_busy_at_the_last_turn(heap: &SharedHeap, seat: &mut HeapSeat) -> bool
     is_busy
 }
 
+// promise: SharedHeap::new, SharedHeap::finish: the heap has the configuration that was told
 /// A heap has the configuration that it was made with.
 fn has_its_configuration(alloc: Global, config: Config) -> Option<Config>
     ensures { IfSome result (λ found. found ≡ config) }
@@ -58,6 +61,7 @@ fn has_its_configuration(alloc: Global, config: Config) -> Option<Config>
     }
 }
 
+// promise: enqueue, SharedHeap::unhook: an enqueue that added made one unhook, which gave a notice
 /// An enqueue that added its notice made one call of the heap, which gave it.
 fn adds_by_one_call<R: Wait>(
     rt: &R,
@@ -82,6 +86,7 @@ fn adds_by_one_call<R: Wait>(
     }
 }
 
+// promise: deliver_one, SharedHeap::release: what is dropped is given back to the heap
 /// A delivery that was dropped took two turns of the heap: the hand, and the release of the hold.
 fn releases_what_it_drops<R: Wait>(
     rt: &R,

@@ -14,6 +14,7 @@ use std::process::Abort;
 use std::sync::Wait;
 use std::test::Fail;
 
+// promise: QueuedCleaner::register: the slot of the reference is emptied too
 /// A register makes three turns of the heap: the reference is made, held, and dropped from its slot.
 fn registers_in_three_turns<R: Wait>(
     rt: &R,

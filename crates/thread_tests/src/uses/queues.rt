@@ -17,6 +17,7 @@ use std::alloc::Global;
 use std::sync::Wait;
 use std::test::Fail;
 
+// promise: SharedQueue::close: a second close tells that the queue was closed
 /// A second close tells that the queue was closed.
 fn closes_once<R: Wait>(
     rt: &R,
@@ -31,6 +32,7 @@ fn closes_once<R: Wait>(
     queue.close(rt, seat)
 }
 
+// promise: SharedQueue::put, SharedQueue::number: what is added is for this queue
 /// What is added is for this queue.
 fn adds_its_own<R: Wait>(
     rt: &R,
@@ -52,6 +54,7 @@ fn adds_its_own<R: Wait>(
     }
 }
 
+// promise: SharedQueue::put: behind the last turn a put is TurnsSpent
 /// Behind the last turn a put tells that none is left.
 fn tells_that_turns_are_spent<R: Wait>(
     rt: &R,
@@ -79,6 +82,7 @@ fn tells_that_turns_are_spent<R: Wait>(
     }
 }
 
+// promise: SharedQueue::poll_now: not Busy where no turn but the last is left
 /// With one turn left a poll is not busy: no turn is open, or the last one was begun.
 pub fn is_busy_at_the_last_turn(queue: &SharedQueue, seat: &mut QueueSeat) -> bool
     requires seat { IsQueueSeat queue.now seat.old }
@@ -100,6 +104,7 @@ pub fn is_busy_at_the_last_turn(queue: &SharedQueue, seat: &mut QueueSeat) -> bo
     }
 }
 
+// promise: SharedQueue::remove_within: a limit of 1,000,000 polls is not BadConfig
 /// A million polls are not too many.
 fn refuses_a_million_polls<R: Wait>(rt: &R, queue: &SharedQueue, seat: &mut QueueSeat) -> bool
     requires { IsQueueSeat queue.now seat.old }
@@ -120,6 +125,7 @@ fn refuses_a_million_polls<R: Wait>(rt: &R, queue: &SharedQueue, seat: &mut Queu
     }
 }
 
+// promise: SharedQueue::remove_within: TimedOut after just as many empty polls as it was told
 /// Two polls in vain are all that a limit of two polls makes.
 fn polls_twice<R: Wait>(rt: &R, queue: &SharedQueue, seat: &mut QueueSeat) -> bool
     requires { IsQueueSeat queue.now seat.old }
@@ -141,6 +147,7 @@ fn polls_twice<R: Wait>(rt: &R, queue: &SharedQueue, seat: &mut QueueSeat) -> bo
     }
 }
 
+// promise: SharedQueue::close, SharedQueue::finish: a closed queue is given back closed
 /// A queue that was closed stays closed when its turns have ended.
 fn is_open_once_closed<R: Wait>(rt: &R, queue: SharedQueue, mut seat: QueueSeat) -> Option<bool>
     requires { IsQueueSeat queue seat }

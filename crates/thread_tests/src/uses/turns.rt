@@ -14,6 +14,7 @@ use std::alloc::Global;
 use std::sync::Wait;
 use std::test::Fail;
 
+// promise: Turn::starting, Turn::served: the count begins with the first ticket
 /// A turn has served the tickets that it began with.
 fn serves_what_it_began_with(alloc: Global, first: u64) -> Result<bool, Fault>
     ensures { IfOk result (λ is_served. is_served ≡ true) }
@@ -23,6 +24,7 @@ fn serves_what_it_began_with(alloc: Global, first: u64) -> Result<bool, Fault>
     Ok(first <= turn.served(&mut seat))
 }
 
+// promise: Turn::served: the seat has seen all turns that ended
 /// And one more for each call that its seat has seen, and no other.
 fn serves_what_was_seen(turn: &Turn<Counter>, seat: &mut TurnSeat<Counter>) -> u64
     requires { IsSeatOf turn.now seat.old }
@@ -32,6 +34,7 @@ fn serves_what_was_seen(turn: &Turn<Counter>, seat: &mut TurnSeat<Counter>) -> u
     turn.served(seat)
 }
 
+// promise: Turn::try_call, Turn::served: a call that was made is counted
 /// A call that was made is served.
 fn serves_what_was_called(
     turn: &Turn<Counter>,
@@ -46,6 +49,7 @@ fn serves_what_was_called(
     Ok(before < turn.served(seat))
 }
 
+// promise: Turn::try_call, Turn::starting: none behind the last ticket
 /// No call is made behind the last ticket.
 fn makes_no_call_behind_the_last_ticket(alloc: Global) -> Result<bool, Fault>
     ensures { IfOk result (λ is_made. is_made ≡ false) }
@@ -57,6 +61,7 @@ fn makes_no_call_behind_the_last_ticket(alloc: Global) -> Result<bool, Fault>
     Ok(is_made)
 }
 
+// promise: Turn::call: refused only where the last ticket was drawn
 /// A call that waits is made, or the last ticket was drawn.
 fn calls_in_time<W: Wait>(rt: &W, turn: &Turn<Counter>, seat: &mut TurnSeat<Counter>) -> bool
     requires { IsSeatOf turn.now seat.old }
@@ -66,6 +71,7 @@ fn calls_in_time<W: Wait>(rt: &W, turn: &Turn<Counter>, seat: &mut TurnSeat<Coun
     turn.call(rt, seat, 1).is_ok()
 }
 
+// promise: Turn::try_call: Spent only where the last ticket was drawn
 /// A try for which no ticket was left knows that the last one was drawn.
 fn tries_in_vain(turn: &Turn<Counter>, seat: &mut TurnSeat<Counter>) -> bool
     requires { IsSeatOf turn.now seat.old }
@@ -78,6 +84,7 @@ fn tries_in_vain(turn: &Turn<Counter>, seat: &mut TurnSeat<Counter>) -> bool
     }
 }
 
+// promise: Turn::try_call: not Busy where no ticket but the last is left
 /// With one ticket left a try is not busy: no turn is open, or the last ticket was drawn.
 fn is_busy_at_the_last_ticket(turn: &Turn<Counter>, seat: &mut TurnSeat<Counter>) -> bool
     requires seat { IsSeatOf turn.now seat.old }
@@ -91,6 +98,7 @@ fn is_busy_at_the_last_ticket(turn: &Turn<Counter>, seat: &mut TurnSeat<Counter>
     }
 }
 
+// promise: Turn::join: the seat that is taken in has another number
 /// Two seats of one turn have two numbers.
 fn joins_another_number(
     turn: &Turn<Counter>,
@@ -104,6 +112,7 @@ fn joins_another_number(
     turn.join(seat, other);
 }
 
+// promise: Turn::split, Turn::join: the other's one call stands under its own number
 /// Who takes in a seat that made one call has that as the only one of the other, which has a number of its own.
 fn takes_in_the_one_call(turn: &Turn<Counter>, seat: &mut TurnSeat<Counter>) -> bool
     requires { IsSeatOf turn.now seat.old }

@@ -12,8 +12,8 @@ use ref_base::{Cause, Done as Became, Fault, Nos, Outs, PlainStep, Reply, Step};
 
 /// The ways in which steps are answered: each reply, and each refusal that these worlds can meet.
 ///
-/// Some can't be met here: no numbers are spent by so few steps, there is memory for each put, a world has no hold of
-/// another heap, and a put is always into the notice's own queue.
+/// Some can't be met here. No numbers are spent by so few steps, and there is memory for each put. A world has no hold
+/// of another heap, and a put is always into the notice's own queue.
 #[derive(Clone, Copy)]
 pub enum Way {
     Object,

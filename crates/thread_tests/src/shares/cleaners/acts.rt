@@ -42,7 +42,7 @@ pub enum Act {
     Clean(u32, u32),
     /// Runs the jobs of what is gone, until the queue is closed.
     Loop,
-    /// Runs the jobs of what is gone whose notices stand.
+    /// Runs the jobs whose notices stand.
     Some,
     /// Counts the cleaner's turns.
     Served,
@@ -215,7 +215,7 @@ pub fn looped<R: Wait>(rt: &R, shared: Shared, chair: &mut Chair, hearing: &Hear
     }
 }
 
-/// Runs the jobs of what is gone whose notices stand.
+/// Runs the jobs whose notices stand.
 fn cleaned_some<R: Wait>(rt: &R, shared: Shared, chair: &mut Chair, hearing: &Hearing) -> Answer
     requires { IsHeapSeat shared.heap.now chair.old.seats.heap
         × IsQueueSeat shared.queue.now chair.old.seats.queue

@@ -2,7 +2,8 @@
 use Rattle.refrun.proofs.Common.{◌≡◌, ℕ, true, false, [], ◌∷◌, Some, None, refl, arith, IsFirstFailure}
 use Rattle.refrun.specs.StressChecks.{ran_well}
 use Rattle.refrun.specs.StressEvidence.{ShowsJobs}
-use Rattle.refrun.specs.declared.evidence.Evidence.TheVariants.{JobRuns, JobUnasked}
+use Rattle.refrun.specs.declared.evidence.Evidence.TheVariants as evidence
+use Rattle.refrun.specs.declared.evidence.WrongRun.TheVariants.{Runs, Unasked}
 use Rattle.refrun.specs.declared.outcomes.JobFate.{JobFate}
 
 -- a job that was to run, and ran so often
@@ -22,17 +23,20 @@ it_never_runs_once_it_was_taken_out = (refl, refl)
 it_does_not_run_while_its_object_lives : ran_well (record { is_due = true; runs = 1; is_early = true }) ≡ false
 it_does_not_run_while_its_object_lives = refl
 
+-- promise: check_lists: a job that never ran does not pass
 a_job_that_never_ran_does_not_pass : ¬ (IsFirstFailure [] [] [] [] [] (runs_of 1 ∷ runs_of 0 ∷ []) None)
 a_job_that_never_ran_does_not_pass passes = let ran = passes.5 1 (runs_of 1) (omega arith) in absurd cc
 
+-- promise: check_lists: a job that ran twice does not pass
 a_job_that_ran_twice_does_not_pass : ¬ (IsFirstFailure [] [] [] [] [] (runs_of 2 ∷ []) None)
 a_job_that_ran_twice_does_not_pass passes = let ran = passes.5 0 (runs_of 1) (omega arith) in absurd cc
 
-a_job_that_ran_twice_is_shown : ShowsJobs (runs_of 1 ∷ runs_of 2 ∷ []) (JobRuns 1 2)
-a_job_that_ran_twice_is_shown = (1, runs_of 2, refl, (refl, refl, refl, λ same. absurd (omega (arith, same))))
+a_job_that_ran_twice_is_shown : ShowsJobs (runs_of 1 ∷ runs_of 2 ∷ []) (evidence.Job 1 (Runs 2))
+a_job_that_ran_twice_is_shown = (runs_of 2, refl, (refl, refl, λ same. absurd (omega (arith, same))))
 
-a_job_that_ran_once_shows_nothing : ¬ (ShowsJobs (runs_of 1 ∷ []) (JobRuns 0 1))
-a_job_that_ran_once_shows_nothing shows = shows.3.3 refl
+-- promise: evidence_of: that a job ran once shows nothing
+a_job_that_ran_once_shows_nothing : ¬ (ShowsJobs (runs_of 1 ∷ []) (evidence.Job 0 (Runs 1)))
+a_job_that_ran_once_shows_nothing (f, at, due, ran, wrong) = grind arith
 
-a_job_that_was_to_run_is_not_unasked : ¬ (ShowsJobs (runs_of 1 ∷ []) (JobUnasked 0))
-a_job_that_was_to_run_is_not_unasked (k, f, at, shows) = grind arith
+a_job_that_was_to_run_is_not_unasked : ¬ (ShowsJobs (runs_of 1 ∷ []) (evidence.Job 0 Unasked))
+a_job_that_was_to_run_is_not_unasked (f, at, due, ran) = grind arith
