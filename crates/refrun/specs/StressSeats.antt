@@ -4,8 +4,8 @@ use denote.Param.Members.{Mut}
 use Rattle.ref_share.specs.HeapSeats.{IsHeapSeat}
 use Rattle.ref_share.specs.QueueSeats.{IsQueueSeat}
 use Rattle.refrun.specs.CleaningSeats.{IsCleanSeated}
-use Rattle.refrun.specs.declared.roles.Shared.{Shared}
-use Rattle.refrun.specs.declared.roles.Station.{Station}
+use Rattle.refrun.specs.declared.station.Shared.{Shared}
+use Rattle.refrun.specs.declared.station.Station.{Station}
 use Rattle.refrun.specs.declared.threads.Job.{Job}
 use Rattle.refrun.specs.declared.threads.Left.{Left}
 

@@ -15,7 +15,7 @@ use crate::evidence::{Evidence, evidence_of};
 use crate::gate::Gate;
 use crate::lists::{Check, check_lists};
 use crate::outcomes::{JobFate, answer_of};
-use crate::roles::{QUEUE, Running, Shared, Station};
+use crate::station::{QUEUE, Running, Shared, Station};
 use crate::stress_options::StressOptions;
 use crate::tally::Tally;
 use ref_base::{Fault, MutNo, ObjNo, WorkerNo};
