@@ -36,7 +36,7 @@ a_job_that_ran_twice_is_shown = (runs_of 2, refl, (refl, refl, λ same. absurd (
 
 -- promise: evidence_of: that a job ran once shows nothing
 a_job_that_ran_once_shows_nothing : ¬ (ShowsJobs (runs_of 1 ∷ []) (evidence.Job 0 (Runs 1)))
-a_job_that_ran_once_shows_nothing (f, at, due, ran, wrong) = grind arith
+a_job_that_ran_once_shows_nothing (f, at, wrong) = grind arith
 
 a_job_that_was_to_run_is_not_unasked : ¬ (ShowsJobs (runs_of 1 ∷ []) (evidence.Job 0 Unasked))
-a_job_that_was_to_run_is_not_unasked (f, at, due, ran) = grind arith
+a_job_that_was_to_run_is_not_unasked (f, at, wrong) = grind arith

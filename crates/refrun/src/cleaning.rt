@@ -14,9 +14,6 @@ use std::sync::Wait;
 /// How many jobs a mutator has.
 pub(crate) const JOBS: u64 = 64;
 
-/// How many jobs there are at most, since there are at most 8 mutators.
-pub(crate) const MOST_JOBS: usize = 512;
-
 /// In every so manieth round a mutator does something with a job.
 const PACE: u64 = 16;
 
@@ -27,16 +24,16 @@ const WAY: SlotNo = SlotNo(1);
 
 /// What all threads share: the heap, its cleaner, and what became of each job.
 pub(crate) struct Cleaning {
-    heap: SharedHeap,
-    cleaner: QueuedCleaner,
-    outcomes: Outcomes,
+    pub(crate) heap: SharedHeap,
+    pub(crate) cleaner: QueuedCleaner,
+    pub(crate) outcomes: Outcomes,
 }
 
 /// What one thread uses it with.
 #[derive(Drop)]
 pub(crate) struct CleaningSeats {
-    heap: HeapSeat,
-    clean: QueuedSeat,
+    pub(crate) heap: HeapSeat,
+    pub(crate) clean: QueuedSeat,
 }
 
 /// What one thread works with: what all share, its own seats, and the jobs that it has not registered.
@@ -57,32 +54,6 @@ struct Registered {
 }
 
 impl Cleaning {
-    /// A heap without objects for so many mutators, a cleaner without jobs, and their first seats. The one refusal is
-    /// `NoMemory`, where there are 1 to 8 mutators.
-    pub(crate) fn new(
-        alloc: Global,
-        mutators: u32,
-        jobs: usize,
-    ) -> Result<(Self, CleaningSeats), Fault>
-        ensures { IfOk result (λ made. IsOfCleaning made.0 made.1) }
-    {
-        let Ok(outcomes) = Outcomes::new(alloc, jobs) else {
-            return Err(Fault::NoMemory);
-        };
-        let (heap, heap_seat) = SharedHeap::new(alloc, config_of(mutators), 0)?;
-        let (cleaner, clean) = QueuedCleaner::new(alloc)?;
-        let seats = CleaningSeats {
-            heap: heap_seat,
-            clean,
-        };
-        let cleaning = Cleaning {
-            heap,
-            cleaner,
-            outcomes,
-        };
-        Ok((cleaning, seats))
-    }
-
     /// What each thread works with: seats that are split off these, and the jobs of one list.
     pub(crate) fn stations(
         &self,
@@ -366,7 +337,7 @@ impl CleaningStation<'_> {
 }
 
 /// The heap of the jobs: for so many mutators, with few cells.
-fn config_of(mutators: u32) -> Config {
+pub(crate) fn config_of(mutators: u32) -> Config {
     Config {
         mutators,
         workers: 1,

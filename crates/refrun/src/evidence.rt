@@ -405,7 +405,8 @@ fn not_well(jobs: &[JobFate]) -> Option<Evidence>
     ensures passes { IfNone result (RanWell jobs.now) }
 {
     for job in 0..jobs.len() {
-        if let Some(wrong) = wrong_of(jobs[job]) {
+        let fate = jobs[job];
+        if let Some(wrong) = wrong_of(fate) {
             return Some(Evidence::Job { job, wrong });
         }
     }

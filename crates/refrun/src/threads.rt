@@ -10,11 +10,11 @@ ghost use Rattle.refrun.specs.StressSeats.{IsLeftAt, IsSeated, IsSeatedAt, Stays
 ghost use Rattle.ref_base.specs.declared.fault.Fault.TheVariants.{BadConfig};
 ghost use Rattle.refrun.specs.StressRuns.{has_threads_in_range};
 
-use crate::cleaning::{Cleaning, CleaningStation, JOBS, MOST_JOBS};
+use crate::cleaning::{Cleaning, CleaningSeats, CleaningStation, JOBS, config_of};
 use crate::evidence::{Evidence, evidence_of};
 use crate::gate::Gate;
 use crate::lists::{Check, check_lists};
-use crate::outcomes::{JobFate, answer_of};
+use crate::outcomes::{JobFate, Outcomes, answer_of};
 use crate::station::{QUEUE, Running, Shared, Station};
 use crate::stress_options::StressOptions;
 use crate::tally::Tally;
@@ -22,7 +22,7 @@ use ref_base::{Fault, MutNo, ObjNo, WorkerNo};
 use ref_clear::Notice;
 use ref_objects::Hold;
 use ref_queue::{Action, Queue};
-use ref_share::{HeapSeat, QueueSeat, SharedHeap, SharedQueue, end_queue};
+use ref_share::{HeapSeat, QueueSeat, QueuedCleaner, SharedHeap, SharedQueue, end_queue};
 use std::alloc::{AllocError, Global};
 use std::sync::Wait;
 use std::sync::atomic::{AtomicU32, Ordering};
@@ -207,7 +207,20 @@ fn stress_with<R: Threads + Wait + Sync>(
     tally: &Tally,
     lists: Vec<Vec<ref_queue::Job>>,
 ) -> Result<Option<StressLists>, Fault> {
-    let (cleaning, mut seats) = Cleaning::new(alloc, options.mutators, MOST_JOBS)?;
+    let Ok(outcomes) = Outcomes::new(alloc, lists.len().saturating_mul(JOBS as usize)) else {
+        return Err(Fault::NoMemory);
+    };
+    let (heap, heap_seat) = SharedHeap::new(alloc, config_of(options.mutators), 0)?;
+    let (cleaner, clean) = QueuedCleaner::new(alloc)?;
+    let cleaning = Cleaning {
+        heap,
+        cleaner,
+        outcomes,
+    };
+    let mut seats = CleaningSeats {
+        heap: heap_seat,
+        clean,
+    };
     let answer = match cleaning.stations(alloc, &mut seats, lists) {
         Ok(stations) => stress_at(rt, alloc, options, tally, stations),
         Err(_) => Err(Fault::NoMemory),
