@@ -437,15 +437,32 @@ fn jobs<'a>(
     let mut jobs = Vec::new(alloc);
     let mut thread: u32 = 0;
     for cleaning in stations {
-        jobs.push(Job {
-            role: role_of(thread, shared.options),
-            heap_seat: shared.heap.split(heap_seat),
-            queue_seat: shared.queue.split(queue_seat),
-            cleaning,
-        })?;
+        let role = role_of(thread, shared.options);
+        jobs.push(job_of(shared, heap_seat, queue_seat, role, cleaning))?;
         thread = thread.saturating_add(1);
     }
     Ok(jobs)
+}
+
+/// What one thread of this role is given.
+fn job_of<'a>(
+    shared: &Shared,
+    heap_seat: &mut HeapSeat,
+    queue_seat: &mut QueueSeat,
+    role: Role,
+    cleaning: CleaningStation<'a>,
+) -> Job<'a>
+    requires seats { IsHeapSeat shared.now.heap heap_seat.old × IsQueueSeat shared.now.queue queue_seat.old }
+    requires station { IsCleanSeated cleaning }
+    ensures seats { IsHeapSeat shared.now.heap heap_seat.new × IsQueueSeat shared.now.queue queue_seat.new }
+    ensures seated { IsSeatedAt shared.now result }
+{
+    Job {
+        role,
+        heap_seat: shared.heap.split(heap_seat),
+        queue_seat: shared.queue.split(queue_seat),
+        cleaning,
+    }
 }
 
 /// What the thread of this number is for: the first are mutators, the last pollers.
