@@ -17,8 +17,8 @@ use crate::script_step::ScriptStep;
 use ref_base::{Actor, MutNo, PlainStep, Step, Strength, WorkerNo};
 use ref_text::LineFault;
 
-/// A table of steps by their names: returns the step of this name, if it has one. Operands are taken for that step
-/// alone.
+/// A table of steps by their names: returns the step that has this name, if one has it, and takes operands for that one
+/// alone. It is a `match` in all but how it is proved: of the last arm of a `match` on byte strings, letter by letter.
 macro_rules! step_named {
     ($word:ident: $($name:literal => $step:expr,)*) => {
         $(if is_name($word, $name) {
@@ -62,8 +62,8 @@ fn named_step(
     name: &[u8],
     operands: &mut Operands<'_>,
 ) -> Option<ScriptStep>
-    ensures { IsReadAs script_step_words (forms_of_letter letter) (Numbered (letter ∷ []) number) name.now operands.old
-        operands.new result }
+    ensures { IsReadAs (forms_of_letter letter) (Numbered (letter ∷ []) number) name.now operands.old operands.new
+        result }
 {
     match letter {
         b'm' => mutator_step(MutNo(number), name, operands),
@@ -74,7 +74,7 @@ fn named_step(
 
 /// The step of a mutator.
 fn mutator_step(by: MutNo, name: &[u8], operands: &mut Operands<'_>) -> Option<ScriptStep>
-    ensures { IsReadAs script_step_words mutator_forms (mutator by) name.now operands.old operands.new result }
+    ensures { IsReadAs mutator_forms (mutator by) name.now operands.old operands.new result }
 {
     step_named! { name:
         b"job" => ScriptStep::Job { mutator: by, slot: operands.slot(), number: operands.number() },
@@ -117,7 +117,7 @@ fn mutator_step(by: MutNo, name: &[u8], operands: &mut Operands<'_>) -> Option<S
 
 /// The step of a worker.
 fn worker_step(by: WorkerNo, name: &[u8], operands: &mut Operands<'_>) -> Option<ScriptStep>
-    ensures { IsReadAs script_step_words worker_forms (worker by) name.now operands.old operands.new result }
+    ensures { IsReadAs worker_forms (worker by) name.now operands.old operands.new result }
 {
     step_named! { name:
         b"scan" => plain(PlainStep::Scan { worker: by }),
