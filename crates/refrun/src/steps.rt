@@ -17,8 +17,8 @@ use crate::script_step::ScriptStep;
 use ref_base::{Actor, MutNo, PlainStep, Step, Strength, WorkerNo};
 use ref_text::LineFault;
 
-/// A table of steps by their names: returns the step that has this name, if one has it, and takes operands for that one
-/// alone. It is a `match` in all but how it is proved: of the last arm of a `match` on byte strings, letter by letter.
+/// A table of steps by name: returns the step that has this name, if one has it. Operands are taken for that one alone.
+/// A `match` on byte strings would go letter by letter, and a proof of its last arm over each way through the letters.
 macro_rules! step_named {
     ($word:ident: $($name:literal => $step:expr,)*) => {
         $(if is_name($word, $name) {
