@@ -6,5 +6,6 @@ mod graphs;
 mod marking;
 mod objects;
 mod queues;
+mod tables;
 mod values;
 mod worlds;

@@ -32,7 +32,6 @@ use std::marker::Model;
 ///
 /// All its memory is taken as it is made: that of its `Marker`, and 8 bytes for each cell and for each worker. No other
 /// call takes any.
-#[derive(Drop)]
 pub struct Heap<A: Allocator = Global> {
     marker: Marker<A>,
     // For each worker, the references that it cleared and hasn't handed on, linked in their records. Their objects tell
@@ -40,6 +39,20 @@ pub struct Heap<A: Allocator = Global> {
     pending: Vec<Chain, A>,
     // Once a sweep has begun, what is doomed stands in it, in order of number.
     condemned: Worklist<A>,
+}
+
+/// A heap whose objects move between cycles, which each heap is: `select`, `move_next` and `end_move` are its calls.
+pub type MovingHeap<A = Global> = Heap<A>;
+
+// Written out, so that crates above prove nothing of what a heap is made of where they drop one.
+impl<A: Allocator> Drop for Heap<A> {
+    fn drop(self) {
+        let Heap {
+            marker: _,
+            pending: _,
+            condemned: _,
+        } = self;
+    }
 }
 
 impl<A: Allocator> Model for Heap<A> {

@@ -20,7 +20,7 @@ mod notice;
 mod pending;
 
 pub use handed::Handed;
-pub use heap::Heap;
+pub use heap::{Heap, MovingHeap};
 pub use looked::Looked;
 pub use notice::Notice;
 pub use pending::Pending;

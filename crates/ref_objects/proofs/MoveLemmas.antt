@@ -12,7 +12,7 @@ use Rattle.ref_space.specs.Pages.{AreFilled, chosen_frames, has_chosen, place_of
 use Rattle.ref_space.specs.Moves.{Ways, tuned, ways_chosen}
 use Rattle.ref_space.specs.Tables.{brought as table_brought, left_of, moved_from, place_of_number, table_freed}
 use Rattle.ref_objects.proofs.Common.{◌-◌, ◌^◌, with_tabled}
-use Rattle.ref_space.specs.declared.round.Round.{Round}
+use Rattle.ref_space.specs.Tables.{RoundView}
 use Rattle.ref_space.specs.Tables.{numbers_at, table_renumbered}
 use Rattle.ref_space.specs.Tables.{is_unmarked_in, tabled_at, without_if_any, table_begun}
 use Rattle.ref_space.proofs.MoveLemmas.{chosen-with, none_chosen}
@@ -138,8 +138,8 @@ module _ {s : Stored} (objects : IsSoundObjects s) where
     fresh = sound.fresh;
     filled = λ is. absurd (not_fresh (sym tuned_now ∙ is));
     coloured = λ is. (
-      ap (λ (r : Round). r.good) round ∙ (sound.coloured is).0,
-      (λ same. (sound.coloured is).1 (ap (λ (r : Round). r.good) (sym round) ∙ same)),
+      ap (λ (r : RoundView). r.good) round ∙ (sound.coloured is).0,
+      (λ same. (sound.coloured is).1 (ap (λ (r : RoundView). r.good) (sym round) ∙ same)),
     );
     moved = λ is. ((sound.moved is).0, ap (λ (w : Ways). w.last) ways ∙ (sound.moved is).1);
     condemns = λ is. tuned_now;

@@ -8,7 +8,7 @@ use Rattle.ref_space.proofs.ScanLemmas.{round-scanned}
 use Rattle.ref_space.specs.Tables.{is_unmarked_at, marked_each, anew_each, table_scanned, with_healed, scanned_values}
 use Rattle.ref_space.specs.Tables.{MayList, object_in}
 use Rattle.ref_space.specs.Worklists.{Worklist}
-use Rattle.ref_space.specs.declared.round.Round.{Round}
+use Rattle.ref_space.specs.Tables.{RoundView}
 use Rattle.ref_space.proofs.TabledLemmas.{map-changed, object_at-objects_of}
 use Rattle.ref_objects.specs.Grounds.{ground_scanned, is_unmarked, MayGrow, all_newly_marked}
 use Rattle.ref_objects.proofs.MarkLemmas.{is_unmarked-tabled}
@@ -60,7 +60,7 @@ module _ (keeps : Reference → Bool) {s : Stored} (sound : IsSoundObjects s)
       → refers_into (is_unmarked_at s.table.round.number after.tabled) r
       ≡ refers_into (is_unmarked (seen_ground (record s { table = after }))) r
   refers_seen after is = refers_into-same _ _ (λ m.
-      ap (λ (r : Round). is_unmarked_at r.number after.tabled m)
+      ap (λ (r : RoundView). is_unmarked_at r.number after.tabled m)
       (sym (ap (λ (t : Table). t.round) is ∙ round-scanned keeps s.table n))
       ∙ sym (is_unmarked-tabled after.round.number after.tabled m
       (subst (λ (t : Table). IsRising (numbers (objects_of t.tabled))) (sym is) rising_after)))

@@ -34,17 +34,35 @@ use Rattle.ref_objects.proofs.SoundLemmas.{brought_sound, marked_sound}
 use Rattle.ref_objects.proofs.Common.{made_entry, with_slot_at, with_tabled}
 use Rattle.ref_objects.proofs.MoveLemmas.{seen_brought}
 use Rattle.ref_objects.specs.Grounds.{ground_brought}
-use Rattle.ref_space.specs.Tables.{brought as table_brought, left_of, without_if_any}
+use Rattle.ref_space.specs.Tables.{brought as table_brought, left_of, with_read, without_if_any}
+use Rattle.ref_space.specs.declared.word_name.WordName.{WordName}
 
 -- the table as a load leaves it, and as a store does
-abbrev pub table_loaded : Table → ℕ → ℕ → ℕ → Table
-table_loaded t into from i =
+abbrev pub table_loaded : Table → Option WordName → ℕ → ℕ → ℕ → Table
+table_loaded t word into from i =
     if has_field (tabled_held t from) i
-    then slotted (table_brought t (field_held (tabled_held t from) i)) into (field_held (tabled_held t from) i)
+    then slotted (table_brought (with_read t word) (field_held (tabled_held t from) i)) into
+    (field_held (tabled_held t from) i)
     else t
 
 abbrev table_stored : Table → ℕ → ℕ → ℕ → Table
 table_stored t into i from = changed_held t into (on_object (with_field i (held_at t from)))
+
+-- another word is the one that was read last: nothing is seen of that
+pub read_sound : {s : Stored} → IsSoundObjects s → (word : Option WordName)
+    → IsSoundObjects (record s { table = with_read s.table word })
+read_sound sound word = record {
+  ground = record {
+    within = sound.ground.within;
+    room = sound.ground.room;
+    slot_count = sound.ground.slot_count;
+    counted = sound.ground.counted;
+    given = sound.ground.given;
+    bounded = sound.ground.bounded;
+  };
+  moves = sound.moves;
+  closed = sound.closed;
+}
 
 module _ {s : Stored} (sound : IsSoundObjects s) where
   -- what is seen of the fields
@@ -98,30 +116,33 @@ module _ {s : Stored} (sound : IsSoundObjects s) where
   -- ---- what is written
 
   -- the slot holds an object, which has moved if it was still to
-  put_sound : (place : ℕ) (value : Option ℕ) → IsSparedIfAny was value
-      → left_of (table_brought s.table value) ≡ without_if_any (left_of s.table) value
-      → IsSoundObjects (record s { table = slotted (table_brought s.table value) place value })
-  put_sound place value spared left =
-      slot_sound (brought_sound sound value refl left) place value
-      (seen_brought s value (table_brought s.table value) refl left) spared
+  put_sound : (word : Option WordName) (place : ℕ) (value : Option ℕ) → IsSparedIfAny was value
+      → left_of (table_brought (with_read s.table word) value) ≡ without_if_any (left_of s.table) value
+      → IsSoundObjects (record s { table = slotted (table_brought (with_read s.table word) value) place value })
+  put_sound word place value spared left =
+      slot_sound (brought_sound (read_sound sound word) value refl left) place value
+      (seen_brought (record s { table = with_read s.table word }) value
+      (table_brought (with_read s.table word) value) refl left) spared
 
-  seen_put : (place : ℕ) (value : Option ℕ)
-      → left_of (table_brought s.table value) ≡ without_if_any (left_of s.table) value
-      → seen_ground (record s { table = slotted (table_brought s.table value) place value })
+  seen_put : (word : Option WordName) (place : ℕ) (value : Option ℕ)
+      → left_of (table_brought (with_read s.table word) value) ≡ without_if_any (left_of s.table) value
+      → seen_ground (record s { table = slotted (table_brought (with_read s.table word) value) place value })
       ≡ with_slot_at (ground_brought was value) place value
-  seen_put place value left =
-      ap (λ g. with_slot_at g place value) (seen_brought s value (table_brought s.table value) refl left)
+  seen_put word place value left =
+      ap (λ g. with_slot_at g place value)
+      (seen_brought (record s { table = with_read s.table word }) value
+      (table_brought (with_read s.table word) value) refl left)
 
   -- the slot holds the field of an object that another holds, if there is such a field
-  module _ (into from i : ℕ)
-      (left : left_of (table_loaded s.table into from i)
+  module _ (word : Option WordName) (into from i : ℕ)
+      (left : left_of (table_loaded s.table word into from i)
       ≡ without_if_any (left_of s.table) (field_held (tabled_held s.table from) i)) where
-    pub loaded_sound : IsSoundObjects (record s { table = table_loaded s.table into from i })
+    pub loaded_sound : IsSoundObjects (record s { table = table_loaded s.table word into from i })
     loaded_sound =
         elim (cases_Bool (has_field (tabled_held s.table from) i)) [
           | inl there ↦
               simp there
-              (put_sound into (field_held (tabled_held s.table from) i) (spared_held (held_at s.table from))
+              (put_sound word into (field_held (tabled_held s.table from) i) (spared_held (held_at s.table from))
               (simp there at left))
           | inr past ↦ simp past sound
         ]
@@ -133,15 +154,15 @@ module _ {s : Stored} (sound : IsSoundObjects s) where
 
   -- and is as it was where there is none
   module _ {g : Ground} (view : was ≡ g) (m into from i place object : ℕ) (place_at : place ≡ 16 * m + into)
-      (object_at : object ≡ 16 * m + from) where
-    pub seen_loaded : left_of (table_loaded s.table place object i)
+      (object_at : object ≡ 16 * m + from) (word : Option WordName) where
+    pub seen_loaded : left_of (table_loaded s.table word place object i)
         ≡ without_if_any (left_of s.table) (field_held (tabled_held s.table object) i)
         → has_field (tabled_held s.table object) i ≡ true
-        → seen_ground (record s { table = table_loaded s.table place object i })
+        → seen_ground (record s { table = table_loaded s.table word place object i })
         ≡ ground_with_heap (ground_brought g (field_in g.heap (slot_at g.heap m from) i))
         (with_slot g.heap m into (field_in g.heap (slot_at g.heap m from) i))
     seen_loaded left there =
-        simp there (seen_put place (field_held (tabled_held s.table object) i) (simp there at left))
+        simp there (seen_put word place (field_held (tabled_held s.table object) i) (simp there at left))
         ∙ ap (λ (h : Ground). with_slot_at (ground_brought h (field_held (tabled_held s.table object) i)) place
         (field_held (tabled_held s.table object) i)) view
         ∙ ap (λ w. with_slot_at (ground_brought g w) place w) (field-slot view m from object object_at i)
@@ -149,21 +170,23 @@ module _ {s : Stored} (sound : IsSoundObjects s) where
         (field_in g.heap (slot_at g.heap m from) i)) place_at
 
     pub seen_unloaded : has_field (tabled_held s.table object) i ≡ false
-        → seen_ground (record s { table = table_loaded s.table place object i }) ≡ g
+        → seen_ground (record s { table = table_loaded s.table word place object i }) ≡ g
     seen_unloaded past = simp past view
 
   -- the slot holds the referent of a reference that another holds
-  module _ (into from : ℕ)
-      (left : left_of (slotted (table_brought s.table (referent_of (tabled_reference (tabled_held s.table from)))) into
+  module _ (word : Option WordName) (into from : ℕ)
+      (left : left_of (slotted (table_brought (with_read s.table word)
+      (referent_of (tabled_reference (tabled_held s.table from)))) into
       (referent_of (tabled_reference (tabled_held s.table from))))
       ≡ without_if_any (left_of s.table) (referent_of (tabled_reference (tabled_held s.table from)))) where
     pub got_sound : IsSoundObjects (record s {
-      table = slotted (table_brought s.table (referent_of (tabled_reference (tabled_held s.table from)))) into
+      table = slotted (table_brought (with_read s.table word)
+          (referent_of (tabled_reference (tabled_held s.table from)))) into
           (referent_of (tabled_reference (tabled_held s.table from)));
     })
     got_sound =
-        put_sound into (referent_of (tabled_reference (tabled_held s.table from))) (spared_held (held_at s.table from))
-        left
+        put_sound word into (referent_of (tabled_reference (tabled_held s.table from)))
+        (spared_held (held_at s.table from)) left
       where
         spared_held : (value : Option ℕ)
             → IsSparedIfAny was (referent_of (tabled_reference (tabled_if s.table.tabled value)))
@@ -173,12 +196,13 @@ module _ {s : Stored} (sound : IsSoundObjects s) where
     pub seen_got : {g : Ground} → was ≡ g → (value : Option ℕ)
         → referent_of (tabled_reference (tabled_held s.table from)) ≡ value
         → seen_ground (record s {
-          table = slotted (table_brought s.table (referent_of (tabled_reference (tabled_held s.table from)))) into
+          table = slotted (table_brought (with_read s.table word)
+              (referent_of (tabled_reference (tabled_held s.table from)))) into
               (referent_of (tabled_reference (tabled_held s.table from)));
         })
         ≡ with_slot_at (ground_brought g value) into value
     seen_got {g} view value is =
-        seen_put into (referent_of (tabled_reference (tabled_held s.table from))) left
+        seen_put word into (referent_of (tabled_reference (tabled_held s.table from))) left
         ∙ ap (λ (h : Ground). with_slot_at (ground_brought h (referent_of (tabled_reference
         (tabled_held s.table from))))
         into (referent_of (tabled_reference (tabled_held s.table from)))) view

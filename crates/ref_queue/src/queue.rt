@@ -216,38 +216,7 @@ impl<T: Parcel, A: Allocator + Copy> Queue<T, A> {
         ensures after { self.new ≡ after_one self.old item result }
         ensures back { batch.new ≡ batch.old ++ come_back item result }
     {
-        let is_open = !self.is_closed;
-        if is_open && self.standing.len() < self.standing.capacity() {
-            match self.enqueued.insert(item.obj()) {
-                Ok(true) => {
-                    self.standing.push_back_reserved(item);
-                    Done::Added
-                }
-                Ok(false) => {
-                    batch.push(item);
-                    Done::Already
-                }
-                Err(_) => {
-                    batch.push(item);
-                    Done::Refused(Fault::NoMemory)
-                }
-            }
-        } else {
-            self.put_next_without_room(item, batch)
-        }
-    }
-
-    // Puts an item of a batch in, where the queue is closed or has no room for the item yet. Where the item isn't added
-    // it goes behind the others.
-    #[inline(never)]
-    fn put_next_without_room<B: Allocator>(&mut self, item: T, batch: &mut Batch<T, B>) -> Done
-        requires own { T.queue_of item ≡ self.old.queue }
-        requires room { length batch.old < 32 }
-        ensures becomes { Becomes T.object_of T.queue_of self.old item result }
-        ensures after { self.new ≡ after_one self.old item result }
-        ensures back { batch.new ≡ batch.old ++ come_back item result }
-    {
-        match self.put_without_room(item) {
+        match self.put(item) {
             Ok(Put::Added(_position)) => Done::Added,
             Ok(Put::Already(item)) => {
                 batch.push(item);

@@ -34,6 +34,7 @@ pub mod ApartRounds
 pub mod KeptRuns
 pub mod RegisterRuns
 pub mod RegisteredSeats
+pub mod Crossing
 mod HeapExamples
 mod QueueCallExamples
 mod DeliveryExamples

@@ -1,12 +1,13 @@
 //! From the heap to a queue: a notice that the heap gives is put into its own queue, by one thread, in turns of its
 //! own. No lock is held between them.
 
-ghost use Rattle.std.specs.Prelude.{◌≡◌, []};
+ghost use Rattle.std.specs.Prelude.{◌≡◌, ◌<◌, [], length, Err, IfOk, OnErr};
+ghost use Rattle.ref_base.specs.declared.fault.Fault.TheVariants.{BadQueue};
 ghost use Rattle.ref_base.specs.declared.heap_step.HeapStep.TheVariants as steps;
 ghost use Rattle.ref_base.specs.HeapSteps.{NamedStep};
 ghost use Rattle.ref_share.specs.HeapSeats.{HeapView, heap_view, IsHeapSeat};
 ghost use Rattle.ref_share.specs.HeapCalls.{GivesNotice};
-ghost use Rattle.ref_share.specs.Deliveries.{AreSeats, PutsAt, Sends, Delivers, GoesBack, was_added};
+ghost use Rattle.ref_share.specs.Deliveries.{AreSeats, IsBeyond, PutsAt, Sends, Delivers, GoesBack, was_added};
 ghost use Rattle.ref_share.specs.Deliveries.{DeliversAll, DeliversBatch, GoBack, PutsBatchAt, SendsBatch};
 ghost use Rattle.ref_share.specs.Deliveries.{TellsReleased, refused_in};
 ghost use Rattle.ref_share.specs.QueueCalls.{ComesBack};
@@ -196,6 +197,24 @@ fn send<R: Wait, A: Allocator + Copy>(
     }
 }
 
+// The place of a queue in both lists: `BadQueue` where one of them ends before it.
+fn place_of<A: Allocator + Copy>(
+    queue: QueueNo,
+    queues: &[SharedQueue<A>],
+    seats: &[QueueSeat<A>],
+) -> Result<usize, Fault>
+    ensures place { IfOk result (λ place. place ≡ queue) }
+    ensures within { IfOk result (λ place. (place < length queues.now) × (place < length seats.now)) }
+    ensures err { OnErr result ((result ≡ Err BadQueue) × IsBeyond queue queues.now seats.now) }
+{
+    let place = queue.0 as usize;
+    if place < queues.len() && place < seats.len() {
+        Ok(place)
+    } else {
+        Err(Fault::BadQueue)
+    }
+}
+
 // The queue at the place of the notice's own puts it in.
 fn put_at<R: Wait, A: Allocator + Copy>(
     rt: &R,
@@ -208,11 +227,10 @@ fn put_at<R: Wait, A: Allocator + Copy>(
     ensures puts { PutsAt notice queues.now seats.old result seats.new }
     ensures back { ComesBack notice result }
 {
-    let place = notice.queue().0 as usize;
-    if place >= queues.len() || place >= seats.len() {
-        return Err((Fault::BadQueue, notice));
+    match place_of(notice.queue(), queues, seats) {
+        Ok(place) => queues[place].put(rt, &mut seats[place], notice),
+        Err(fault) => Err((fault, notice)),
     }
-    queues[place].put(rt, &mut seats[place], notice)
 }
 
 // The hold of a notice that no queue took goes back to the heap.
@@ -273,11 +291,10 @@ fn put_batch_at<R: Wait, A: Allocator + Copy>(
     ensures seats { AreSeats queues.now seats.new }
     ensures puts { PutsBatchAt queue batch queues.now seats.old result.0 result.1 seats.new }
 {
-    let place = queue.0 as usize;
-    if queues.len() <= place || seats.len() <= place {
-        return (Err(Fault::BadQueue), batch);
+    match place_of(queue, queues, seats) {
+        Ok(place) => queues[place].put_batch(rt, &mut seats[place], batch),
+        Err(fault) => (Err(fault), batch),
     }
-    queues[place].put_batch(rt, &mut seats[place], batch)
 }
 
 // The fault with which one of them was refused, if one was.

@@ -11,7 +11,11 @@ use Rattle.std.proofs.lemmas.Option.{none-some, same_Some}
 use Rattle.std.proofs.lemmas.List.{get_or-set_other}
 use Rattle.std.proofs.Math.ListN.{get_or-map}
 use Rattle.ref_base.specs.Members.{has}
-use Rattle.ref_space.specs.declared.round.Round.{Round}
+use Rattle.ref_space.specs.Tables.{RoundView, with_read, read_if_good}
+use Rattle.ref_space.specs.declared.word_name.WordName.{WordName}
+use Rattle.ref_space.specs.ColouredWords.{is_in_colour}
+use Rattle.ref_space.specs.Naming.{IsHealed, IsInColour}
+use Rattle.ref_space.proofs.Common.{changed_if}
 use Rattle.ref_space.specs.ColouredWords.{has_colour, recoloured}
 use Rattle.ref_space.specs.Pages.{left_in, is_chosen_place, has_chosen, taken_in}
 use Rattle.ref_space.specs.Moves.{Ways, AreFree, forward_of, ways_left}
@@ -28,8 +32,6 @@ use Rattle.ref_space.specs.Tables.{field_in_cell, field_held, has_field, on_obje
 use Rattle.ref_base.specs.CollectorRows.{referent_of}
 use Rattle.ref_base.specs.Heaps.{with_field, with_reference}
 use Rattle.ref_space.specs.Naming.{tabled_of, changed_of, with_referent}
-use Rattle.std.proofs.lemmas.List.{get_or_past}
-use Rattle.std.proofs.Common.{nat_lt, ltb-false}
 use Rattle.ref_space.proofs.CellChanges.{field_again, referent_again, few_places, nothing_left}
 use Rattle.ref_space.proofs.HealLemmas.{healed_held, recoloured-healed}
 use Rattle.ref_space.proofs.MoveLemmas.{none_chosen}
@@ -55,7 +57,7 @@ use Rattle.ref_space.specs.Pages.{page_at}
 use Rattle.std.proofs.Common.{◌%◌}
 use Rattle.std.proofs.lemmas.List.{get_or-set_same}
 
-module _ {round : Round} {cells : List (Option Tabled)} {es : List Entry} {ways : Ways} {slots : List (Option ℕ)}
+module _ {round : RoundView} {cells : List (Option Tabled)} {es : List Entry} {ways : Ways} {slots : List (Option ℕ)}
     {last room count index_room marked : ℕ}
     (sound : IsSoundTable round cells es ways last room count index_room marked
     × IsSoundNaming round ways cells es slots) {t : Table} (view : seen_table round ways cells es slots last room ≡ t)
@@ -402,17 +404,6 @@ held_is c i {v} is =
     none_is : {v : Option ℕ} → (let l : Option (Option ℕ) = Some v in l) ≡ None → ⊥
     none_is same = false≢true (sym (ap is_some same))
 
-pub none_held : (c : Option Tabled) (i : ℕ) → field_in_cell c i ≡ None → field_held c i ≡ None
-none_held None i is = refl
-none_held (Some k) i is =
-    elim (cases_Bool (nat_lt i (length k.object.fields))) [
-      | inl there ↦ absurd (none_is (simp there at is))
-      | inr past ↦ get_or_past k.object.fields i None (ltb-false i (length k.object.fields) past)
-    ]
-  where
-    none_is : {v : Option ℕ} → (let l : Option (Option ℕ) = Some v in l) ≡ None → ⊥
-    none_is same = false≢true (sym (ap is_some same))
-
 module _ (old mid : Table) (value object : Option ℕ) (after : mid ≡ brought old (target_of old value))
     (kept : (v : Option ℕ) → HasTarget old v → (target_of mid v ≡ target_of old v) × HasTarget mid v)
     (value_led : HasTarget old value) (object_led : HasTarget old object) where
@@ -440,41 +431,122 @@ module _ (old mid : Table) (value object : Option ℕ) (after : mid ≡ brought 
         ∙ referent_again mid object (target_of mid healed)
         (healed_named ∙ held ∙ ap (λ c. referent_of (tabled_reference c)) (sym tabled_still))
 
+no_field : (c : Option Tabled) (i : ℕ) → None ≡ field_in_cell c i → has_field c i ≡ false
+no_field c i none =
+    elim (cases_Bool (has_field c i)) [
+      | inl there ↦ absurd (false≢true (ap is_some (simp there at none)))
+      | inr past ↦ past
+    ]
+
+has_it : (c : Option Tabled) (i : ℕ) {n : Option ℕ} → Some n ≡ field_in_cell c i → has_field c i ≡ true
+has_it c i held =
+    elim (cases_Bool (has_field c i)) [
+      | inl there ↦ there
+      | inr past ↦ absurd (false≢true (sym (ap is_some (simp past at held))))
+    ]
+
+-- ---- the word that was read last
+
+read_brought : (t : Table) (n : Option ℕ) (word : Option WordName)
+    → with_read (brought t n) word ≡ brought (with_read t word) n
+read_brought t None word = refl
+read_brought t (Some n) word =
+    elim (cases_Bool (has (left_of t) n)) [ inl leaves ↦ simp leaves refl | inr stays ↦ simp stays refl ]
+
+read_changed_if : (t : Table) (n : Option ℕ) (f : Tabled → Tabled) (word : Option WordName)
+    → changed_if (with_read t word) n f ≡ with_read (changed_if t n f) word
+read_changed_if t None f word = refl
+read_changed_if t (Some n) f word = refl
+
+-- a field is loaded: its word is the one that was read last, and nothing changes where there is no such field
+abbrev pub field_loaded : Table → Option WordName → Option Tabled → ℕ → Table
+field_loaded t word c i = if has_field c i then brought (with_read t word) (field_held c i) else t
+
+-- a word is loaded, which led where this value does in a table: it is good then, its object has moved, and its name is
+-- the one of the word that was read last
+pub record IsLoaded (t : Table) (name : Option WordName) (value : Option ℕ) (new : Table) (word : Option ℕ) : Type 0
+  where
+    pub named : target_of new word ≡ target_of t value
+    pub healed : IsHealed new word
+    pub good : IsInColour new.round.good word
+    pub after : new ≡ brought (with_read t name) (target_of t value)
+    pub left : left_of new ≡ without_if_any (left_of t) (target_of t value)
+
+module _ (t old : Table) (name : Option WordName) (value : Option ℕ)
+    (read : old ≡ with_read t (read_if_good t.round name (Some value))) where
+  -- a good one is loaded as it is
+  pub good_loaded : IsHealed old value → IsInColour old.round.good value → brought old (target_of old value) ≡ old
+      → without_if_any (left_of old) (target_of old value) ≡ left_of old → IsLoaded t name value old value
+  good_loaded healed good stays left = record {
+    named = ap (λ (s : Table). target_of s value) read;
+    healed = healed;
+    good = good;
+    after = sym stays
+        ∙ ap (λ (s : Table). brought s (target_of s value))
+        (read ∙ ap (λ b. with_read t (if b then name else t.round.read))
+        (ap (λ (s : Table). is_in_colour s.round.good value) (sym read) ∙ good));
+    left = sym left ∙ ap (λ (s : Table). without_if_any (left_of s) (target_of s value)) read;
+  }
+
+  -- and another is healed, once its object has moved
+  pub healed_loaded : (mid : Table) (object : Option ℕ) (f : Tabled → Tabled) → mid ≡ brought old (target_of old value)
+      → changed_of mid object f ≡ mid → {called : Option WordName} → called ≡ name → {new : Table}
+      → new ≡ changed_of (with_read mid called) object f → (word : Option ℕ)
+      → target_of mid word ≡ target_of old value → IsHealed mid word → IsInColour mid.round.good word
+      → left_of mid ≡ without_if_any (left_of old) (target_of old value) → IsLoaded t name value new word
+  healed_loaded mid object f moved again {called} same {new} new_is word named healed good left = record {
+    named = ap (λ (s : Table). target_of s word) is ∙ named ∙ ap (λ (s : Table). target_of s value) read;
+    healed = subst (λ (s : Table). IsHealed s word) (sym is) healed;
+    good = subst (λ (s : Table). IsInColour s.round.good word) (sym is) good;
+    after = is
+        ∙ ap (λ (s : Table). with_read s called) (moved ∙ ap (λ (s : Table). brought s (target_of s value)) read)
+        ∙ read_brought (with_read t (read_if_good t.round name (Some value))) (target_of t value) called
+        ∙ ap (λ w. brought (with_read t w) (target_of t value)) same;
+    left = ap left_of is ∙ left ∙ ap (λ (s : Table). without_if_any (left_of s) (target_of s value)) read;
+  }
+    where
+      is : new ≡ with_read mid called
+      is =
+          new_is ∙ read_changed_if mid (target_of mid object) f called ∙ ap (λ (s : Table). with_read s called) again
+
+pub slots_loaded : (t : Table) (word : Option WordName) (c : Option Tabled) (i : ℕ)
+    → (field_loaded t word c i).slots ≡ t.slots
+slots_loaded t word c i =
+    elim (cases_Bool (has_field c i)) [
+      | inl there ↦ simp there (slots_brought (with_read t word) (field_held c i))
+      | inr past ↦ simp past refl
+    ]
+
+pub field_loaded_by : (t : Table) (word : Option WordName) (c : Option Tabled) (i : ℕ) {n : Option ℕ}
+    → Some n ≡ field_in_cell c i → brought (with_read t word) n ≡ field_loaded t word c i
+field_loaded_by t word c i held =
+    ap (brought (with_read t word)) (held_is c i held)
+    ∙ sym (ap (λ b. if b then brought (with_read t word) (field_held c i) else t) (has_it c i held))
+
 -- where there is such a field, the slot holds what it does, and else nothing changes
-module _ (t : Table) (into from i : ℕ) (c : Option Tabled) (is : c ≡ tabled_held t from) where
+module _ (t : Table) (word : Option WordName) (into from i : ℕ) (c : Option Tabled) (is : c ≡ tabled_held t from) where
   abbrev pub after_load : Table
   after_load =
       if has_field (tabled_held t from) i
-      then slotted (brought t (field_held (tabled_held t from) i)) into (field_held (tabled_held t from) i)
+      then slotted (brought (with_read t word) (field_held (tabled_held t from) i)) into
+      (field_held (tabled_held t from) i)
       else t
 
-  pub not_loaded : {s : Table} → None ≡ field_in_cell c i → s ≡ brought t (field_held c i) → s ≡ after_load
+  pub not_loaded : {s : Table} → None ≡ field_in_cell c i → s ≡ field_loaded t word c i → s ≡ after_load
   not_loaded none new =
-      new ∙ ap (brought t) (none_held c i (sym none))
+      new ∙ ap (λ b. if b then brought (with_read t word) (field_held c i) else t) (no_field c i none)
       ∙ sym (ap (λ b. if b
-      then slotted (brought t (field_held (tabled_held t from) i)) into (field_held (tabled_held t from) i) else t)
-      (no_field (tabled_held t from) (none ∙ ap (λ d. field_in_cell d i) is)))
-    where
-      no_field : (d : Option Tabled) → None ≡ field_in_cell d i → has_field d i ≡ false
-      no_field d none =
-          elim (cases_Bool (has_field d i)) [
-            | inl there ↦ absurd (false≢true (ap is_some (simp there at none)))
-            | inr past ↦ past
-          ]
+      then slotted (brought (with_read t word) (field_held (tabled_held t from) i)) into
+      (field_held (tabled_held t from) i) else t)
+      (no_field (tabled_held t from) i (none ∙ ap (λ d. field_in_cell d i) is)))
 
-  pub loaded : {s mid : Table} {n : Option ℕ} → Some n ≡ field_in_cell c i → mid ≡ brought t (field_held c i)
+  pub loaded : {s mid : Table} {n : Option ℕ} → Some n ≡ field_in_cell c i → mid ≡ field_loaded t word c i
       → s ≡ slotted mid into n → s ≡ after_load
   loaded {s} {mid} {n} held moved new =
-      new ∙ ap (λ m. slotted m into n) moved
-      ∙ ap (slotted (brought t (field_held c i)) into) (held_is c i held)
-      ∙ ap (λ d. slotted (brought t (field_held d i)) into (field_held d i)) is
+      new ∙ ap (λ m. slotted m into n) (moved ∙ sym (field_loaded_by t word c i held))
+      ∙ ap (λ n. slotted (brought (with_read t word) n) into n) (held_is c i held)
+      ∙ ap (λ d. slotted (brought (with_read t word) (field_held d i)) into (field_held d i)) is
       ∙ sym (ap (λ b. if b
-      then slotted (brought t (field_held (tabled_held t from) i)) into (field_held (tabled_held t from) i) else t)
-      (ap (λ d. has_field d i) (sym is) ∙ has_it c held))
-    where
-      has_it : (d : Option Tabled) → Some n ≡ field_in_cell d i → has_field d i ≡ true
-      has_it d held =
-          elim (cases_Bool (has_field d i)) [
-            | inl there ↦ there
-            | inr past ↦ absurd (false≢true (sym (ap is_some (simp past at held))))
-          ]
+      then slotted (brought (with_read t word) (field_held (tabled_held t from) i)) into
+      (field_held (tabled_held t from) i) else t)
+      (ap (λ d. has_field d i) (sym is) ∙ has_it c i held))

@@ -1,5 +1,6 @@
 -- What a call answers and leaves that changes the cell of one object, where it is found and where there is none.
-use Rattle.ref_space.specs.declared.round.Round.{Round}
+use Rattle.ref_space.specs.Tables.{RoundView}
+use Rattle.ref_space.specs.Places.{IsReadIn}
 use Rattle.ref_space.proofs.Common.{◌≡◌, ℕ, ◌<◌, Bool, true, false, refl, sym, ◌∙◌, ap, arith, List, length, get_or}
 use Rattle.ref_space.proofs.Common.{set, Option, Some, None, length-set, option_map, IsSoundTable, change_of}
 use Rattle.ref_space.proofs.Common.{tabled_linked, table_look, table_looked_at, ClearIn, Change, Tabled, Table}
@@ -86,6 +87,17 @@ use Rattle.ref_space.specs.Places.{with_fields_by, with_fields_healed}
 use Rattle.ref_space.proofs.HealCells.{at_own, own_read, fields_alike, map_alike, place_same, read_at, referent_stays}
 use Rattle.ref_space.proofs.HealCells.{set_twice, some_fields}
 use Rattle.std.proofs.lemmas.List.{with_items_is}
+use Rattle.ref_space.proofs.HealLemmas.{healed_good}
+use Rattle.ref_space.proofs.ReadLemmas.{IsReadGood, read_led, field_is}
+use Rattle.ref_space.proofs.HealLemmas.{told_good}
+use Rattle.ref_space.proofs.Common.{at_place}
+use Rattle.std.proofs.lemmas.Option.{none-some}
+use Rattle.ref_space.proofs.PlaceLemmas.{tabled_at-place}
+use Rattle.ref_space.specs.ColouredWords.{are_in_colour}
+use Rattle.ref_space.specs.Tables.{IfRead}
+use Rattle.ref_space.specs.declared.word_name.WordName.{WordName}
+use Rattle.ref_space.specs.ColouredWords.{is_in_colour}
+use Rattle.ref_space.specs.Tables.{word_in, word_name}
 use Rattle.ref_space.proofs.HealLemmas.{healed_by, heal_leads, heal-named, none_is_chosen, object-recoloured}
 use Rattle.ref_space.specs.Tables.{table_healed, with_healed}
 use Rattle.ref_space.proofs.ChangeLemmas.{found_at}
@@ -112,10 +124,15 @@ change_keeps change k = grind arith
 pub change_leaves : (change : Change) (k : Tabled) → (change_of change k).marked_in ≡ k.marked_in
 change_leaves change k = grind arith
 
+-- the object of a number has it
+number_of : (ks : List Tabled) (n : ℕ) (k : Tabled) → tabled_at ks n ≡ Some k → k.object.no ≡ n
+number_of [] n k at = absurd (none-some k at)
+number_of (l ∷ ls) n k at = grind (arith, number_of ls n k)
+
 -- ---- the count of the marked
 
 -- one more can be counted
-pub marks_fit : {round : Round} {cells : List (Option Tabled)} {es : List Entry} {ways : Ways}
+pub marks_fit : {round : RoundView} {cells : List (Option Tabled)} {es : List Entry} {ways : Ways}
     {last room count index_room marked : ℕ} → IsSoundTable round cells es ways last room count index_room marked
     → (b : Bool) {more : ℕ} → more ≡ from_bool b → marked + more < 2 ^ 64
 marks_fit {round} {cells} {es} sound b one =
@@ -187,6 +204,15 @@ pub reference-named : (name : Option ℕ → Option ℕ) (c : Option Tabled)
     → option_map (reference_by_number name) (tabled_reference c) ≡ tabled_reference (option_map (by_number name) c)
 reference-named name None = refl
 reference-named name (Some k) = refl
+
+pub referent-named_in : (name : Option ℕ → Option ℕ) → name None ≡ None → (c : Option Tabled)
+    → name (referent_of (tabled_reference c)) ≡ referent_of (tabled_reference (option_map (by_number name) c))
+referent-named_in name null None = null
+referent-named_in name null (Some k) = by k.object.reference
+  where
+    by : (r : Option Reference) → name (referent_of r) ≡ referent_of (option_map (reference_by_number name) r)
+    by None = null
+    by (Some r) = refl
 
 pub some_reference : (name : Option ℕ → Option ℕ) (c : Option Tabled)
     → is_some (tabled_reference (option_map (by_number name) c)) ≡ is_some (tabled_reference c)
@@ -328,7 +354,7 @@ healed_cell heal n (Some k) = ap Some (by k.object.reference refl)
 
 -- ---- the cell of an object
 
-module _ {round : Round} {cells : List (Option Tabled)} {es : List Entry} {ways : Ways} {slots : List
+module _ {round : RoundView} {cells : List (Option Tabled)} {es : List Entry} {ways : Ways} {slots : List
     (Option ℕ)}
     {last room count index_room marked : ℕ}
     (sound : IsSoundTable round cells es ways last room count index_room marked × IsSoundNaming round ways cells es
@@ -507,25 +533,26 @@ module _ {round : Round} {cells : List (Option Tabled)} {es : List Entry} {ways 
           seen_changed_at sound.0.placed place f keeps was is round slots room h same
           ∙ ap (λ (s : Table). changed s n h) view
 
-      module _ (holds : Keeps round.number leads f) where
-        -- the marked are counted anew
-        pub sound_counted : {marks : ℕ} → marks ≡ length (marked_of round.number (changed_tabled
-            (tabled_by cells es) n f))
-            → IsSoundTable round (set cells p new) es ways last room count index_room marks
-            × IsSoundNaming round ways (set cells p new) es slots
-        sound_counted counted =
-            let placed = placed_changed sound.0.placed place f keeps was is in
-            let same = tabled_by-changed sound.0.placed place f keeps was is in (
-              grind (arith, length-set, length-changed_tabled),
-              naming_changed sound.0.placed place f keeps was is round slots sound.1 holds,
-            )
+      module _ (holds : Keeps round.number leads f) (reads : (k : Tabled) → IsReadIn round k → IsReadIn round (f k))
+        where
+          -- the marked are counted anew
+          pub sound_counted : {marks : ℕ} → marks ≡ length (marked_of round.number (changed_tabled
+              (tabled_by cells es) n f))
+              → IsSoundTable round (set cells p new) es ways last room count index_room marks
+              × IsSoundNaming round ways (set cells p new) es slots
+          sound_counted counted =
+              let placed = placed_changed sound.0.placed place f keeps was is in
+              let same = tabled_by-changed sound.0.placed place f keeps was is in (
+                grind (arith, length-set, length-changed_tabled),
+                naming_changed sound.0.placed place f keeps was is round slots sound.1 holds reads,
+              )
 
-        -- or stay as many, where the change leaves the mark
-        pub sound_there : ((k : Tabled) → (f k).marked_in ≡ k.marked_in)
-            → IsSoundTable round (set cells p new) es ways last room count index_room marked
-            × IsSoundNaming round ways (set cells p new) es slots
-        sound_there leaves =
-            sound_counted (marks_changed round.number (tabled_by cells es) n f keeps leaves sound.0.marks_counted)
+          -- or stay as many, where the change leaves the mark
+          pub sound_there : ((k : Tabled) → (f k).marked_in ≡ k.marked_in)
+              → IsSoundTable round (set cells p new) es ways last room count index_room marked
+              × IsSoundNaming round ways (set cells p new) es slots
+          sound_there leaves =
+              sound_counted (marks_changed round.number (tabled_by cells es) n f keeps leaves sound.0.marks_counted)
 
   -- a number without a place: what is answered of no cell is answered of it, and the table is left as it was
   module _ {n : ℕ} (missing : IsMissing cells es n) where
@@ -641,6 +668,15 @@ module _ {round : Round} {cells : List (Option Tabled)} {es : List Entry} {ways 
             → f c ≡ f (tabled_of t v)
         blind_read f blind = answered_led f blind (ap f read_here)
 
+        -- a word of it that is null or has the good colour may count as read
+        pub good_read : (field : Option ℕ) {word : Option WordName} → word ≡ word_name (target_of t v) field
+            → ((k : Tabled) → c ≡ Some k → is_in_colour round.good (word_in field k.object) ≡ true)
+            → IsReadGood (record round { read = word }) cells
+        good_read field {word} is good =
+            read_led cells es sound.1.listed (record round { read = word })
+            (moved_place cells ways.forwards (place_by v)) field c
+            read_here (is ∙ ap (λ o. word_name o field) (sym number_read)) good
+
         -- and each word that it holds leads to an object
         pub each_read : (k : Tabled) → c ≡ Some k → Each (leads_by t.round.good t.ways t.occupants false) (values_in k)
         each_read k is =
@@ -652,6 +688,29 @@ module _ {round : Round} {cells : List (Option Tabled)} {es : List Entry} {ways 
             subst (λ (s : Table). Each (leads_by s.round.good s.ways s.occupants false) (values_in k)) view
             (each_anyhow round.good ways (occupants_of cells) (is_healed round.number k) (values_in k)
             (each_held round.number leads (tabled_by cells es) k.object.no k at sound.1.led).2)
+
+        -- so what is read of a field or of the referent does, and to what the object holds there
+        pub field_named_read : (i : ℕ) {w : Option ℕ} → Some w ≡ field_in_cell c i
+            → option_map (target_of t) (Some w) ≡ field_in_cell (tabled_of t v) i
+        field_named_read i held =
+            ap (option_map (target_of t)) held ∙ field-named_in (target_of t) refl c i
+            ∙ ap (λ k. field_in_cell k i) object_read
+
+        pub field_led_read : (i : ℕ) {w : Option ℕ} → Some w ≡ field_in_cell c i → HasTarget t w
+        field_led_read i held =
+            subst (λ r. IfSome r (HasTarget t)) (sym held)
+            (field_of_each (leads_by t.round.good t.ways t.occupants false) refl c i each_read)
+
+        pub referent_named_read : {w : Option ℕ} → w ≡ referent_of (tabled_reference c)
+            → target_of t w ≡ referent_of (tabled_reference (tabled_of t v))
+        referent_named_read held =
+            ap (target_of t) held ∙ referent-named_in (target_of t) refl c
+            ∙ ap (λ k. referent_of (tabled_reference k)) object_read
+
+        pub referent_led_read : {w : Option ℕ} → w ≡ referent_of (tabled_reference c) → HasTarget t w
+        referent_led_read held =
+            subst (HasTarget t) (sym held)
+            (referent_of_each (leads_by t.round.good t.ways t.occupants false) refl c each_read)
 
   -- ---- the word of a place at which an object lies
 
@@ -851,7 +910,9 @@ module _ {round : Round} {cells : List (Option Tabled)} {es : List Entry} {ways 
         × IsSoundNaming round ways (set cells p new) es slots
     sound_healed =
         sound_there place healing (with_healed round.number) (λ k. refl) (own_read cells p place.within) healed
-        (heal_leads round.good ways (occupants_of cells) nothing_leaves few_places round.number) (λ k. refl)
+        (heal_leads round.good ways (occupants_of cells) nothing_leaves few_places round.number)
+        (λ k is field same. healed_good round.good ways (occupants_of cells) few_places round.number field k)
+        (λ k. refl)
 
     pub seen_healed : {t : Table} → seen_table round ways cells es slots last room ≡ t
         → seen_table round ways (set cells p new) es slots last room ≡ table_healed t n
@@ -1007,6 +1068,51 @@ module _ {round : Round} {cells : List (Option Tabled)} {es : List Entry} {ways 
         (field_in_cell c i)) (sym view)
         ∙ ap (λ d. option_map (bits_told ways.pages.uses) (field_in_cell d i)) here)
         (λ k at. (each_held round.number leads (tabled_by cells es) n k at sound.1.led).2)))
+
+    -- and where it is the one that was read last, it is null or has the good colour
+    word_read : (k : Tabled) → c ≡ Some k → (field : Option ℕ)
+        → IfRead round n field (is_in_colour round.good (word_in field k.object))
+    word_read k is field same =
+        by (place_if_live cells (place_in es n) n)
+        (sym is ∙ here ∙ tabled_at-place cells es n sound.0.placed.rises)
+      where
+        number : k.object.no ≡ n
+        number = number_of (tabled_by cells es) n k (sym here ∙ is)
+
+        by : (place : Option ℕ) → Some k ≡ at_place cells place
+            → is_in_colour round.good (word_in field k.object) ≡ true
+        by None at = absurd (none-some k (sym at))
+        by (Some p) at =
+            sound.1.read p k (sym at) field
+            (same ∙ ap (λ (m : ℕ). Some (let w : WordName = record { no = m; field = field } in w)) (sym number))
+
+    told_so : (v : Option ℕ) (field : Option ℕ) → HasTarget t v
+        → IfRead round n field (is_in_colour round.good v)
+        → IfRead t.round n field (are_in_colour t.round.good (bits_told t.ways.pages.uses v))
+    told_so v field leads good =
+        subst (λ (s : Table). IfRead s.round n field (are_in_colour s.round.good (bits_told s.ways.pages.uses v))) view
+        (λ same. told_good round.good ways (occupants_of cells) false v addressed
+        (ap (λ (s : Table). leads_by s.round.good s.ways s.occupants false v) view ∙ leads) (good same))
+
+    pub field_told_good : (i : ℕ) {v : Option ℕ} → Some v ≡ field_in_cell c i
+        → IfRead t.round n (Some i) (are_in_colour t.round.good (bits_told t.ways.pages.uses v))
+    field_told_good i {v} held = told_so v (Some i) (told_leads i held) (by c refl held)
+      where
+        by : (d : Option Tabled) → c ≡ d → Some v ≡ field_in_cell d i
+            → IfRead round n (Some i) (is_in_colour round.good v)
+        by None is held = absurd (none-some v (sym held))
+        by (Some k) is held = λ same.
+            ap (is_in_colour round.good) (sym (field_is k i v (sym held))) ∙ word_read k is (Some i) same
+
+    pub referent_told_good : IfRead t.round n None
+        (are_in_colour t.round.good (bits_told t.ways.pages.uses (referent_of (tabled_reference c))))
+    referent_told_good =
+        told_so (referent_of (tabled_reference c)) None referent_led (by c refl)
+      where
+        by : (d : Option Tabled) → c ≡ d
+            → IfRead round n None (is_in_colour round.good (referent_of (tabled_reference d)))
+        by None is = λ same. refl
+        by (Some k) is = word_read k is None
 
     pub blind_told : {X : Type 0} (f : Option Tabled → X)
         → ((name : Option ℕ → Option ℕ) (c : Option Tabled) → f (option_map (by_number name) c) ≡ f c)

@@ -14,7 +14,9 @@ use Rattle.ref_space.proofs.NamingLemmas.{Keeps}
 use Rattle.ref_space.proofs.NamingLemmas.{changed-named_at, held_changed, held_without, held_to, each_to, held_unnamed}
 use Rattle.ref_space.proofs.NamingLemmas.{each_unnamed, named_same, map_same, without-named}
 use Rattle.ref_space.specs.Tables.{is_number}
-use Rattle.ref_space.specs.declared.round.Round.{Round}
+use Rattle.ref_space.specs.Tables.{RoundView}
+use Rattle.ref_space.specs.Places.{IsReadIn}
+use Rattle.ref_space.proofs.ReadLemmas.{read_changed, read_gone}
 use Rattle.ref_space.proofs.OccupantLemmas.{vacated}
 use Rattle.ref_space.proofs.Common.{Bool, EachHeld, NoneNames, has, named_slots, named_tabled, not, place_by, present}
 use Rattle.ref_space.proofs.Common.{◌&&◌}
@@ -91,7 +93,7 @@ changed-past t n i value past = ap (λ ks. record t { tabled = ks }) (changed_ta
 -- ---- a change of one object
 
 -- what a contract sees of a table, by the objects that the index leads to and those that the cells hold
-abbrev pub seen_by : Round → Ways → ℕ → ℕ → List Tabled → List (Option ℕ) → List (Option ℕ) → Table
+abbrev pub seen_by : RoundView → Ways → ℕ → ℕ → List Tabled → List (Option ℕ) → List (Option ℕ) → Table
 seen_by round ways last room ks slots occupants = record {
   tabled = map (by_number (target_by ways occupants)) ks;
   room = room;
@@ -152,7 +154,7 @@ module _ {cells : List (Option Tabled)} {es : List Entry} {ways : Ways} {last : 
     pub occupants-changed : occupants_of (set cells p new) ≡ occupants_of cells
     occupants-changed = map-set_same occupant_in cells p new None number-changed
 
-    module _ (round : Round) (slots : List (Option ℕ)) where
+    module _ (round : RoundView) (slots : List (Option ℕ)) where
       abbrev name : Option ℕ → Option ℕ
       name = target_by ways (occupants_of cells)
 
@@ -193,8 +195,9 @@ module _ {cells : List (Option Tabled)} {es : List Entry} {ways : Ways} {last : 
 
       pub naming_changed : IsSoundNaming round ways cells es slots
           → Keeps round.number (leads_by round.good ways (occupants_of cells)) f
+          → ((k : Tabled) → IsReadIn round k → IsReadIn round (f k))
           → IsSoundNaming round ways (set cells p new) es slots
-      naming_changed naming holds = record {
+      naming_changed naming holds reads = record {
         listed = listed_changed naming.listed;
         rooted = rw occupants-changed naming.rooted;
         begun = naming.begun;
@@ -202,6 +205,8 @@ module _ {cells : List (Option Tabled)} {es : List Entry} {ways : Ways} {last : 
         led = rw (occupants-changed, tabled_by-changed)
             (held_changed round.number (leads_by round.good ways (occupants_of cells)) f holds
             (tabled_by cells es) n naming.led);
+        read = read_changed round cells p place.within naming.read f reads
+            (is ∙ ap (option_map f) (get_or_read cells p old place.within was None));
       }
 
     pub placed_changed : IsPlaced (set cells p new) es ways last
@@ -241,7 +246,7 @@ module _ {cells : List (Option Tabled)} {es : List Entry} {ways : Ways} {last : 
     length-freed = grind (arith, length-without_tabled, found_at, tabled_by-freed)
 
     -- what names another object names it still
-    module _ {round : Round} {slots : List (Option ℕ)} (naming : IsSoundNaming round ways cells es slots)
+    module _ {round : RoundView} {slots : List (Option ℕ)} (naming : IsSoundNaming round ways cells es slots)
         (free_slots : has (present (named_slots ways cells slots)) n ≡ false)
         (free_objects : NoneNames (named_tabled ways cells es) n) where
       abbrev then : List (Option ℕ)
@@ -348,6 +353,7 @@ module _ {cells : List (Option Tabled)} {es : List Entry} {ways : Ways} {last : 
             (held_without round.number (leads_by round.good less_ways then) (tabled_by cells es) n
             (held_to round.number stays (leads_by round.good less_ways then) leads_still
             (tabled_by cells es) held_still));
+        read = read_gone round cells p place.within naming.read is;
       }
 
     pub given_size : length less.uses ≡ length ways.pages.uses

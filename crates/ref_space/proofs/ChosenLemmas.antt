@@ -5,7 +5,8 @@ use Rattle.ref_space.proofs.Common.{arith, List, [], ◌∷◌, length, map, Opt
 use Rattle.ref_space.proofs.Common.{Tabled, Table, Entry, tabled_by, occupants_of, seen_table, target_by, leads_by}
 use Rattle.ref_space.proofs.Common.{IsPlaced, IsSoundTable, IsSoundNaming, EachHeld, false≢true}
 use Rattle.std.proofs.lemmas.Bool.{true≢false}
-use Rattle.ref_space.specs.declared.round.Round.{Round}
+use Rattle.ref_space.specs.Tables.{RoundView}
+use Rattle.ref_space.proofs.ReadLemmas.{none_read}
 use Rattle.ref_space.specs.declared.colour.Colour.{Colour}
 use Rattle.ref_space.specs.declared.colour.Colour.TheVariants.{R}
 use Rattle.ref_space.specs.Pages.{Use, Pages, AreWhole, AreBetween, Packed, opened, taken_of, taken_cells, has_chosen}
@@ -43,7 +44,7 @@ taken-choosing : (ps : List Use) → taken_of (choosing ps) ≡ taken_of ps
 taken-choosing [] = refl
 taken-choosing (p ∷ ps) = grind (arith, taken-choosing ps)
 
-module _ {round : Round} {cells : List (Option Tabled)} {es : List Entry} {ways : Ways} {slots : List (Option ℕ)}
+module _ {round : RoundView} {cells : List (Option Tabled)} {es : List Entry} {ways : Ways} {slots : List (Option ℕ)}
     {last room count index_room marked : ℕ}
     (sound : IsSoundTable round cells es ways last room count index_room marked
     × IsSoundNaming round ways cells es slots) (is_tuned : ways.tuned ≡ true)
@@ -121,8 +122,9 @@ module _ {round : Round} {cells : List (Option Tabled)} {es : List Entry} {ways 
       abbrev os : List (Option ℕ)
       os = occupants_of cells
 
-      module _ (healed : unhealed_of round.number (tabled_by cells es) ≡ []) (begun : round.good ≡ R → ⊥) {next : Round}
-          (moves : next ≡ record round { good = R }) where
+      module _ (healed : unhealed_of round.number (tabled_by cells es) ≡ []) (begun : round.good ≡ R → ⊥)
+          {next : RoundView}
+          (moves : next ≡ record round { good = R; read = None }) where
         abbrev stays : Bool → Option ℕ → Bool
         stays b v = leads_by round.good ways os true v
 
@@ -166,12 +168,13 @@ module _ {round : Round} {cells : List (Option Tabled)} {es : List Entry} {ways 
                 begun = sound.1.begun;
                 apart = λ place chosen same. begun (sym last_is ∙ same);
                 led = held_to round.number stays (leads_by R more os) still (tabled_by cells es) held;
+                read = λ p k at. none_read (record round { good = R; read = None }) refl k;
               },
             )
 
         pub seen_chosen : {t : Table} → seen_table round ways cells es slots last room ≡ t
             → seen_table next more cells es slots last room
-            ≡ record t { ways = ways_chosen t.ways t.round.good; round = record t.round { good = R } }
+            ≡ record t { ways = ways_chosen t.ways t.round.good; round = record t.round { good = R; read = None } }
         seen_chosen view =
             (λ i. record {
               tabled = named_same round.number stays (target_by more os) (target_by ways os) named
@@ -186,7 +189,7 @@ module _ {round : Round} {cells : List (Option Tabled)} {es : List Entry} {ways 
             })
             ∙ ap (λ (s : Table). record s {
               ways = ways_chosen s.ways s.round.good;
-              round = record s.round { good = R };
+              round = record s.round { good = R; read = None };
             }) view
 
         -- what was chosen is left
@@ -221,7 +224,7 @@ module _ {round : Round} {cells : List (Option Tabled)} {es : List Entry} {ways 
             ∙ ap (λ (s : Table). numbers_at s.occupants (left_in (choosing s.ways.pages.uses))) view
 
 -- what is left unhealed of what is seen
-pub unhealed_seen : (round : Round) (cells : List (Option Tabled)) (es : List Entry) (ways : Ways)
+pub unhealed_seen : (round : RoundView) (cells : List (Option Tabled)) (es : List Entry) (ways : Ways)
     (slots : List (Option ℕ)) (last room : ℕ) {t : Table} → seen_table round ways cells es slots last room ≡ t
     → unhealed_of t.round.number t.tabled ≡ [] → unhealed_of round.number (tabled_by cells es) ≡ []
 unhealed_seen round cells es ways slots last room view none =
@@ -368,7 +371,7 @@ module _ {bs : List Bool} {fs : List ℕ} {ps : List Use} (are : AreFree bs fs p
       let nothing = taken-emptied next (chosen_frames ps) in
       ap taken_of (opened_all us (chosen-renumbered next ps)) ∙ omega (arith, same, nothing)
 
-module _ {round : Round} {cells : List (Option Tabled)} {es : List Entry} {ways : Ways} {slots : List (Option ℕ)}
+module _ {round : RoundView} {cells : List (Option Tabled)} {es : List Entry} {ways : Ways} {slots : List (Option ℕ)}
     {last room count index_room marked : ℕ}
     (sound : IsSoundTable round cells es ways last room count index_room marked
     × IsSoundNaming round ways cells es slots) (is_tuned : ways.tuned ≡ true)
@@ -440,6 +443,7 @@ module _ {round : Round} {cells : List (Option Tabled)} {es : List Entry} {ways 
       begun = sound.1.begun;
       apart = λ place chosen. absurd (true≢false (sym chosen ∙ all_opened place));
       led = held_to round.number good_there (leads_by round.good more lying) still_there (tabled_by cells es) held_good;
+      read = sound.1.read;
     },
   )
 

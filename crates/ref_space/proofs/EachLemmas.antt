@@ -21,7 +21,9 @@ use Rattle.ref_space.proofs.Common.{◌+◌, ◌-◌, ◌^◌, ◌<◌, ◌==◌
 use Rattle.std.proofs.lemmas.Bool.{ne_eqb}
 use Rattle.ref_space.proofs.Common.{subst}
 use Rattle.ref_space.proofs.HealLemmas.{slots_healed, slots-healed}
-use Rattle.ref_space.specs.declared.round.Round.{Round}
+use Rattle.ref_space.specs.Tables.{RoundView}
+use Rattle.ref_space.specs.Places.{IsReadIn}
+use Rattle.ref_space.proofs.ReadLemmas.{none_read, read_mapped}
 use Rattle.ref_space.specs.Moves.{Ways}
 use Rattle.ref_space.specs.Naming.{IsSettled, healed_word}
 use Rattle.ref_space.specs.Moves.{tuned}
@@ -97,7 +99,7 @@ module _ (f : Tabled → Tabled) (keeps : (k : Tabled) → (f k).object.no ≡ k
     pub occupants-all : occupants_of ds ≡ occupants_of cells
     occupants-all = ap occupants_of is ∙ entry_number-each cells
 
-    module _ (round : Round) (ways : Ways) (slots : List (Option ℕ)) where
+    module _ (round : RoundView) (ways : Ways) (slots : List (Option ℕ)) where
       pub seen_all : (last room : ℕ)
           → ((k : Tabled) → by_number (target_by ways (occupants_of cells)) (f k)
           ≡ f (by_number (target_by ways (occupants_of cells)) k))
@@ -114,8 +116,9 @@ module _ (f : Tabled → Tabled) (keeps : (k : Tabled) → (f k).object.no ≡ k
 
       pub naming_all : IsSoundNaming round ways cells es slots
           → Keeps round.number (leads_by round.good ways (occupants_of cells)) f
+          → ((k : Tabled) → IsReadIn round k → IsReadIn round (f k))
           → IsSoundNaming round ways ds es slots
-      naming_all naming holds = record {
+      naming_all naming holds reads = record {
         listed = listed_all naming.listed;
         begun = naming.begun;
         apart = naming.apart;
@@ -124,12 +127,14 @@ module _ (f : Tabled → Tabled) (keeps : (k : Tabled) → (f k).object.no ≡ k
             (held_map round.number (leads_by round.good ways (occupants_of cells)) round.number
             (leads_by round.good ways (occupants_of cells)) f holds
             (tabled_by cells es) naming.led);
+        read = λ p k at. read_mapped round f reads (cell_at cells p) (λ l own. naming.read p l own) k
+            (sym (cell_at-all p) ∙ at);
       }
 
     pub placed_all : {ways : Ways} {last : ℕ} → IsPlaced cells es ways last → IsPlaced ds es ways last
     placed_all {ways} {last} placed = grind (arith, tabled_by-all, length-map, is_none-each)
 
-    pub sound_all : {round next : Round} {ways : Ways} {last room count index_room marked marks : ℕ}
+    pub sound_all : {round next : RoundView} {ways : Ways} {last room count index_room marked marks : ℕ}
         → IsSoundTable round cells es ways last room count index_room marked
         → marks ≡ length (marked_of next.number (map f (tabled_by cells es)))
         → IsSoundTable next ds es ways last room count index_room marks
@@ -218,7 +223,7 @@ held_anew n old new ways os k held =
     (omega arith, omega arith, each_in_none old new ways os (is_healed n k) (values_in k) held.2)
 
 -- nothing is still to move, so that it may
-pub sound_tuned : {round : Round} {cells : List (Option Tabled)} {es : List Entry} {ways : Ways}
+pub sound_tuned : {round : RoundView} {cells : List (Option Tabled)} {es : List Entry} {ways : Ways}
     {last room count index_room marked : ℕ} → IsSettled ways (occupants_of cells)
     → IsSoundTable round cells es ways last room count index_room marked
     → IsSoundTable round cells es (tuned ways) last room count index_room marked
@@ -244,13 +249,14 @@ sound_tuned {cells = cells} {ways = ways} settled sound = record {
   marks_counted = sound.marks_counted;
 }
 
-module _ (old : Round) (new : Colour) (ways : Ways) (cells : List (Option Tabled)) (es : List Entry)
+module _ (old : RoundView) (new : Colour) (ways : Ways) (cells : List (Option Tabled)) (es : List Entry)
     (slots : List (Option ℕ)) {healed : List (Option ℕ)}
     (heals : healed ≡ map (healed_word new ways (occupants_of cells)) slots)
     (settled : IsSettled ways (occupants_of cells)) (small : length (occupants_of cells) ≤ 2 ^ 17)
     (new_apart : (place : ℕ) → is_chosen_place ways.pages.uses place ≡ true → ways.last ≡ new → ⊥) where
   -- the next
-  module _ (less : old.number < 2 ^ 8 - 1) {next : Round} (is : next ≡ record { number = old.number + 1; good = new })
+  module _ (less : old.number < 2 ^ 8 - 1) {next : RoundView}
+      (is : next ≡ record { number = old.number + 1; good = new; read = None })
     where
       pub sound_next : {last room count index_room marked : ℕ}
           → IsSoundTable old cells es ways last room count index_room marked → IsSoundNaming old ways cells es slots
@@ -278,6 +284,7 @@ module _ (old : Round) (new : Colour) (ways : Ways) (cells : List (Option Tabled
         begun = rw is (omega arith);
         apart = rw is new_apart;
         led = rw is (held_next old.number old.good new ways (occupants_of cells) (tabled_by cells es) naming.led);
+        read = λ p k at. none_read next (ap (λ (r : RoundView). r.read) is) k;
       }
 
       pub seen_next : Each (leads_by old.good ways (occupants_of cells) true) slots → (last room : ℕ)
@@ -287,7 +294,7 @@ module _ (old : Round) (new : Colour) (ways : Ways) (cells : List (Option Tabled
           let own : nat_lt old.number (2 ^ 8 - 1) ≡ true =
           lt-ltb old.number (2 ^ 8 - 1) less in
           ap (λ r. seen_table r (tuned ways) cells es healed last room) is
-          ∙ ap (λ vs. record (seen_table (record { number = old.number + 1; good = new })
+          ∙ ap (λ vs. record (seen_table (record { number = old.number + 1; good = new; read = None })
           (tuned ways) cells es slots last
           room) {
             slots = vs;
@@ -298,8 +305,8 @@ module _ (old : Round) (new : Colour) (ways : Ways) (cells : List (Option Tabled
           ∙ simp own refl
 
   -- the first again, once all numbers are spent
-  module _ {ds : List (Option Tabled)} (each : ds ≡ map (option_map with_nothing_done) cells) {next : Round}
-      (is : next ≡ record { number = 1; good = new }) where
+  module _ {ds : List (Option Tabled)} (each : ds ≡ map (option_map with_nothing_done) cells) {next : RoundView}
+      (is : next ≡ record { number = 1; good = new; read = None }) where
     pub naming_anew : IsSoundNaming old ways cells es slots → IsSoundNaming next (tuned ways) ds es healed
     naming_anew naming = record {
       listed = listed_all with_nothing_done (λ k. refl) cells each es old ways slots naming.listed;
@@ -316,6 +323,7 @@ module _ (old : Round) (new : Colour) (ways : Ways) (cells : List (Option Tabled
           (held_map old.number (leads_by old.good ways (occupants_of cells)) 1
           (leads_by new (tuned ways) (occupants_of cells)) with_nothing_done
           (held_anew old.number old.good new ways (occupants_of cells)) (tabled_by cells es) naming.led);
+      read = λ p k at. none_read next (ap (λ (r : RoundView). r.read) is) k;
     }
 
     pub seen_anew : 2 ^ 8 - 1 ≤ old.number → Each (leads_by old.good ways (occupants_of cells) true) slots
@@ -325,13 +333,13 @@ module _ (old : Round) (new : Colour) (ways : Ways) (cells : List (Option Tabled
     seen_anew spent rooted last room =
         let own : nat_lt old.number (2 ^ 8 - 1) ≡ false = le-ltb old.number (2 ^ 8 - 1) spent in
         ap (λ r. seen_table r (tuned ways) ds es healed last room) is
-        ∙ ap (λ vs. record (seen_table (record { number = 1; good = new })
+        ∙ ap (λ vs. record (seen_table (record { number = 1; good = new; read = None })
         (tuned ways) ds es slots last room) { slots = vs })
         (ap (λ os. map (target_by ways os) healed) (occupants-all with_nothing_done (λ k. refl) cells each es)
         ∙ ap (map (target_by ways (occupants_of cells))) heals
         ∙ slots-healed new ways (occupants_of cells) settled small old.good slots
         (each_anyhow old.good ways (occupants_of cells) true slots rooted)
         ∙ ap (λ os. map (target_by ways os) slots) (sym (occupants-all with_nothing_done (λ k. refl) cells each es)))
-        ∙ ap (λ (t : Table). record t { ways = tuned t.ways; round = record { number = 1; good = new } })
+        ∙ ap (λ (t : Table). record t { ways = tuned t.ways; round = record { number = 1; good = new; read = None } })
         (seen_all with_nothing_done (λ k. refl) cells each es old ways slots last room (λ k. refl))
         ∙ simp own refl

@@ -39,6 +39,10 @@ use Rattle.ref_space.specs.Naming.{IsSettled, healed_word, word_there, taken_way
 use Rattle.ref_space.specs.Naming.{way_of, IsHeldIn}
 use Rattle.ref_space.proofs.Common.{cases_Bool}
 use Rattle.std.proofs.lemmas.Bool.{cases_Bool}
+use Rattle.ref_space.specs.ColouredWords.{is_in_colour, are_in_colour}
+use Rattle.std.specs.Prelude.{if◌then◌else◌}
+use Rattle.ref_space.specs.Tables.{word_in}
+use Rattle.std.proofs.Math.ListN.{get_or-map}
 use Rattle.std.proofs.Common.{inl, inr}
 
 -- an object each of whose words was healed
@@ -172,6 +176,35 @@ module _ (good : Colour) (ways : Ways) (os : List (Option ℕ)) (settled : IsSet
         healed_in = n;
       }
 
+-- a healed word is null or has the good colour
+module _ (good : Colour) (ways : Ways) (os : List (Option ℕ)) (small : length os ≤ 2 ^ 17) where
+  heals_good : (v : Option ℕ) → is_in_colour good (healed_word good ways os v) ≡ true
+  heals_good v = by (place_by v)
+    where
+      by : (at : Option ℕ) → is_in_colour good (word_there good (taken_way ways os at)) ≡ true
+      by None = refl
+      by (Some q) =
+          let p : ℕ = way_from ways os q in
+          elim (cases_Bool (is_some (slice_index_or os p None))) [
+            | inl some ↦
+                let cell : IsCell (1 + p / 64) (p % 64) = has_word small p (some_within os p some) in
+                ap (λ b. is_in_colour good (word_there good (if b then Some p else None))) some
+                ∙ (word_is_good good (1 + p / 64) (p % 64) cell).coloured
+            | inr none ↦ ap (λ b. is_in_colour good (word_there good (if b then Some p else None))) none
+          ]
+
+  pub healed_good : (n : ℕ) (field : Option ℕ) (k : Tabled)
+      → is_in_colour good (word_in field (healed_by (healed_word good ways os) n k).object) ≡ true
+  healed_good n None k = by k.object.reference
+    where
+      by : (r : Option Reference)
+          → is_in_colour good (referent_of (option_map (reference_by_number (healed_word good ways os)) r)) ≡ true
+      by None = refl
+      by (Some r) = heals_good r.referent
+  healed_good n (Some i) k =
+      ap (is_in_colour good) (get_or-map (healed_word good ways os) k.object.fields i None)
+      ∙ heals_good (slice_index_or k.object.fields i None)
+
 -- ---- where no page is chosen
 
 -- there each word leads to the cell that it names: healed it is the same word in the good colour
@@ -246,6 +279,35 @@ pub record AreAddressed (ways : Ways) (os : List (Option ℕ)) : Type 0 where
       → IsCell (use_of ways.pages.uses frame).address cell
   pub inside : (is_last : Bool) (q : ℕ) → leads_from ways os is_last (Some q) ≡ true
       → q / 64 < length ways.pages.uses
+
+-- those of a word that is null or has a colour are so too
+pub told_good : (good : Colour) (ways : Ways) (os : List (Option ℕ)) (b : Bool) (v : Option ℕ) → AreAddressed ways os
+    → leads_by good ways os b v ≡ true → is_in_colour good v ≡ true
+    → are_in_colour good (bits_told ways.pages.uses v) ≡ true
+told_good good ways os b None addressed leads is = refl
+told_good good ways os b (Some w) addressed leads is = by (place_by (Some w)) refl (from_led good ways os b w leads)
+  where
+    bits : ℕ
+    bits = bits_told ways.pages.uses (Some w)
+
+    coloured : is_coloured bits good ≡ true → are_in_colour good bits ≡ true
+    coloured its =
+        elim (cases_Bool (bits == 0)) [
+          | inl null ↦ ap (λ c. c || is_coloured bits good) null
+          | inr word ↦ ap (λ c. c || is_coloured bits good) word ∙ its
+        ]
+
+    by : (at : Option ℕ) → place_by (Some w) ≡ at → leads_from ways os (has_colour ways.last (Some w)) at ≡ true
+        → are_in_colour good bits ≡ true
+    by None at from = absurd (false≢true from)
+    by (Some q) at from =
+        let page = use_of ways.pages.uses (q / 64) in
+        let inside = addressed.inside (has_colour ways.last (Some w)) q from in
+        let fits = addressed.address (q / 64) 0 inside (omega arith) in
+        let told : bits ≡ w / 2 ^ 62 * 2 ^ 62 + page.address * 64 + w % 64 =
+        ap (λ o. bits_at (use_of ways.pages.uses (frame_at o)).address (Some w)) at in
+        let top : bits / 2 ^ 62 ≡ w / 2 ^ 62 = (let below = fits.1 in omega (arith, told, below)) in
+        coloured (ap (λ n. n == colour_number good) top ∙ is)
 
 word_of_object : (good : Colour) (ways : Ways) (os : List (Option ℕ)) (b : Bool) (n word : ℕ)
     (own : Colour × ℕ × ℕ) → AreAddressed ways os → IsWordOf word own

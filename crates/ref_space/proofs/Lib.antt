@@ -28,8 +28,10 @@ pub mod PlaceLemmas
 pub mod FirstLemmas
 pub mod FreeLemmas
 pub mod OccupantLemmas
+pub mod ReadLemmas
 pub mod ChangeLemmas
 pub mod CellChanges
+pub mod ReadCells
 pub mod PushLemmas
 pub mod TableLemmas
 pub mod CountLemmas

@@ -27,7 +27,8 @@ use Rattle.ref_space.proofs.PlaceUses.{chosen_place-with}
 use Rattle.ref_space.proofs.RoomLemmas.{opened-chosen}
 use Rattle.ref_space.specs.ColouredWords.{has_colour}
 use Rattle.ref_space.specs.Naming.{leads_from}
-use Rattle.ref_space.specs.declared.round.Round.{Round}
+use Rattle.ref_space.specs.Tables.{RoundView}
+use Rattle.ref_space.proofs.ReadLemmas.{IsReadGood, read_gone, read_set}
 use Rattle.ref_space.proofs.IndexLemmas.{place_in-none, place_in-at, place_in-past}
 use Rattle.ref_space.proofs.Common.{count_below, get_or, nat_lt}
 use Rattle.ref_space.proofs.PlaceLemmas.{IsPlaceOf, is_of-some}
@@ -275,7 +276,7 @@ module _ {cells : List (Option Tabled)} {es : List Entry} {ways : Ways} {last : 
         size_now : length now ≡ length cells
         size_now = length-set (set cells from empty) to c ∙ length-set cells from empty
 
-    module _ {round : Round} {slots : List (Option ℕ)} (naming : IsSoundNaming round ways cells es slots) where
+    module _ {round : RoundView} {slots : List (Option ℕ)} (naming : IsSoundNaming round ways cells es slots) where
       abbrev pub leads : Bool → Option ℕ → Bool
       leads = leads_by round.good ways (occupants_of cells)
 
@@ -325,7 +326,17 @@ module _ {cells : List (Option Tabled)} {es : List Entry} {ways : Ways} {last : 
             (sym tabled_now)
             (held_to round.number leads (leads_by round.good (ways_left ways from) (occupants_of now)) leads_still
             (tabled_by cells es) naming.led);
+        read = read_moved;
       }
+        where
+          gone_read : IsReadGood round (set cells from empty)
+          gone_read = read_gone round cells from place.within naming.read none
+
+          read_moved : IsReadGood round now
+          read_moved =
+              read_set round (set cells from empty) to
+              (let within = within_to in omega (arith, within, length-set cells from empty)) gone_read c
+              (λ k own. naming.read from k (sym is ∙ own))
 
       pub seen_moved : (room : ℕ)
           → seen_table round (ways_left ways from) now (with_place_of es n to) slots last room
@@ -347,7 +358,7 @@ module _ {cells : List (Option Tabled)} {es : List Entry} {ways : Ways} {last : 
       }
 
 -- the fields as they stand once the object has moved
-module _ {round : Round} {cells : List (Option Tabled)} {es : List Entry} {ways : Ways} {slots : List (Option ℕ)}
+module _ {round : RoundView} {cells : List (Option Tabled)} {es : List Entry} {ways : Ways} {slots : List (Option ℕ)}
     {last room count index_room marked : ℕ}
     (sound : IsSoundTable round cells es ways last room count index_room marked
     × IsSoundNaming round ways cells es slots) {n from : ℕ} (place : IsPlaceOf cells es n from)

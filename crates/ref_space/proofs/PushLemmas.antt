@@ -27,7 +27,8 @@ use Rattle.std.proofs.lemmas.Bool.{ne_eqb}
 use Rattle.ref_space.proofs.TableLemmas.{all_null}
 use Rattle.ref_space.proofs.Common.{referent_of, false}
 use Rattle.ref_space.specs.declared.colour.Colour.{Colour}
-use Rattle.ref_space.specs.declared.round.Round.{Round}
+use Rattle.ref_space.specs.Tables.{RoundView}
+use Rattle.ref_space.proofs.ReadLemmas.{none_read}
 use Rattle.ref_space.proofs.RoomLemmas.{always_room}
 use Rattle.ref_space.proofs.FreeLemmas.{taken_next, IsTaken}
 use Rattle.ref_space.proofs.MarkCounts.{marks_made}
@@ -50,7 +51,7 @@ use Rattle.ref_space.specs.Moves.{NoneLeaves}
 -- ---- gaps
 
 -- closed gaps change nothing that is seen; the cells are looked at through a slice that was lent
-pub seen_closed : {cells borrowed : List (Option Tabled)} {fs : List Entry} (es : List Entry) (round : Round)
+pub seen_closed : {cells borrowed : List (Option Tabled)} {fs : List Entry} (es : List Entry) (round : RoundView)
     (ways : Ways) (last room : ℕ)
     (slots : List (Option ℕ)) → borrowed ≡ cells → fs ≡ filter (is_live borrowed) es
     → seen_table round ways cells fs slots last room ≡ seen_table round ways cells es slots last room
@@ -71,7 +72,8 @@ listed_filter cells es listed p k at =
     place_in-filter cells es k.object.no p (listed p k at) (rw at own)
 
 -- closed gaps leave what words lead to
-pub naming_relisted : {round : Round} {ways : Ways} {cells : List (Option Tabled)} {es fs : List Entry} {slots : List
+pub naming_relisted : {round : RoundView} {ways : Ways} {cells : List (Option Tabled)} {es fs : List Entry}
+    {slots : List
     (Option ℕ)}
     → IsSoundNaming round ways cells es slots → AreIndexed cells fs → tabled_by cells fs ≡ tabled_by cells es
     → IsSoundNaming round ways cells fs slots
@@ -81,9 +83,10 @@ naming_relisted naming listed same = record {
   apart = naming.apart;
   rooted = naming.rooted;
   led = rw same naming.led;
+  read = naming.read;
 }
 
-pub naming_closed : {round : Round} {ways : Ways} {cells borrowed : List (Option Tabled)} {es fs : List Entry}
+pub naming_closed : {round : RoundView} {ways : Ways} {cells borrowed : List (Option Tabled)} {es fs : List Entry}
     {slots : List (Option ℕ)} → IsSoundNaming round ways cells es slots → borrowed ≡ cells
     → fs ≡ filter (is_live borrowed) es → IsSoundNaming round ways cells fs slots
 naming_closed {round} {ways} {cells} {borrowed} {es} {fs} naming same is =
@@ -103,7 +106,7 @@ placed_closed {cells} {borrowed} {es} {fs} {ways} {last} placed same is =
       NoneAbove-filter,
     )
 
-pub counted_closed : {round : Round} {cells borrowed : List (Option Tabled)} {es fs : List Entry} {ways : Ways}
+pub counted_closed : {round : RoundView} {cells borrowed : List (Option Tabled)} {es fs : List Entry} {ways : Ways}
     {last room count index_room marked : ℕ} → IsSoundTable round cells es ways last room count index_room marked
     → borrowed ≡ cells → fs ≡ filter (is_live borrowed) es → {capacity : ℕ} → capacity ≡ index_room
     → IsSoundTable round cells fs ways last room count capacity marked
@@ -211,7 +214,7 @@ pub record CanMake (cells : List (Option Tabled)) (es fs : List Entry) (ways mor
     pub next : next_cell ways.pages.uses ≡ Some at
     pub placed : more ≡ ways_placed ways
 
-module _ {round : Round} {cells : List (Option Tabled)} {es : List Entry} {ways : Ways} {slots : List
+module _ {round : RoundView} {cells : List (Option Tabled)} {es : List Entry} {ways : Ways} {slots : List
     (Option ℕ)}
     {last room count index_room marked : ℕ}
     (sound : IsSoundTable round cells es ways last room count index_room marked × IsSoundNaming round ways cells es
@@ -436,10 +439,11 @@ module _ {round : Round} {cells : List (Option Tabled)} {es : List Entry} {ways 
                 (sym (get_or-set_other cells p q c None (λ same. false≢true (sym other ∙ eq-eqb q p same))) ∙ here))
           ])
 
-      pub sound_made : {capacity marks : ℕ} → index_room ≤ capacity → marks ≡ from_bool (is_marked round.number k)
+      pub sound_made : round.read ≡ None → {capacity marks : ℕ} → index_room ≤ capacity → marks ≡ from_bool
+          (is_marked round.number k)
           → IsSoundTable round (set cells p c) gs more k.object.no room (count + 1) capacity (marked + marks)
           × IsSoundNaming round more (set cells p c) gs (set slots into w)
-      sound_made fits one = (
+      sound_made none fits one = (
         table_made fits one,
         record {
           listed = listed_made;
@@ -451,5 +455,6 @@ module _ {round : Round} {cells : List (Option Tabled)} {es : List Entry} {ways 
           led = rw tabled_by-made
               (held_to round.number leads (leads_by round.good more then) leads_still (tabled_by cells es ++ k ∷ [])
               (held_push round.number leads (tabled_by cells es) k sound.1.led holds));
+          read = λ q l at. none_read round none l;
         },
       )

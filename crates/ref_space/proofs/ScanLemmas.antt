@@ -15,7 +15,7 @@ use Rattle.ref_space.specs.Tables.{MayList, LiesAt, is_unmarked_at, marked_if, a
 use Rattle.ref_space.specs.Tables.{with_healed}
 use Rattle.ref_space.specs.Tables.{changed, kept_value, scanned_values, table_healed, table_scanned}
 use Rattle.ref_space.specs.Worklists.{Worklist, with_more}
-use Rattle.ref_space.specs.declared.round.Round.{Round}
+use Rattle.ref_space.specs.Tables.{RoundView}
 use Rattle.ref_space.proofs.ChangeLemmas.{changed_tabled-none}
 use Rattle.ref_space.proofs.MarkCounts.{marks_more, length-unmarked_of}
 use Rattle.ref_space.proofs.TableMarks.{marked_each-append, anew_each-append, marked_each-more, anew_each-more}
@@ -174,7 +174,7 @@ module _ (keeps : Reference → Bool) (t : Table) (n : ℕ) where
     scanned_finds is =
         is ∙ ap (refers_into (is_unmarked_at fields.round.number referent.tabled)) reference_still
         ∙ ap (λ r. refers_into (is_unmarked_at r referent.tabled) (tabled_reference (tabled_at t.tabled n)))
-        (ap (λ (s : Table). s.round.number) first ∙ ap (λ (r : Round). r.number) (round-marked_each t held))
+        (ap (λ (s : Table). s.round.number) first ∙ ap (λ (r : RoundView). r.number) (round-marked_each t held))
         ∙ refers_into-same (is_unmarked_at t.round.number referent.tabled) (is_unmarked_at t.round.number after.tabled)
         (λ m.
         sym (ap (λ (s : Table). is_unmarked_at t.round.number s.tabled m) healed

@@ -1,8 +1,9 @@
 -- Worked and illegal examples of words that lead to objects, and of numbers that nothing names.
+use Rattle.ref_space.specs.declared.word_name.WordName.{WordName}
 use Rattle.ref_space.proofs.Common.{◌≡◌, ℕ, refl, true, false, false≢true, sym, [], ◌∷◌, Option, Some, None, List}
 use Rattle.ref_space.proofs.Common.{Table}
 use Rattle.ref_space.proofs.Common.{IsUnnamed, Tabled, leads_by, target_by}
-use Rattle.ref_space.specs.ColouredWords.{word_in_colour, word_of_place, colour_number}
+use Rattle.ref_space.specs.ColouredWords.{word_in_colour, word_of_place, colour_number, coloured_word, are_in_colour}
 use Rattle.ref_space.specs.declared.colour.Colour.{Colour}
 use Rattle.std.proofs.lemmas.Option.{none-some}
 use Rattle.ref_space.proofs.Common.{subst, ap, slice_index_or, ◌+◌, ◌*◌}
@@ -10,7 +11,7 @@ use Rattle.ref_space.specs.Naming.{IsWordHeld, bits_told, healed_word, way_from}
 use Rattle.ref_space.specs.Moves.{Ways, ways_of}
 use Rattle.ref_space.specs.Pages.{Use, fresh_page, use_of}
 use Rattle.ref_space.proofs.Common.{zero, suc}
-use Rattle.ref_space.specs.Tables.{with_occupant, without_occupant, LieOnce}
+use Rattle.ref_space.specs.Tables.{with_occupant, without_occupant, LieOnce, RoundView, IfRead, word_name}
 use Rattle.ref_space.proofs.Common.{◌==◌, eqb-true, ◌∙◌}
 use Rattle.std.proofs.lemmas.Bool.{eq-eqb, true≢false}
 use Rattle.ref_space.proofs.Common.{arith}
@@ -154,7 +155,7 @@ table = record {
   slots = None ∷ Some 7 ∷ [];
   ways = unmoved;
   occupants = occupants;
-  round = record { number = 1; good = R };
+  round = record { number = 1; good = R; read = None };
 }
 
 number_8_is_unnamed : IsUnnamed table 8
@@ -190,3 +191,32 @@ no_object_lies_twice laid = let same = laid.once 0 1 7 refl refl in absurd (omeg
 -- promise: Table::len: what lies in a cell is there
 what_lies_there_is_there : LieOnce occupants (λ n. n == 8) → ⊥
 what_lies_there_is_there laid = true≢false (sym (laid.there 0 7 refl))
+
+-- ---- the word that was read last
+
+-- the word of field 1 of object 7, in a round in which colour A is good
+abbrev after_a_load : RoundView
+after_a_load = record { number = 2; good = A; read = word_name (Some 7) (Some 1) }
+
+-- it is null, or has that colour
+null_was_read : IfRead after_a_load 7 (Some 1) (are_in_colour A 0)
+null_was_read is = refl
+
+a_good_word_was_read : IfRead after_a_load 7 (Some 1) (are_in_colour A (coloured_word A 5 3))
+a_good_word_was_read is = refl
+
+-- promise: Table::word_at, Table::word_of_referent: a word of another colour wasn't read last
+no_word_from_before_was_read : IfRead after_a_load 7 (Some 1) (are_in_colour A (coloured_word R 5 3)) → ⊥
+no_word_from_before_was_read so = true≢false (sym (so refl))
+
+-- of another word nothing is said
+abbrev or_0 : Option ℕ → ℕ
+or_0 None = 0
+or_0 (Some n) = n
+
+abbrev field_or_0 : Option WordName → ℕ
+field_or_0 None = 0
+field_or_0 (Some w) = or_0 w.field
+
+another_word_was_not_read : IfRead after_a_load 7 (Some 0) (are_in_colour A (coloured_word R 5 3))
+another_word_was_not_read is = let same : 1 ≡ 0 = ap field_or_0 is in absurd (omega (arith, same))

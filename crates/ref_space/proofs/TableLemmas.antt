@@ -9,7 +9,7 @@ use Rattle.ref_space.proofs.Common.{◌+◌, ◌/◌, ◌%◌}
 use Rattle.ref_space.specs.Tables.{empty_table}
 use Rattle.ref_space.specs.ColouredWords.{IsCell}
 use Rattle.ref_space.specs.declared.colour.Colour.TheVariants.{R}
-use Rattle.ref_space.specs.declared.round.Round.{Round}
+use Rattle.ref_space.specs.Tables.{RoundView}
 use Rattle.ref_space.specs.declared.colour.Colour.{Colour}
 use Rattle.ref_space.proofs.WordLemmas.{place_by-word}
 use Rattle.ref_space.proofs.RoomLemmas.{fresh_taken}
@@ -82,7 +82,7 @@ numbers-named : (name : Option ℕ → Option ℕ) (ks : List Tabled)
 numbers-named name [] = refl
 numbers-named name (k ∷ ks) = ap (λ ns. k.object.no ∷ ns) (numbers-named name ks)
 
-pub orderly : {round : Round} {cells : List (Option Tabled)} {es : List Entry} {ways : Ways}
+pub orderly : {round : RoundView} {cells : List (Option Tabled)} {es : List Entry} {ways : Ways}
     (slots : List (Option ℕ))
     {last room count index_room marked : ℕ} → IsSoundTable round cells es ways last room count index_room marked
     → IsSoundNaming round ways cells es slots → IsOrderlyTable (seen_table round ways cells es slots last room)
@@ -115,7 +115,7 @@ pub ways_new : (first count : ℕ) {pages : Pages} {forwards : List ℕ} → pag
     → forwards ≡ replicate (64 * count) 0 → ways_of pages forwards A true ≡ first_ways first count
 ways_new first count {pages} {forwards} are none = rw (are, none) refl
 
-pub sound_new : {round : Round} {cells : List (Option Tabled)} {es : List Entry} {ways : Ways}
+pub sound_new : {round : RoundView} {cells : List (Option Tabled)} {es : List Entry} {ways : Ways}
     (first count room index_room : ℕ)
     → count ≡ 2 * ((room + 63) / 64) → 64 * count ≤ 2 ^ 17 → 64 * count ≤ index_room
     → cells ≡ replicate (64 * count) None
@@ -160,7 +160,7 @@ pub all_null : (p : Option ℕ → Bool) → p None ≡ true → (n : ℕ) → E
 all_null p null zero = tt
 all_null p null (suc n) = (null, all_null p null n)
 
-pub naming_new : {round : Round} {cells : List (Option Tabled)} {es : List Entry} {slots : List (Option ℕ)}
+pub naming_new : {round : RoundView} {cells : List (Option Tabled)} {es : List Entry} {slots : List (Option ℕ)}
     {ways : Ways} (count n : ℕ)
     → 1 ≤ round.number → cells ≡ replicate (64 * count) None → es ≡ []
     → slots ≡ replicate n None → (first : ℕ) → ways ≡ first_ways first count
@@ -175,6 +175,8 @@ naming_new {round} {cells} {es} {slots} {ways} count n begun are none nulls firs
           let free : cell_at cells p ≡ None = ap (λ cs. cell_at cs p) are ∙ none_taken (64 * count) p in absurd (cc);
       rooted = rw nulls (all_null (leads_by round.good ways (occupants_of cells) true) refl n);
       led = rw none tt;
+      read = λ p k at.
+          let free : cell_at cells p ≡ None = ap (λ cs. cell_at cs p) are ∙ none_taken (64 * count) p in absurd (cc);
     }
 
 pub map-nulls : {X : Type 0} (f : X → Option ℕ) (x : X) → f x ≡ None → (n : ℕ)
@@ -182,11 +184,12 @@ pub map-nulls : {X : Type 0} (f : X → Option ℕ) (x : X) → f x ≡ None →
 map-nulls f x is zero = refl
 map-nulls f x is (suc n) = ap (λ v. v ∷ map f (replicate n x)) is ∙ ap (λ vs. None ∷ vs) (map-nulls f x is n)
 
-pub seen_new : {cells : List (Option Tabled)} {es : List Entry} {slots : List (Option ℕ)} {ways : Ways}
-    (first count n room : ℕ) → count ≡ 2 * ((room + 63) / 64) → ways ≡ first_ways first count
+pub seen_new : {round : RoundView} {cells : List (Option Tabled)} {es : List Entry} {slots : List (Option ℕ)}
+    {ways : Ways} → round ≡ record { number = 1; good = R; read = None } → (first count n room : ℕ) → count ≡ 2 *
+    ((room + 63) / 64) → ways ≡ first_ways first count
     → cells ≡ replicate (64 * count) None → es ≡ [] → slots ≡ replicate n None
-    → seen_table (record { number = 1; good = R }) ways cells es slots 0 room ≡ empty_table room n first
-seen_new {cells} {es} {slots} {ways} first count n room fills new are none nulls =
+    → seen_table round ways cells es slots 0 room ≡ empty_table room n first
+seen_new {round} {cells} {es} {slots} {ways} begun first count n room fills new are none nulls =
     let occupants = ap occupants_of are ∙ map-nulls occupant_in None refl (64 * count)
     ∙ ap (λ m. replicate (64 * m) None) fills in
     let held = ap (map (target_by ways (occupants_of cells))) nulls
@@ -198,5 +201,5 @@ seen_new {cells} {es} {slots} {ways} first count n room fills new are none nulls
       slots = held i;
       ways = (new ∙ ap (first_ways first) fills) i;
       occupants = occupants i;
-      round = record { number = 1; good = R };
+      round = begun i;
     })

@@ -58,3 +58,6 @@ pub changed-held : (r : ℕ) (ks : List Tabled) (n : ℕ) (if_marked b : Bool)
 changed-held r [] n if_marked true may = absurd (false≢true may)
 changed-held r [] n if_marked false not = refl
 changed-held r (k ∷ ks) n if_marked b may = grind (arith, changed-held r ks n if_marked b)
+
+pub held_object : (r : ℕ) (if_marked : Bool) (k : Tabled) → (table.more_held_if r if_marked k).object ≡ k.object
+held_object r if_marked k = grind arith

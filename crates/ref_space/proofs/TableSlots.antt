@@ -1,5 +1,5 @@
 -- What the slots of a table hold, and what a write to one leaves.
-use Rattle.ref_space.specs.declared.round.Round.{Round}
+use Rattle.ref_space.specs.Tables.{RoundView}
 use Rattle.ref_space.proofs.Common.{◌≡◌, ℕ, ◌<◌, true, refl, sym, ◌∙◌, ap, subst, arith, List, length, get_or, set}
 use Rattle.ref_space.proofs.Common.{Option}
 use Rattle.ref_space.proofs.Common.{None, slice_index_or, get_or_read, length-map, IsSoundTable, IsSoundNaming, Tabled}
@@ -11,7 +11,7 @@ use Rattle.ref_space.specs.Naming.{HasTarget, IsHealed}
 use Rattle.ref_space.proofs.NamingLemmas.{each_at, each_set, leads_anyhow}
 use Rattle.ref_space.specs.Moves.{Ways}
 
-module _ {round : Round} {cells : List (Option Tabled)} {es : List Entry} {ways : Ways} {slots : List
+module _ {round : RoundView} {cells : List (Option Tabled)} {es : List Entry} {ways : Ways} {slots : List
     (Option ℕ)}
     {last room count index_room marked : ℕ}
     (sound : IsSoundTable round cells es ways last room count index_room marked × IsSoundNaming round ways cells es
@@ -61,6 +61,7 @@ module _ {round : Round} {cells : List (Option Tabled)} {es : List Entry} {ways 
         rooted = each_set (leads_by round.good ways (occupants_of cells) true) slots place v
             (ap (λ (s : Table). leads_by s.round.good s.ways s.occupants true v) view ∙ leads) sound.1.rooted;
         led = sound.1.led;
+        read = sound.1.read;
       },
     )
 

@@ -1,12 +1,12 @@
 -- Coloured words, by which slots and fields name an object (JEP 333, ZGC: a pointer that has a colour in bits of its
 -- own). Three colours, pages of 64 cells and where the bits stand are this project's profile.
-use Rattle.std.specs.Prelude.{◌≡◌, ℕ, ◌+◌, ◌-◌, ◌*◌, ◌/◌, ◌%◌, ◌^◌, ◌<◌, ◌≤◌, ◌==◌, nat_lt, nat_le, Bool, false}
+use Rattle.std.specs.Prelude.{◌≡◌, ℕ, ◌+◌, ◌-◌, ◌*◌, ◌/◌, ◌%◌, ◌^◌, ◌<◌, ◌≤◌, ◌==◌, nat_lt, nat_le, Bool, false, ◌||◌}
 use Rattle.std.specs.Prelude.{if◌then◌else◌}
 use Rattle.std.proofs.Common.{ap, ap₂, sym, refl, ◌∙◌, inl, inr, lt_trans}
 use Rattle.std.proofs.lemmas.Bool.{cases_Bool, eqb-true, ltb-true}
 use Rattle.std.proofs.lemmas.Nat.{div-mul-add, mod-mul-add, mod_below, div-add-mod'}
 use Rattle.std.specs.Prelude.{Option, Some, None}
-use Rattle.std.specs.Option.{is_some}
+use Rattle.std.specs.Option.{is_some, is_none}
 use Rattle.ref_space.specs.declared.colour.Colour.{Colour}
 use Rattle.ref_space.specs.declared.colour.Colour.TheVariants.{A, B, R}
 
@@ -101,6 +101,14 @@ is_word (Some word) = is_some (parts_of word)
 abbrev pub has_colour : Colour → Option ℕ → Bool
 has_colour colour None = false
 has_colour colour (Some word) = is_coloured word colour
+
+-- whether it is null, or has this colour
+abbrev pub is_in_colour : Colour → Option ℕ → Bool
+is_in_colour colour value = is_none value || has_colour colour value
+
+-- whether bits are those of null, or of a word of this colour
+abbrev pub are_in_colour : Colour → ℕ → Bool
+are_in_colour colour bits = bits == 0 || is_coloured bits colour
 
 -- the word of the same cell in this colour
 abbrev pub recoloured : Colour → Option ℕ → Option ℕ

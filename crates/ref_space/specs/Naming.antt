@@ -6,6 +6,7 @@ use Rattle.std.specs.Prelude.{slice_index_or, if◌then◌else◌}
 use Rattle.std.specs.Option.{option_map, is_none, is_some}
 use Rattle.ref_base.specs.Graphs.{Object, Reference}
 use Rattle.ref_space.specs.ColouredWords.{place_by, parts_of, is_word, has_colour, word_of_place, bits_at}
+use Rattle.ref_space.specs.ColouredWords.{is_in_colour}
 use Rattle.ref_space.specs.declared.colour.Colour.{Colour}
 use Rattle.ref_space.specs.Pages.{Use, use_of, is_chosen_place}
 use Rattle.ref_space.specs.Moves.{Ways, forward_of}
@@ -104,7 +105,7 @@ IsHealed t value = leads_by t.round.good t.ways t.occupants true value ≡ true
 
 -- the value is null, or has this colour
 abbrev pub IsInColour : Colour → Option ℕ → Type 0
-IsInColour colour value = (is_none value || has_colour colour value) ≡ true
+IsInColour colour value = is_in_colour colour value ≡ true
 
 -- these are the bits of a word of an object, of the cell in which it lies or of that from which it moved, 64 to the
 -- frame of each page: with the address of that page, and of the good colour where it has to be

@@ -8,10 +8,10 @@ use Rattle.ref_space.specs.Pages.{taken_of, opened, AreBetween, Packed, is_chose
 use Rattle.ref_space.specs.Moves.{Ways, AreFree, NoneLeaves, forward_of}
 use Rattle.std.specs.Option.{option_map, is_none, is_some}
 use Rattle.ref_space.specs.declared.colour.Colour.{Colour}
-use Rattle.ref_space.specs.ColouredWords.{place_by}
+use Rattle.ref_space.specs.ColouredWords.{place_by, is_in_colour}
 use Rattle.ref_space.specs.Tables.{Tabled, Table, is_marked, marked_of, with_nothing_done, blanked_unless_marked}
 use Rattle.ref_space.specs.Tables.{on_object}
-use Rattle.ref_space.specs.declared.round.Round.{Round}
+use Rattle.ref_space.specs.Tables.{RoundView, IfRead, word_in}
 use Rattle.ref_space.specs.Naming.{occupants_of, target_by, leads_by, by_number, word_there, Each, EachHeld}
 use Rattle.ref_space.specs.declared.index.Entry.{Entry}
 
@@ -152,10 +152,15 @@ pub record IsPlaced (cells : List (Option Tabled)) (index : List Entry) (ways : 
   pub small : length cells ≤ 2 ^ 17
   pub few : length index ≤ length cells
 
+-- where a word of an object is the one that was read last, it is null or has the good colour
+abbrev pub IsReadIn : RoundView → Tabled → Type 0
+IsReadIn round k =
+    (field : Option ℕ) → IfRead round k.object.no field (is_in_colour round.good (word_in field k.object))
+
 -- what holds of a table's fields: that, there are twice as many pages as the objects fill that there may be, the first
 -- half of the open ones has all of these, no push to the index ever takes memory, and the objects and the marked ones
 -- are counted
-pub record IsSoundTable (round : Round) (cells : List (Option Tabled)) (index : List Entry) (ways : Ways)
+pub record IsSoundTable (round : RoundView) (cells : List (Option Tabled)) (index : List Entry) (ways : Ways)
     (last room count index_room marked : ℕ) : Type 0 where
   pub placed : IsPlaced cells index ways last
   pub cells_fit : room ≤ length cells
@@ -169,15 +174,15 @@ pub record IsSoundTable (round : Round) (cells : List (Option Tabled)) (index : 
 
 -- what holds of words: each cell has one, each object has its entry, and each word that a slot or an object holds leads
 -- to an object; those of slots and of healed objects have the good colour, which isn't that of words from before pages
--- were chosen that are still
-pub record IsSoundNaming (round : Round) (ways : Ways) (cells : List (Option Tabled)) (index : List Entry) (slots : List
-    (Option ℕ))
-    : Type 0 where
+-- were chosen that are still; and so has the word that was read last
+pub record IsSoundNaming (round : RoundView) (ways : Ways) (cells : List (Option Tabled)) (index : List Entry)
+    (slots : List (Option ℕ)) : Type 0 where
   pub listed : AreIndexed cells index
   pub rooted : Each (leads_by round.good ways (occupants_of cells) true) slots
   pub begun : 1 ≤ round.number
   pub apart : (place : ℕ) → is_chosen_place ways.pages.uses place ≡ true → ways.last ≡ round.good → ⊥
   pub led : EachHeld round.number (leads_by round.good ways (occupants_of cells)) (tabled_by cells index)
+  pub read : (place : ℕ) (k : Tabled) → cell_at cells place ≡ Some k → IsReadIn round k
 
 -- the objects that the index leads to, and what slots hold, with numbers in the place of words
 abbrev pub named_tabled : Ways → List (Option Tabled) → List Entry → List Tabled
@@ -187,7 +192,7 @@ abbrev pub named_slots : Ways → List (Option Tabled) → List (Option ℕ) →
 named_slots ways cells slots = map (target_by ways (occupants_of cells)) slots
 
 -- what a contract sees of a table's fields
-abbrev pub seen_table : Round → Ways → List (Option Tabled) → List Entry → List (Option ℕ) → ℕ → ℕ → Table
+abbrev pub seen_table : RoundView → Ways → List (Option Tabled) → List Entry → List (Option ℕ) → ℕ → ℕ → Table
 seen_table round ways cells index slots last room = record {
   tabled = named_tabled ways cells index;
   room = room;

@@ -18,6 +18,7 @@ use Rattle.ref_base.specs.Heaps.{reference_in, with_reference, with_stamp, clear
 use Rattle.ref_space.specs.declared.cell.Change.{Change}
 use Rattle.ref_space.specs.declared.colour.Colour.{Colour}
 use Rattle.ref_space.specs.declared.round.Round.{Round}
+use Rattle.ref_space.specs.declared.word_name.WordName.{WordName}
 use Rattle.ref_space.specs.declared.colour.Colour.TheVariants.{R}
 use Rattle.ref_space.specs.declared.cell.Change.TheVariants.{Cut, Stamp, ClearedIn, ClearIn, Link}
 use Rattle.ref_space.specs.declared.linked.Linked.{Linked}
@@ -27,6 +28,7 @@ use Rattle.ref_space.specs.Pages.{with_placed, with_given, next_cell, place_in_f
 use Rattle.ref_space.specs.Moves.{Ways, first_ways, forward_of, ways_chosen, ways_left, ways_renumbered}
 use Rattle.ref_space.specs.Worklists.{Worklist}
 use Rattle.ref_space.specs.Moves.{tuned}
+use Rattle.ref_space.specs.ColouredWords.{is_in_colour}
 
 -- an object of the table, how many holds of it are out, the round in which it was marked last, and that in which it was
 -- healed last, so that each word that it holds had the colour that was good then, 0 where it never was; its link, which
@@ -39,6 +41,22 @@ pub record Tabled : Type 0 where
   pub link : ℕ
   pub cleared_in : ℕ
 
+-- a round of a table: its number, the colour that is good in it, and the word that a load or a get read last. That one
+-- is null or has the good colour where it stands, so it is none once a colour was made good, or a word was written that
+-- may have another
+pub record RoundView : Type 0 where
+  pub number : ℕ
+  pub good : Colour
+  pub read : Option WordName
+
+-- a round that goes on, with the word that was read last in it
+abbrev pub round_of : Round → Option WordName → RoundView
+round_of round read = record { number = round.number; good = round.good; read = read }
+
+-- where this word of object n was read last, that of a field, or without one that of its referent, it passes a test
+abbrev pub IfRead : RoundView → ℕ → Option ℕ → Bool → Type 0
+IfRead round n field passes = round.read ≡ Some (record { no = n; field = field }) → passes ≡ true
+
 -- the objects that there are, in order of number, how many there may be, the greatest number that was ever given, and
 -- what each slot holds, an object or null; where the objects lie: the pages, and of each cell, by place, the number of
 -- its object, the cells of frame f at the places from 64 * f on; and the round that goes on
@@ -49,7 +67,7 @@ pub record Table : Type 0 where
   pub slots : List (Option ℕ)
   pub ways : Ways
   pub occupants : List (Option ℕ)
-  pub round : Round
+  pub round : RoundView
 
 -- a table of no objects, with so many slots, each empty, in pages of 64 cells from this address on: twice as many as
 -- the objects fill, so that there is room for what moves
@@ -61,7 +79,7 @@ empty_table room slots first = record {
   slots = replicate slots None;
   ways = first_ways first (2 * ((room + 63) / 64));
   occupants = replicate (64 * (2 * ((room + 63) / 64))) None;
-  round = record { number = 1; good = R };
+  round = record { number = 1; good = R; read = None };
 }
 
 -- ---- what is read
@@ -303,7 +321,7 @@ unhealed_of round = numbers_by (λ k. from_bool (not (is_healed round k)))
 -- pages were chosen, and what lies there is to move: the colour of moves is good
 abbrev pub selected_unless : Option Fault → Table → Table
 selected_unless None t =
-    record t { ways = ways_chosen t.ways t.round.good; round = record t.round { good = R } }
+    record t { ways = ways_chosen t.ways t.round.good; round = record t.round { good = R; read = None } }
 selected_unless (Some fault) t = t
 
 abbrev pub table_selected : Table → Table
@@ -348,11 +366,11 @@ brought t (Some n) = if has (left_of t) n then moved_from t (place_of_number t.o
 abbrev pub table_begun : Table → Colour → Table
 table_begun t good =
     if nat_lt t.round.number (2 ^ 8 - 1)
-    then record t { ways = tuned t.ways; round = record { number = t.round.number + 1; good = good } }
+    then record t { ways = tuned t.ways; round = record { number = t.round.number + 1; good = good; read = None } }
     else record t {
       tabled = map with_nothing_done t.tabled;
       ways = tuned t.ways;
-      round = record { number = 1; good = good };
+      round = record { number = 1; good = good; read = None };
     }
 
 -- the table without the object of number n, where that isn't marked
@@ -465,6 +483,31 @@ field_held k i = slice_index_or (tabled_fields k) i None
 -- what field i of an object holds, where there is such a field
 abbrev pub field_in_cell : Option Tabled → ℕ → Option (Option ℕ)
 field_in_cell k i = if has_field k i then Some (field_held k i) else None
+
+-- ---- the word that was read last
+
+-- the table in which it is this one
+abbrev pub with_read : Table → Option WordName → Table
+with_read t word = record t { round = record t.round { read = word } }
+
+-- or none
+abbrev pub with_none_read : Table → Table
+with_none_read t = with_read t None
+
+-- the name of a word of an object, if there is one: that of a field, or without one that of its referent
+abbrev pub word_name : Option ℕ → Option ℕ → Option WordName
+word_name None field = None
+word_name (Some n) field = Some (record { no = n; field = field })
+
+-- that word of an object: null where there is no such field
+abbrev pub word_in : Option ℕ → Object → Option ℕ
+word_in None o = referent_of o.reference
+word_in (Some field) o = slice_index_or o.fields field None
+
+-- what was read last once a word of this name is read: that word, if it is null or has the good colour
+abbrev pub read_if_good : RoundView → Option WordName → Option (Option ℕ) → Option WordName
+read_if_good round name None = round.read
+read_if_good round name (Some value) = if is_in_colour round.good value then name else round.read
 
 -- a new reference, by what slots hold
 abbrev pub made_of : List (Option ℕ) → NewReference → Reference

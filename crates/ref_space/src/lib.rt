@@ -21,6 +21,7 @@ mod reference;
 mod round;
 mod table;
 mod word;
+mod word_name;
 mod words;
 mod worklist;
 
@@ -36,5 +37,6 @@ pub use reference::Reference;
 pub use round::Round;
 pub use table::Table;
 pub use word::Word;
+pub use word_name::WordName;
 pub use words::{has_colour, parts_of, word_of};
 pub use worklist::Worklist;

@@ -8,7 +8,7 @@ ghost use Rattle.ref_space.specs.Places.{begun_cell, place_of_word};
 ghost use Rattle.ref_space.specs.Naming.{word_there, target_of, IsHealed, reference_by_number};
 ghost use Rattle.ref_space.specs.Tables.{IsOrderlyTable, empty_table, tabled_at, table_freed, made_entry};
 ghost use Rattle.ref_space.specs.Tables.{with_tabled, is_unmarked_in, marked_of, unmarked_of, table_begun};
-ghost use Rattle.ref_space.specs.Tables.{table_blanked, made_of, IsUnnamed, left_of, LieOnce};
+ghost use Rattle.ref_space.specs.Tables.{table_blanked, made_of, IsUnnamed, left_of, LieOnce, with_none_read};
 ghost use Rattle.ref_space.specs.Moves.{AreFree};
 ghost use Rattle.ref_base.specs.CollectorRows.{referent_of};
 ghost use Rattle.ref_space.specs.Worklists.{emptied_list, with_more};
@@ -27,11 +27,13 @@ use crate::kept::{Kept, NewReference};
 use crate::pages::Pages;
 use crate::round::Round;
 use crate::word::Word;
+use crate::word_name::WordName;
 use crate::worklist::Worklist;
 use by_word::healed_word;
 use ref_base::{Fault, ObjNo};
 use std::alloc::{AllocError, Allocator, Global};
 use std::marker::Model;
+use std::snapshot::Snapshot;
 
 /// The objects of a heap, each with a count of holds and a mark. All memory is taken by `new`: for each cell 80 bytes
 /// of its own, 8 of the index and 4 for where what lay there moved, and 32 for each page of 64 cells. Twice as many
@@ -62,6 +64,9 @@ pub struct Table<A: Allocator = Global> {
     last: ObjNo,
     // How many of the objects are marked.
     marked: usize,
+    // The word that a load or a get read last: where it stands it is null or has the good colour. None once a colour
+    // was made good, or a word was written that may have another. It takes no memory, since only clauses read it.
+    read: Snapshot<Option<WordName>>,
 }
 
 // Written out, so that crates above prove nothing of what a table is made of where they drop one.
@@ -80,27 +85,30 @@ impl<A: Allocator> Drop for Table<A> {
             count: _,
             last: _,
             marked: _,
+            read: _,
         } = self;
     }
 }
 
 impl<A: Allocator> Model for Table<A> {
     ghost use Rattle.std.specs.Vec.{vec_capacity};
-    ghost use Rattle.ref_space.specs.Tables.{Table as Data};
+    ghost use Rattle.ref_space.specs.Tables.{Table as Data, round_of};
 
     ghost Value = { Data };
 
     ghost use Rattle.ref_space.specs.Moves.{ways_of};
     ghost use Rattle.ref_space.specs.Places.{IsSoundTable, IsSoundNaming, seen_table};
 
-    ghost view = { λ t. seen_table t.round (ways_of t.pages t.forwards.items t.last_good t.is_tuned)
+    ghost view = { λ t. seen_table (round_of t.round t.read.value)
+        (ways_of t.pages t.forwards.items t.last_good t.is_tuned)
         t.cells.items t.index.items t.slots.items t.last t.room };
 
     ghost invariant = { λ t.
-        IsSoundTable t.round t.cells.items t.index.items
+        IsSoundTable (round_of t.round t.read.value) t.cells.items t.index.items
         (ways_of t.pages t.forwards.items t.last_good t.is_tuned) t.last t.room t.count
         (vec_capacity t.index) t.marked
-        × IsSoundNaming t.round (ways_of t.pages t.forwards.items t.last_good t.is_tuned)
+        × IsSoundNaming (round_of t.round t.read.value)
+        (ways_of t.pages t.forwards.items t.last_good t.is_tuned)
         t.cells.items t.index.items t.slots.items };
 }
 
@@ -143,6 +151,7 @@ impl<A: Allocator + Copy> Table<A> {
             count: 0,
             last: ObjNo(0),
             marked: 0,
+            read: nothing_read(),
         })
     }
 
@@ -175,7 +184,7 @@ impl<A: Allocator + Copy> Table<A> {
     }
 
     /// A new object that nobody holds, with so many null fields, in the first free cell; the slot at place `into` holds
-    /// it.
+    /// it. No word is the one that was read last then, since that of its referent may have a colour from before.
     pub fn push(
         &mut self,
         into: usize,
@@ -189,7 +198,7 @@ impl<A: Allocator + Copy> Table<A> {
         requires rises { self.old.last < no }
         requires room { length self.old.tabled < self.old.room }
         requires from { IfSome reference (λ r. r.from < length self.old.slots) }
-        ensures after { self.new ≡ with_tabled self.old into
+        ensures after { self.new ≡ with_tabled (with_none_read self.old) into
             (made_entry self.old.round.number no count (option_map (made_of self.old.slots) reference) marked) }
         ensures left { left_of self.new ≡ left_of self.old }
     {
@@ -206,6 +215,7 @@ impl<A: Allocator + Copy> Table<A> {
         self.count += 1;
         self.marked += usize::from(marked);
         self.slots[into] = Word::of_place(self.round.good, place as u32);
+        self.read = nothing_read();
     }
 
     // What the cell of a new reference has of it.
@@ -289,6 +299,7 @@ impl<A: Allocator + Copy> Table<A> {
         heal_slots(&mut self.slots, &self.cells, &self.forwards, good);
         self.marked = 0;
         self.is_tuned = true;
+        self.read = nothing_read();
         if self.round.number < u8::MAX {
             let number = self.round.number + 1;
             self.round = Round { number, good };
@@ -298,6 +309,15 @@ impl<A: Allocator + Copy> Table<A> {
         forget_rounds(&mut self.cells);
         self.round = Round { number: 1, good };
     }
+}
+
+// That no word was read.
+#[inline(always)]
+fn nothing_read() -> Snapshot<Option<WordName>>
+    ensures { result.value ≡ None }
+{
+    let nothing: Option<WordName> = None;
+    Snapshot::of(&nothing)
 }
 
 // The objects of these cells are as if they had never been marked or healed.

@@ -3,6 +3,7 @@
 ghost use Rattle.std.specs.Prelude.{◌≡◌, ◌+◌, ◌^◌, ◌<◌, None};
 ghost use Rattle.std.specs.Option.{is_none};
 ghost use Rattle.ref_space.specs.ColouredWords.{place_by, word_of_place, has_colour, recoloured, bits_at, IsIndexOf};
+ghost use Rattle.ref_space.specs.ColouredWords.{is_in_colour};
 
 use crate::colour::Colour;
 use std::marker::Model;
@@ -66,6 +67,14 @@ impl Word {
         ensures { result ≡ has_colour colour self }
     {
         self.bits / PLACES == colour.number()
+    }
+
+    /// Whether it is null, or has this colour.
+    #[inline(always)]
+    pub fn is_in_colour(self, colour: Colour) -> bool
+        ensures { result ≡ is_in_colour colour self }
+    {
+        self.has_colour(colour) || self.is_null()
     }
 
     /// The word of the same cell in this colour, or null.

@@ -17,13 +17,12 @@ use crate::replies::{
     began, done, doomed, handed_on, looked, made, moved, refers, scanned, selected, swept, value,
 };
 use ref_base::{Batch, Fault, HeapStep, ObjNo, PlainStep, Reply, WorkerNo};
-use ref_clear::Notice;
-use ref_move::MovingHeap;
+use ref_clear::{Heap, Notice};
 use ref_objects::Hold;
 use std::alloc::{Allocator, Global};
 
 /// The heap that a world has.
-pub type WorldHeap<A = Global> = MovingHeap<A>;
+pub type WorldHeap<A = Global> = Heap<A>;
 
 /// A step of a heap that has the hold which it spends, and the batch which it fills.
 pub type HeapCall<A = Global> = HeapStep<Hold, Batch<Notice, A>>;

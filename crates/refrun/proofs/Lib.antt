@@ -24,4 +24,5 @@ pub mod ListChecks
 pub mod NoEvidence
 pub mod Reports
 pub mod SeatLists
+pub mod Crossing
 mod ScriptExamples

@@ -3,12 +3,14 @@ use Rattle.std.specs.Prelude.{◌≡◌, ℕ, Bool, true, false, not, ◌||◌, 
 use Rattle.std.specs.Prelude.{None}
 use Rattle.ref_base.specs.Texts.{Word, Letters}
 use Rattle.refrun.specs.Lines.{words_of}
+use Rattle.refrun.specs.ScriptSteps.{script_step_words}
 use Rattle.refrun.specs.Spelling.{AreSpelt}
 use Rattle.refrun.specs.StepFaults.{fits}
 use Rattle.refrun.specs.StepForms.{Operand, Form, operands_in}
 use Rattle.ref_text.specs.declared.fault.LineFault.{LineFault}
 use Rattle.ref_text.specs.declared.fault.LineFault.TheVariants.{MissingWord, BadWord, ExtraWord}
 use Rattle.refrun.specs.declared.operands.Operands.{Operands}
+use Rattle.refrun.specs.declared.script_step.ScriptStep.{ScriptStep}
 
 -- the words that are left, whether one was missing, and whether one wasn't of its form
 pub record Reading : Type 0 where
@@ -79,8 +81,7 @@ IsReadBehind operands actor name a b [] = ⊥
 IsReadBehind operands actor name a b (first ∷ words) = (first ≡ actor) × IsReadNamed operands name a b words
 
 -- the step of an actor with a name, if it is one of these, and how its operands were read
-abbrev pub IsReadAs : {A : Type 0} → (A → List Word) → List Form → Word → List ℕ → Operands → Operands → Option A
-    → Type 0
-IsReadAs words forms actor name old new None = operands_in forms name ≡ None
-IsReadAs words forms actor name old new (Some step) =
-    IsReadBehind (operands_in forms name) actor name (reading old) (reading new) (words step)
+abbrev pub IsReadAs : List Form → Word → List ℕ → Operands → Operands → Option ScriptStep → Type 0
+IsReadAs forms actor name old new None = operands_in forms name ≡ None
+IsReadAs forms actor name old new (Some step) =
+    IsReadBehind (operands_in forms name) actor name (reading old) (reading new) (script_step_words step)

@@ -25,6 +25,13 @@ mod cleaner;
 /// The key of each entry, by the number of the weak reference to its value.
 type Table = Mutex<BTreeMap<ObjNo, u32>>;
 
+/// The program, with the table that it fills.
+#[derive(Drop)]
+struct Program<'a> {
+    user: HeapUser<'a>,
+    table: &'a Table,
+}
+
 const CONFIG: Config = Config {
     mutators: 1,
     workers: 1,
@@ -70,26 +77,26 @@ fn clean_and_fill<R: Threads + Wait + Sync>(
     requires { IsUser user × AreTwo queues.old }
     ensures { AreTwo queues.new }
 {
-    let mut program = user;
+    let mut user = user;
     let (telling, other) = queues.split();
     let (first, second) = queues.split();
     let all = &queues.all;
-    let collector = Collector::new(program.split(), all, [telling, other]);
-    let left = Cleaner::new(program.split(), &all[0], first, table);
-    let right = Cleaner::new(program.split(), &all[1], second, table);
-    run(rt, program, collector, left, right, table)
+    let collector = Collector::new(user.split(), all, [telling, other]);
+    let left = Cleaner::new(user.split(), &all[0], first, table);
+    let right = Cleaner::new(user.split(), &all[1], second, table);
+    let program = Program { user, table };
+    run(rt, program, collector, left, right)
 }
 
 /// Runs the threads to their ends.
 fn run<R: Threads + Wait + Sync>(
     rt: &R,
-    program: HeapUser,
+    program: Program,
     collector: Collector,
     left: Cleaner,
     right: Cleaner,
-    table: &Table,
 ) -> Result<(), Fault>
-    requires heap { IsUser program × IsCollector collector }
+    requires heap { IsUser program.user × IsCollector collector }
     requires cleaners { IsCleaner left × IsCleaner right }
 {
     let (cleaned, worked) = thread::join(
@@ -98,8 +105,8 @@ fn run<R: Threads + Wait + Sync>(
             requires { IsCleaner left × IsCleaner right }
         { clean(rt, left, right) },
         || -> Result<(), Fault>
-            requires { IsUser program × IsCollector collector }
-        { work(rt, program, collector, table) },
+            requires { IsUser program.user × IsCollector collector }
+        { work(rt, program, collector) },
     );
     cleaned?;
     worked
@@ -126,26 +133,28 @@ fn clean<R: Threads + Wait + Sync>(rt: &R, left: Cleaner, right: Cleaner) -> Res
 // the queues.
 fn work<R: Threads + Wait + Sync>(
     rt: &R,
-    program: HeapUser,
+    program: Program,
     collector: Collector,
-    table: &Table,
 ) -> Result<(), Fault>
-    requires { IsUser program × IsCollector collector }
+    requires { IsUser program.user × IsCollector collector }
 {
     collector.run_beside(
         rt,
         || -> Result<(), Fault>
-            requires { IsUser program }
-        { fill(rt, program, table) },
+            requires { IsUser program.user }
+        { fill(rt, program) },
     )
 }
 
 /// Makes a value for each key, and a weak reference to it with its entry. The references of the lower half of the keys
 /// are reported by the first queue, and those of the others by the second. Then it lets the values of odd keys go.
-fn fill<R: Wait>(rt: &R, program: HeapUser, table: &Table) -> Result<(), Fault>
-    requires { IsUser program }
+fn fill<R: Wait>(rt: &R, program: Program) -> Result<(), Fault>
+    requires { IsUser program.user }
 {
-    let mut heap = program;
+    let Program {
+        user: mut heap,
+        table,
+    } = program;
     for key in 0..KEYS {
         let new = PlainStep::New {
             mutator: PROGRAM,

@@ -5,7 +5,6 @@ use rationed::Rationed;
 use ref_base::{Batch, Config, Fault, SpanRule};
 use ref_clear::Heap;
 use ref_mark::Marker;
-use ref_move::MovingHeap;
 use ref_objects::{Objects, Start};
 use ref_space::{Pages, Table, Worklist};
 use ref_world::World;
@@ -31,7 +30,7 @@ const LATER: Start = Start {
 };
 
 /// What is made, and what it is called.
-const EACH: [(&str, Made); 14] = [
+const EACH: [(&str, Made); 12] = [
     ("Batch::new", Made::Batch),
     ("Worklist::new", Made::Worklist),
     ("Pages::new", Made::Pages),
@@ -42,8 +41,6 @@ const EACH: [(&str, Made); 14] = [
     ("Marker::starting", Made::MarkerLater),
     ("Heap::new", Made::Heap),
     ("Heap::starting", Made::HeapLater),
-    ("MovingHeap::new", Made::MovingHeap),
-    ("MovingHeap::starting", Made::MovingHeapLater),
     ("World::new", Made::World),
     ("World::starting", Made::WorldLater),
 ];
@@ -60,8 +57,6 @@ enum Made {
     MarkerLater,
     Heap,
     HeapLater,
-    MovingHeap,
-    MovingHeapLater,
     World,
     WorldLater,
 }
@@ -79,8 +74,6 @@ fn make<A: Allocator + Copy>(alloc: A, made: Made) -> Result<(), Fault> {
         Made::MarkerLater => drop(Marker::starting(alloc, CONFIG, 1, LATER)?),
         Made::Heap => Heap::new(alloc, CONFIG, 1)?.end(),
         Made::HeapLater => Heap::starting(alloc, CONFIG, 1, LATER)?.end(),
-        Made::MovingHeap => MovingHeap::new(alloc, CONFIG, 1)?.end(),
-        Made::MovingHeapLater => MovingHeap::starting(alloc, CONFIG, 1, LATER)?.end(),
         Made::World => World::new(alloc, CONFIG)?.end(),
         Made::WorldLater => World::starting(alloc, CONFIG, LATER)?.end(),
     }

@@ -11,6 +11,8 @@ ghost use Rattle.ref_base.specs.CollectorRows.{referent_of};
 ghost use Rattle.ref_base.specs.DoomedSets.{refers_into};
 ghost use Rattle.ref_space.specs.Naming.{target_of, HasTarget, IsHealed, IsWordHeld, by_number, reference_by_number};
 ghost use Rattle.ref_space.specs.Naming.{bits_told};
+ghost use Rattle.ref_space.specs.ColouredWords.{are_in_colour};
+ghost use Rattle.ref_space.specs.Tables.{IfRead};
 
 use super::Table;
 use crate::cell::{Cell, Change};
@@ -44,12 +46,15 @@ impl<A: Allocator + Copy> Table<A> {
     }
 
     /// The bits of the word that a field of the object of this number holds, 0 where it holds null: none where there is
-    /// no such object or field. The word is one of the cell in which the field's object lies.
+    /// no such object or field. The word is one of the cell in which the field's object lies. It is null or has the
+    /// good colour where it is the one that a load read last.
     pub fn word_at(&self, no: ObjNo, field: usize) -> Option<u64>
         ensures there { is_some result ≡ has_field (tabled_at self.now.tabled no) field }
         ensures word { IfSome result (IsWordHeld self.now.round.good self.now.ways self.now.occupants
             (is_healed_in self.now.round.number (tabled_at self.now.tabled no))
             (field_held (tabled_at self.now.tabled no) field)) }
+        ensures read { IfSome result (λ bits. IfRead self.now.round no (Some field)
+            (are_in_colour self.now.round.good bits)) }
     {
         match cell_of(&self.cells, &self.index, no) {
             Some(cell) => match cell.field(field) {
@@ -61,12 +66,15 @@ impl<A: Allocator + Copy> Table<A> {
     }
 
     /// The bits of the word that the reference of this number has as its referent, 0 where that is null: none where
-    /// there is no such object, or it is plain. The word is one of the cell in which its referent lies.
+    /// there is no such object, or it is plain. The word is one of the cell in which its referent lies. It is null or
+    /// has the good colour where it is the one that a get read last.
     pub fn word_of_referent(&self, no: ObjNo) -> Option<u64>
         ensures there { is_some result ≡ is_some (tabled_reference (tabled_at self.now.tabled no)) }
         ensures word { IfSome result (IsWordHeld self.now.round.good self.now.ways self.now.occupants
             (is_healed_in self.now.round.number (tabled_at self.now.tabled no))
             (referent_of (tabled_reference (tabled_at self.now.tabled no)))) }
+        ensures read { IfSome result (λ bits. IfRead self.now.round no None
+            (are_in_colour self.now.round.good bits)) }
     {
         match cell_of(&self.cells, &self.index, no) {
             Some(cell) => match cell.kept() {

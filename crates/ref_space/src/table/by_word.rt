@@ -1,6 +1,6 @@
 //! What a table's calls do by a word: they search nothing.
 
-ghost use Rattle.std.specs.Prelude.{◌≡◌, ◌<◌, ◌≤◌, ◌^◌, true, length, map};
+ghost use Rattle.std.specs.Prelude.{◌≡◌, ◌<◌, ◌≤◌, ◌^◌, true, length, map, if◌then◌else◌, None, Some};
 ghost use Rattle.std.specs.Option.{option_map, IfSome};
 ghost use Rattle.ref_base.specs.CollectorRows.{referent_of};
 ghost use Rattle.ref_base.specs.Heaps.{with_field, with_reference};
@@ -8,21 +8,24 @@ ghost use Rattle.std.specs.Bool.{OnTrue};
 ghost use Rattle.ref_space.specs.Tables.{has_field, field_in_cell, tabled_reference, is_unmarked_in, on_object};
 ghost use Rattle.ref_space.specs.Tables.{marked_if, anew_if, change_of, tabled_fields, field_held};
 ghost use Rattle.ref_space.specs.Tables.{brought, left_of, without_if_any};
+ghost use Rattle.ref_space.specs.Tables.{with_none_read, with_read, word_name, read_if_good};
 ghost use Rattle.ref_space.specs.Naming.{target_of, HasTarget, IsHealed, IsInColour, tabled_of, changed_of};
 ghost use Rattle.ref_space.specs.Naming.{reference_by_number, with_referent};
 ghost use Rattle.ref_space.specs.Worklists.{entry_number};
 ghost use Rattle.ref_space.specs.Places.{lent, cell_of_word, place_of_word, with_fields_healed};
 ghost use Rattle.ref_space.specs.Naming.{word_there};
 
-use super::Table;
+use super::{Table, nothing_read};
 use crate::cell::{Cell, Change};
 use crate::colour::Colour;
 use crate::field_words::Words;
 use crate::index::Entry;
 use crate::kept::Kept;
 use crate::word::Word;
+use crate::word_name::WordName;
 use ref_base::ObjNo;
 use std::alloc::Allocator;
+use std::snapshot::Snapshot;
 
 impl<A: Allocator + Copy> Table<A> {
     /// The number of the object that a word leads to: none of null.
@@ -38,14 +41,16 @@ impl<A: Allocator + Copy> Table<A> {
 
     /// What a field of the object that a word leads to holds, in the good colour: none where there is no such object or
     /// field. A word of another colour is healed, and its object moves first where it is still to move; one of the good
-    /// colour is left as it is.
+    /// colour is left as it is. It is the word that was read last then.
     #[inline(always)]
     pub(super) fn load_field(&mut self, object: Word, field: usize) -> Option<Word>
         requires { HasTarget self.old object }
         ensures held { option_map (target_of self.new) result ≡ field_in_cell (tabled_of self.old object) field }
         ensures healed { IfSome result (λ value. IsHealed self.new value) }
         ensures good { IfSome result (λ value. IsInColour self.new.round.good value) }
-        ensures after { self.new ≡ brought self.old (field_held (tabled_of self.old object) field) }
+        ensures after { self.new ≡ (if has_field (tabled_of self.old object) field
+            then brought (with_read self.old (word_name (target_of self.old object) (Some field)))
+            (field_held (tabled_of self.old object) field) else self.old) }
         ensures left { left_of self.new
             ≡ without_if_any (left_of self.old) (field_held (tabled_of self.old object) field) }
     {
@@ -54,7 +59,7 @@ impl<A: Allocator + Copy> Table<A> {
             return Some(value);
         }
         let healed = self.bring(value);
-        self.set_field(object, field, healed);
+        self.heal_field(object, field, healed);
         Some(healed)
     }
 
@@ -66,7 +71,8 @@ impl<A: Allocator + Copy> Table<A> {
         ensures named { target_of self.new result ≡ referent_of (tabled_reference (tabled_of self.old object)) }
         ensures healed { IsHealed self.new result }
         ensures good { IsInColour self.new.round.good result }
-        ensures after { self.new ≡ brought self.old (referent_of (tabled_reference (tabled_of self.old object))) }
+        ensures after { self.new ≡ brought (with_read self.old (word_name (target_of self.old object) None))
+            (referent_of (tabled_reference (tabled_of self.old object))) }
         ensures left { left_of self.new
             ≡ without_if_any (left_of self.old) (referent_of (tabled_reference (tabled_of self.old object))) }
     {
@@ -75,7 +81,7 @@ impl<A: Allocator + Copy> Table<A> {
             return value;
         }
         let healed = self.bring(value);
-        self.set_referent(object, healed);
+        self.heal_referent(object, healed);
         healed
     }
 
@@ -92,16 +98,34 @@ impl<A: Allocator + Copy> Table<A> {
         value.has_colour(self.round.good) || value.is_null()
     }
 
-    // What a field of the object that a word leads to holds: none where there is no such object or field.
+    // How a word of the object that a word leads to is named: that of a field, or that of its referent.
     #[inline(always)]
-    fn field(&self, object: Word, field: usize) -> Option<Word>
-        ensures held { option_map (target_of self.now) result ≡ field_in_cell (tabled_of self.now object) field }
-        ensures led { IfSome result (λ value. HasTarget self.now value) }
+    fn word_name(&self, object: Word, field: Option<usize>) -> Option<WordName>
+        ensures { result ≡ word_name (target_of self.now object) field }
     {
-        match cell_by(&self.cells, &self.forwards, object) {
-            Some(cell) => cell.field(field),
+        match self.name(object) {
+            Some(no) => Some(WordName { no, field }),
             None => None,
         }
+    }
+
+    // What a field of the object that a word leads to holds: none where there is no such object or field. It is the
+    // word that was read last then, where it is null or has the good colour.
+    #[inline(always)]
+    fn field(&mut self, object: Word, field: usize) -> Option<Word>
+        ensures held { option_map (target_of self.new) result ≡ field_in_cell (tabled_of self.new object) field }
+        ensures led { IfSome result (λ value. HasTarget self.new value) }
+        ensures after { self.new ≡ with_read self.old
+            (read_if_good self.old.round (word_name (target_of self.old object) (Some field)) result) }
+    {
+        let name = self.word_name(object, Some(field));
+        let cell = cell_by(&self.cells, &self.forwards, object)?;
+        let value = cell.field(field)?;
+        if !value.is_in_colour(self.round.good) {
+            return Some(value);
+        }
+        self.read = Snapshot::of(&name);
+        Some(value)
     }
 
     /// What the object that a word leads to has as a reference: nothing where there is none, or it is plain.
@@ -117,16 +141,26 @@ impl<A: Allocator + Copy> Table<A> {
         }
     }
 
-    // The referent of the reference that a word leads to: null where it is cleared, or there is no such reference.
+    // The referent of the reference that a word leads to: null where it is cleared, or there is no such reference. It
+    // is the word that was read last then, where it is null or has the good colour.
     #[inline(always)]
-    fn referent(&self, object: Word) -> Word
-        ensures named { target_of self.now result ≡ referent_of (tabled_reference (tabled_of self.now object)) }
-        ensures led { HasTarget self.now result }
+    fn referent(&mut self, object: Word) -> Word
+        ensures named { target_of self.new result ≡ referent_of (tabled_reference (tabled_of self.new object)) }
+        ensures led { HasTarget self.new result }
+        ensures after { self.new ≡ with_read self.old
+            (read_if_good self.old.round (word_name (target_of self.old object) None) (Some result)) }
     {
-        match self.kept(object) {
-            Some(kept) => kept.referent,
-            None => Word::null(),
+        let name = self.word_name(object, None);
+        let Some(cell) = cell_by(&self.cells, &self.forwards, object) else {
+            self.read = nothing_read();
+            return Word::null();
+        };
+        let value = cell.referent();
+        if !value.is_in_colour(self.round.good) {
+            return value;
         }
+        self.read = Snapshot::of(&name);
+        value
     }
 
     /// Whether a word leads to an object that isn't marked.
@@ -140,29 +174,53 @@ impl<A: Allocator + Copy> Table<A> {
         }
     }
 
-    /// Writes a field of the object that a word leads to. False where there is no such object or field: then nothing
-    /// changes.
+    /// Writes a field of the object that a word leads to. False where there is no such object or field: then no object
+    /// changes. No word is the one that was read last then, since this one may have a colour from before.
     pub(super) fn set_field(&mut self, object: Word, field: usize, value: Word) -> bool
         requires { IsHealed self.old value }
         ensures there { result ≡ has_field (tabled_of self.old object) field }
-        ensures after { self.new ≡ changed_of self.old object
+        ensures after { self.new ≡ changed_of (with_none_read self.old) object
             (on_object (with_field field (target_of self.old value))) }
     {
+        self.read = nothing_read();
         match place_by(&self.cells, &self.forwards, object) {
             Some(place) => self.cells[place].set_field(field, value),
             None => false,
         }
     }
 
-    // Writes the referent of the object that a word leads to. Nothing changes where there is no such reference.
-    fn set_referent(&mut self, object: Word, referent: Word)
-        requires { IsHealed self.old referent }
-        ensures { self.new ≡ changed_of self.old object
+    // Writes a word of the good colour, or null, into a field of the object that a word leads to: it is the word that
+    // was read last then. Nothing else changes where there is no such object or field.
+    fn heal_field(&mut self, object: Word, field: usize, value: Word)
+        requires healed { IsHealed self.old value }
+        requires good { IsInColour self.old.round.good value }
+        ensures { self.new ≡ changed_of (with_read self.old (word_name (target_of self.old object) (Some field))) object
+            (on_object (with_field field (target_of self.old value))) }
+    {
+        let name = self.word_name(object, Some(field));
+        let Some(place) = place_by(&self.cells, &self.forwards, object) else {
+            self.read = nothing_read();
+            return;
+        };
+        self.cells[place].set_field(field, value);
+        self.read = Snapshot::of(&name);
+    }
+
+    // Writes a word of the good colour, or null, as the referent of the object that a word leads to: it is the word
+    // that was read last then. Nothing else changes where there is no such reference.
+    fn heal_referent(&mut self, object: Word, referent: Word)
+        requires healed { IsHealed self.old referent }
+        requires good { IsInColour self.old.round.good referent }
+        ensures { self.new ≡ changed_of (with_read self.old (word_name (target_of self.old object) None)) object
             (on_object (with_reference (with_referent (target_of self.old referent)))) }
     {
-        if let Some(place) = place_by(&self.cells, &self.forwards, object) {
-            self.cells[place].set_referent(referent);
-        }
+        let name = self.word_name(object, None);
+        let Some(place) = place_by(&self.cells, &self.forwards, object) else {
+            self.read = nothing_read();
+            return;
+        };
+        self.cells[place].set_referent(referent);
+        self.read = Snapshot::of(&name);
     }
 
     /// Writes this change into the object that a word leads to. Nothing changes where there is none.

@@ -10,8 +10,8 @@ ghost use Rattle.ref_space.specs.Tables.{LiesAt, numbers_at, tabled_at, brought,
 ghost use Rattle.ref_space.specs.Tables.{without_if_any, without_number};
 ghost use Rattle.ref_space.specs.Tables.{table_selected, table_renumbered};
 
-use super::Table;
 use super::by_word::place_by;
+use super::{Table, nothing_read};
 use crate::cell::Cell;
 use crate::colour::Colour;
 use crate::index::set_place;
@@ -41,6 +41,7 @@ impl<A: Allocator + Copy> Table<A> {
         self.pages.reserve(&mut self.forwards);
         self.last_good = self.round.good;
         self.round.good = Colour::R;
+        self.read = nothing_read();
         self.is_tuned = false;
         Ok(cells)
     }

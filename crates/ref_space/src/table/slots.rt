@@ -9,6 +9,7 @@ ghost use Rattle.ref_base.specs.Heaps.{with_field};
 ghost use Rattle.ref_space.specs.Tables.{held_at, slotted, tabled_held, changed_held, tabled_at, field_in_cell};
 ghost use Rattle.ref_space.specs.Tables.{field_held, has_field, on_object, change_of, tabled_reference};
 ghost use Rattle.ref_space.specs.Tables.{is_unmarked_at, marked_if, anew_if, brought, left_of, without_if_any};
+ghost use Rattle.ref_space.specs.Tables.{with_none_read, with_read, word_name};
 ghost use Rattle.ref_space.specs.Worklists.{entry_number};
 
 use super::Table;
@@ -65,14 +66,16 @@ impl<A: Allocator + Copy> Table<A> {
     }
 
     /// Loads a field of the object in the slot at place `from` into that at place `into`, and answers what it holds. An
-    /// object that is still to move moves first. None where there is no such object or field: then nothing changes.
+    /// object that is still to move moves first. The word of the field is the one that was read last then, so that it
+    /// is null or has the good colour. None where there is no such object or field: then nothing changes.
     #[inline(always)]
     pub fn load(&mut self, into: usize, from: usize, field: usize) -> Option<Option<ObjNo>>
         requires into { into < length self.old.slots }
         requires from { from < length self.old.slots }
         ensures answer { result ≡ field_in_cell (tabled_held self.old from) field }
         ensures after { self.new ≡ (if has_field (tabled_held self.old from) field
-            then slotted (brought self.old (field_held (tabled_held self.old from) field)) into
+            then slotted (brought (with_read self.old (word_name (held_at self.old from) (Some field)))
+            (field_held (tabled_held self.old from) field)) into
             (field_held (tabled_held self.old from) field) else self.old) }
         ensures left { left_of self.new
             ≡ without_if_any (left_of self.old) (field_held (tabled_held self.old from) field) }
@@ -84,13 +87,14 @@ impl<A: Allocator + Copy> Table<A> {
     }
 
     /// Writes what the slot at place `from` holds into a field of the object in that at place `into`. False where there
-    /// is no such object or field: then nothing changes.
+    /// is no such object or field: then no object changes. None is the word that was read last then, since the one that
+    /// is written may have a colour from before.
     #[inline(always)]
     pub fn store(&mut self, into: usize, field: usize, from: usize) -> bool
         requires into { into < length self.old.slots }
         requires from { from < length self.old.slots }
         ensures there { result ≡ has_field (tabled_held self.old into) field }
-        ensures after { self.new ≡ changed_held self.old into
+        ensures after { self.new ≡ changed_held (with_none_read self.old) into
             (on_object (with_field field (held_at self.old from))) }
     {
         let (object, value) = (self.slots[into], self.slots[from]);
@@ -117,13 +121,15 @@ impl<A: Allocator + Copy> Table<A> {
     }
 
     /// The slot at place `into` holds the referent of the reference in that at place `from`: nothing where it is
-    /// cleared, or there is no such reference. An object that is still to move moves first.
+    /// cleared, or there is no such reference. An object that is still to move moves first. The word of the referent is
+    /// the one that was read last then, so that it is null or has the good colour.
     #[inline(always)]
     pub fn get_referent(&mut self, into: usize, from: usize)
         requires into { into < length self.old.slots }
         requires from { from < length self.old.slots }
         ensures after { self.new
-            ≡ slotted (brought self.old (referent_of (tabled_reference (tabled_held self.old from)))) into
+            ≡ slotted (brought (with_read self.old (word_name (held_at self.old from) None))
+            (referent_of (tabled_reference (tabled_held self.old from)))) into
             (referent_of (tabled_reference (tabled_held self.old from))) }
         ensures left { left_of self.new
             ≡ without_if_any (left_of self.old) (referent_of (tabled_reference (tabled_held self.old from))) }

@@ -1,3 +1,6 @@
+use Rattle.ref_space.specs.Tables.{round_of}
+use Rattle.ref_space.proofs.ReadLemmas.{object_reads}
+use Rattle.ref_space.proofs.TableReads.{held_object}
 use Rattle.ref_space.specs.Moves.{ways_of}
 use Rattle.ref_space.proofs.Common.{changed}
 use Rattle.ref_space.proofs.Common.{◌∙◌}
@@ -24,6 +27,9 @@ invariant_of-self g c =
     (held_values c.self.inside.round.number (leads_by c.self.inside.round.good
     (ways_of c.self.inside.pages c.self.inside.forwards.items c.self.inside.last_good c.self.inside.is_tuned)
     (occupants_of c.self.inside.cells.items)) c.args.if_marked)
+    (object_reads (round_of c.self.inside.round c.self.inside.read.value)
+    (more_held_if c.self.inside.round.number c.args.if_marked)
+    (held_object c.self.inside.round.number c.args.if_marked))
     (held_leaves c.self.inside.round.number c.args.if_marked)
 
 pub returns-in-Some-clause-there : goal.returns-in-Some-clause-there

@@ -1,3 +1,5 @@
+use Rattle.ref_space.specs.Tables.{round_of}
+use Rattle.ref_space.proofs.ReadLemmas.{change_reads}
 use Rattle.ref_space.specs.Moves.{ways_of}
 use Rattle.ref_space.proofs.Common.{refl, leads_by, target_by, occupants_of}
 use Rattle.ref_space.proofs.PlaceLemmas.{IsPlaceOf-lent, IsMissing-lent}
@@ -17,6 +19,7 @@ invariant_of-self g c =
     c.self.inside.is_tuned) (occupants_of c.self.inside.cells.items))
     (λ b. refl)
     c.args.change)
+    (change_reads (round_of c.self.inside.round c.self.inside.read.value) c.args.change)
     (change_leaves c.args.change)
 
 pub returns-in-Some : goal.returns-in-Some

@@ -1,3 +1,4 @@
+use Rattle.ref_space.specs.Tables.{round_of}
 use Rattle.ref_space.specs.Moves.{ways_of}
 use Rattle.ref_space.proofs.Common.{◌∙◌}
 use Rattle.ref_space.proofs.PushLemmas.{seen_closed, naming_closed, counted_closed}
@@ -11,7 +12,7 @@ invariant_of-self g c = (
 
 pub returns-then-len : goal.returns-then-len
 returns-then-len g c =
-    seen_closed c.self.inside.index.items c.self.inside.round
+    seen_closed c.self.inside.index.items (round_of c.self.inside.round c.self.inside.read.value)
     (ways_of c.self.inside.pages c.self.inside.forwards.items c.self.inside.last_good c.self.inside.is_tuned)
     c.self.inside.last
     c.self.inside.room

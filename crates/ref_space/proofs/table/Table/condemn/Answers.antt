@@ -1,3 +1,5 @@
+use Rattle.ref_space.proofs.ReadLemmas.{blanked_reads}
+use Rattle.ref_space.specs.Tables.{round_of}
 use Rattle.ref_space.specs.Moves.{ways_of}
 use Rattle.ref_space.proofs.Common.{refl, leads_by, target_by, occupants_of, arith, subst, ◌≤◌, ◌∙◌, ap, sym, length}
 use Rattle.ref_space.proofs.Common.{Table, tabled_by, from_bool, ◌==◌, blanked_unless_marked, table_blanked}
@@ -24,12 +26,13 @@ invariant_of-self g c =
           (tabled_by c.self.inside.cells.items c.self.inside.index.items)))),
       naming_all (blanked_unless_marked c.self.inside.round.number)
           (blanked_keeps c.self.inside.round.number) c.self.inside.cells.items is c.self.inside.index.items
-          c.self.inside.round
+          (round_of c.self.inside.round c.self.inside.read.value)
           (ways_of c.self.inside.pages c.self.inside.forwards.items c.self.inside.last_good c.self.inside.is_tuned)
           c.self.inside.slots.items c.self.invariant.1
           (blanked_leads c.self.inside.round.number (leads_by c.self.inside.round.good
           (ways_of c.self.inside.pages c.self.inside.forwards.items c.self.inside.last_good c.self.inside.is_tuned)
-          (occupants_of c.self.inside.cells.items)) (λ b. refl)),
+          (occupants_of c.self.inside.cells.items)) (λ b. refl))
+          (blanked_reads (round_of c.self.inside.round c.self.inside.read.value) c.self.inside.round.number),
     )
 
 pub condemn-requires-clause-room : goal.condemn-requires-clause-room
@@ -54,7 +57,7 @@ returns-clause-after g c =
     c.condemn.ensures.cells c.deref_mut.ensures.value in
     seen_all (blanked_unless_marked c.self.inside.round.number)
     (blanked_keeps c.self.inside.round.number) c.self.inside.cells.items is c.self.inside.index.items
-    c.self.inside.round
+    (round_of c.self.inside.round c.self.inside.read.value)
     (ways_of c.self.inside.pages c.self.inside.forwards.items c.self.inside.last_good c.self.inside.is_tuned)
     c.self.inside.slots.items c.self.inside.last c.self.inside.room
     (blanked-named c.self.inside.round.number (target_by (ways_of c.self.inside.pages c.self.inside.forwards.items

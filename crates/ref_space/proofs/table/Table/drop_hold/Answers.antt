@@ -10,7 +10,8 @@ pub invariant_of-self : goal.invariant_of-self
 invariant_of-self g c =
     sound_there c.self.invariant
     (IsPlaceOf-lent c.args.no c.deref.ensures.value c.deref-2.ensures.value c.in-Some.ensures)
-    less_held less_held (λ k. refl) c.index_mut.ensures.value c.drop_hold.ensures.after (λ k each. each) (λ k. refl)
+    less_held less_held (λ k. refl) c.index_mut.ensures.value c.drop_hold.ensures.after (λ k each. each)
+    (λ k read. read) (λ k. refl)
 
 pub returns-in-Some-clause-held : goal.returns-in-Some-clause-held
 returns-in-Some-clause-held g c =

@@ -1,6 +1,7 @@
-use Rattle.ref_space.proofs.Common.{◌<◌, ◌∙◌, ap, sym, subst, arith, length, Table}
+use Rattle.ref_space.proofs.Common.{◌<◌, ◌∙◌, ap, sym, subst, arith, length, None, Table, target_of}
 use Rattle.ref_space.specs.Naming.{tabled_of}
-use Rattle.ref_space.specs.Tables.{brought, left_of, slotted, tabled_if, tabled_reference, without_if_any}
+use Rattle.ref_space.specs.Tables.{brought, left_of, slotted, tabled_if, tabled_reference, without_if_any, with_read}
+use Rattle.ref_space.specs.Tables.{word_name}
 use Rattle.ref_base.specs.CollectorRows.{referent_of}
 use Rattle.ref_space.proofs.BroughtLemmas.{slots_brought}
 use Rattle.ref_space.proofs.TableSlots.{slot_there, slot_led, slot_named, slot_sound, slot_seen}
@@ -16,7 +17,8 @@ index_mut-requires g c =
     slot_there c.self-2.invariant c.self-2.view_is c.args.into
     (subst (λ ns. c.args.into < length ns)
     (sym (ap (λ (t : Table). t.slots) c.load_referent-referent.ensures.after
-    ∙ slots_brought c.args.self.now _)) c.requires.into) in
+    ∙ slots_brought (with_read c.args.self.now
+    (word_name (target_of c.args.self.now c.index-object.result.now) None)) _)) c.requires.into) in
     omega (arith, there, c.self-2.inside.slots.ok.0)
 
 pub invariant_of-self : goal.invariant_of-self
@@ -31,8 +33,9 @@ returns-clause-after g c =
     ∙ ap (λ (t : Table). slotted t c.args.into
     (referent_of (tabled_reference (tabled_of c.args.self.now c.index-object.result.now))))
     c.load_referent-referent.ensures.after
-    ∙ ap (λ d. slotted (brought c.args.self.now (referent_of (tabled_reference (tabled_if c.args.self.now.tabled d))))
-    c.args.into (referent_of (tabled_reference (tabled_if c.args.self.now.tabled d))))
+    ∙ ap (λ d. slotted (brought (with_read c.args.self.now (word_name d None))
+    (referent_of (tabled_reference (tabled_if c.args.self.now.tabled d)))) c.args.into
+    (referent_of (tabled_reference (tabled_if c.args.self.now.tabled d))))
     (slot_named c.self.invariant c.self.view_is c.args.from c.requires.from c.index-object.ensures)
 
 pub returns-clause-left : goal.returns-clause-left

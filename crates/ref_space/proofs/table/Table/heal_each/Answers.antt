@@ -1,3 +1,4 @@
+use Rattle.ref_space.specs.Tables.{round_of}
 use Rattle.ref_space.proofs.Common.{arith, refl, sym, ◌∙◌, ap, subst, List, Option, Tabled, IsSoundTable}
 use Rattle.ref_space.proofs.Common.{IsSoundNaming, seen_table, length, vec_capacity}
 use Rattle.ref_space.proofs.CellChanges.{lying_place, settled, tuned_seen, healed_there, IsHealedThere}
@@ -37,9 +38,11 @@ pub invariant_of-self : goal.invariant_of-self
 invariant_of-self g c =
     let ways = ways_of c.self.inside.pages c.self.inside.forwards.items c.self.inside.last_good
     c.self.inside.is_tuned in
-    subst (λ (cs : List (Option Tabled)). IsSoundTable c.self.inside.round cs c.self.inside.index.items ways
+    subst (λ (cs : List (Option Tabled)). IsSoundTable (round_of c.self.inside.round c.self.inside.read.value) cs
+    c.self.inside.index.items ways
     c.self.inside.last c.self.inside.room c.self.inside.count (vec_capacity c.self.inside.index) c.self.inside.marked
-    × IsSoundNaming c.self.inside.round ways cs c.self.inside.index.items c.self.inside.slots.items)
+    × IsSoundNaming (round_of c.self.inside.round c.self.inside.read.value) ways cs c.self.inside.index.items
+    c.self.inside.slots.items)
     (sym (healed g c).whole)
     (sound_healed c.self.invariant (lying_place c.self.invariant c.self.view_is c.requires.lies)
     (settled c.self.invariant (tuned_seen c.self.invariant c.self.view_is c.requires.tuned)) (healed g c).cell)
@@ -48,7 +51,8 @@ pub returns : goal.returns
 returns g c =
     let ways = ways_of c.self.inside.pages c.self.inside.forwards.items c.self.inside.last_good
     c.self.inside.is_tuned in
-    ap (λ (cs : List (Option Tabled)). seen_table c.self.inside.round ways cs c.self.inside.index.items
+    ap (λ (cs : List (Option Tabled)). seen_table (round_of c.self.inside.round c.self.inside.read.value) ways cs
+    c.self.inside.index.items
     c.self.inside.slots.items c.self.inside.last c.self.inside.room) (healed g c).whole
     ∙ seen_healed c.self.invariant (lying_place c.self.invariant c.self.view_is c.requires.lies)
     (settled c.self.invariant (tuned_seen c.self.invariant c.self.view_is c.requires.tuned)) (healed g c).cell

@@ -1,3 +1,5 @@
+use Rattle.ref_space.specs.Tables.{round_of}
+use Rattle.ref_space.proofs.ReadLemmas.{change_reads}
 use Rattle.ref_space.specs.Moves.{ways_of}
 use Rattle.ref_space.proofs.Common.{refl, arith, leads_by, occupants_of, change_of, ClearIn}
 use Rattle.ref_space.proofs.PlaceLemmas.{IsPlaceOf-lent, IsMissing-lent}
@@ -36,6 +38,7 @@ invariant_of-self g c =
     (ways_of c.self.inside.pages c.self.inside.forwards.items c.self.inside.last_good c.self.inside.is_tuned)
     (occupants_of c.self.inside.cells.items)) (λ b. refl)
     (ClearIn c.args.cycle))
+    (change_reads (round_of c.self.inside.round c.self.inside.read.value) (ClearIn c.args.cycle))
     (change_leaves (ClearIn c.args.cycle))
 
 pub returns-clause-answer : goal.returns-clause-answer

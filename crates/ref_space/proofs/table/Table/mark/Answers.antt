@@ -22,6 +22,7 @@ invariant_of-self g c =
     sound_counted c.self.invariant place (with_marked c.self.inside.round.number)
     (with_marked c.self.inside.round.number) (λ k. refl)
     c.index_mut.ensures.value c.mark.ensures.after (λ k held. (omega arith, held.1, held.2))
+    (λ k read. read)
     (marks_more c.self.inside.round.number (tabled_by c.self.inside.cells.items c.self.inside.index.items) c.args.no
     (c.from.ensures ∙ ap from_bool new) c.self.invariant.0.marks_counted)
 

@@ -26,6 +26,7 @@ invariant_of-self g c =
     sound_counted c.self.invariant place (with_marked c.self.inside.round.number)
     (with_marked c.self.inside.round.number) (λ k. refl)
     c.index_mut.ensures.value c.mark-no.ensures.after (λ k held. (omega arith, held.1, held.2))
+    (λ k read. read)
     (marks_more c.self.inside.round.number (tabled_by c.self.inside.cells.items c.self.inside.index.items)
     (led_no c.self.invariant c.args.value c.self.view_is c.deref.ensures.value c.deref-2.ensures.value
     c.in-Some.ensures)

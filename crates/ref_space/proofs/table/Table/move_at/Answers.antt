@@ -1,3 +1,4 @@
+use Rattle.ref_space.specs.Tables.{round_of}
 use Rattle.ref_space.proofs.Common.{◌≡◌, ◌∙◌, ap, sym, arith, length, true, length-map, is_none, None, get_or_read}
 use Rattle.ref_space.proofs.Common.{cell_at}
 use Rattle.std.proofs.lemmas.List.{with_items_is}
@@ -74,7 +75,7 @@ invariant_of-self g c =
     c.give.ensures
 
 moved : (g : Over) (c : goal.After-give g)
-    → seen_table c.self.inside.round
+    → seen_table (round_of c.self.inside.round c.self.inside.read.value)
     (record (ways_of c.self.inside.pages c.self.inside.forwards.items c.self.inside.last_good c.self.inside.is_tuned) {
       pages = c.give.new.self;
     })

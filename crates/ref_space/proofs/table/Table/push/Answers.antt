@@ -1,3 +1,5 @@
+use Rattle.ref_space.proofs.ReadLemmas.{sound_unread, seen_read}
+use Rattle.ref_space.specs.Tables.{with_none_read}
 use Rattle.ref_space.specs.Moves.{ways_of}
 use Rattle.ref_space.proofs.Common.{with_tabled}
 use Rattle.ref_space.proofs.Common.{◌∙◌, arith, made_entry}
@@ -77,11 +79,13 @@ holds g c =
 
 pub invariant_of-self : goal.invariant_of-self
 invariant_of-self g c =
-    sound_made c.self.invariant c.self.view_is (can g (goal.at.invariant_of-self g c).After-unwrap-page)
+    sound_made (sound_unread c.self.invariant c.nothing_read.ensures)
+    (seen_read c.self.invariant c.self.view_is c.nothing_read.ensures)
+    (can g (goal.at.invariant_of-self g c).After-unwrap-page)
     (made_entry c.self.inside.round.number c.args.no c.args.count c.kept_of_new-kept.result c.args.marked)
     c.requires.rises c.occupy.ensures
     c.push_reserved.ensures.items (holds g (goal.at.invariant_of-self g c).After-unwrap-page) c.args.into
-    c.of_place.ensures
+    c.of_place.ensures c.nothing_read.ensures
     (omega (arith, c.make_room.ensures.capacity, c.push_reserved.ensures.capacity))
     (c.from.ensures
     ∙ ap from_bool (sym (made_marked c.self.inside.round.number c.args.no c.args.count c.kept_of_new-kept.result
@@ -90,7 +94,8 @@ invariant_of-self g c =
 pub returns : goal.returns
 returns g c =
     let made =
-    seen_made c.self.invariant c.self.view_is (can g (goal.at.returns g c).After-unwrap-page)
+    seen_made (sound_unread c.self.invariant c.nothing_read.ensures)
+    (seen_read c.self.invariant c.self.view_is c.nothing_read.ensures) (can g (goal.at.returns g c).After-unwrap-page)
     (made_entry c.self.inside.round.number c.args.no c.args.count c.kept_of_new-kept.result c.args.marked)
     c.requires.rises c.occupy.ensures
     c.push_reserved.ensures.items (holds g (goal.at.returns g c).After-unwrap-page) c.args.into
@@ -98,7 +103,7 @@ returns g c =
     (option_map (made_of c.args.self.now.slots) c.args.reference) c.args.count c.args.marked
     (entry-named (target_of c.args.self.now) refl c.self.inside.round.number c.args.no c.args.count c.args.marked
     c.kept_of_new-kept.result c.kept_of_new-kept.ensures.named)
-    ∙ ap (λ r. with_tabled c.args.self.now c.args.into (made_entry r c.args.no c.args.count
+    ∙ ap (λ r. with_tabled (with_none_read c.args.self.now) c.args.into (made_entry r c.args.no c.args.count
     (option_map (made_of c.args.self.now.slots) c.args.reference) c.args.marked)) (sym
     (round_seen c.self.invariant c.self.view_is))
     in

@@ -1,3 +1,5 @@
+use Rattle.ref_space.proofs.ReadLemmas.{read_is}
+use Rattle.ref_space.specs.Tables.{round_of}
 use Rattle.ref_space.proofs.Common.{◌≡◌, ◌∙◌, ap, sym, refl, length, false, Table}
 use Rattle.std.proofs.Common.{None, [], true}
 use Rattle.std.proofs.lemmas.List.{with_items_is}
@@ -38,7 +40,8 @@ none g c = ap (λ (t : Table). has_chosen t.ways.pages.uses) c.self.view_is ∙ 
 healed : (g : Over) (c : goal.After-self-5-1 g)
     → unhealed_of c.self.inside.round.number (tabled_by c.self.inside.cells.items c.self.inside.index.items) ≡ []
 healed g c =
-    unhealed_seen c.self.inside.round c.self.inside.cells.items c.self.inside.index.items
+    unhealed_seen (round_of c.self.inside.round c.self.inside.read.value) c.self.inside.cells.items
+    c.self.inside.index.items
     (ways_of c.self.inside.pages c.self.inside.forwards.items c.self.inside.last_good c.self.inside.is_tuned)
     c.self.inside.slots.items c.self.inside.last c.self.inside.room c.self.view_is c.requires.healed
 
@@ -47,16 +50,18 @@ begun g c same = c.requires.begun (ap (λ (t : Table). t.round.good) (sym c.self
 
 pub invariant_of-self-2 : goal.invariant_of-self-2
 invariant_of-self-2 g c =
-    sound_chosen c.self.invariant (tuned g c) (none g c) (chosen_so g c) (healed g c) (begun g c) refl
+    sound_chosen c.self.invariant (tuned g c) (none g c) (chosen_so g c) (healed g c) (begun g c)
+    (read_is c.self.inside.round.number R c.nothing_read.ensures)
 
 seen : (g : Over) (c : goal.After-self-5-1 g)
-    → seen_table (record { number = c.self.inside.round.number; good = R })
+    → seen_table (record { number = c.self.inside.round.number; good = R; read = c.nothing_read.result.value })
     (ways_of c.reserve.new.self (with_items c.self.inside.forwards c.reserve.new.forwards).items
     c.self.inside.round.good false)
     c.self.inside.cells.items c.self.inside.index.items c.self.inside.slots.items c.self.inside.last c.self.inside.room
     ≡ selected_unless None c.args.self.now
 seen g c =
-    seen_chosen c.self.invariant (tuned g c) (none g c) (chosen_so g c) (healed g c) (begun g c) refl c.self.view_is
+    seen_chosen c.self.invariant (tuned g c) (none g c) (chosen_so g c) (healed g c) (begun g c)
+    (read_is c.self.inside.round.number R c.nothing_read.ensures) c.self.view_is
 
 pub returns-clause-after : goal.returns-clause-after
 returns-clause-after g c =
@@ -71,12 +76,14 @@ count_is g c =
 
 pub returns-clause-count : goal.returns-clause-count
 returns-clause-count g c =
-    count_left_now c.self.invariant (tuned g c) (none g c) (chosen_so g c) (healed g c) (begun g c) refl refl
+    count_left_now c.self.invariant (tuned g c) (none g c) (chosen_so g c) (healed g c) (begun g c)
+    (read_is c.self.inside.round.number R c.nothing_read.ensures) refl
     c.in_ok-cells.cells (count_is g c)
 
 pub returns-clause-few : goal.returns-clause-few
 returns-clause-few g c =
-    let few = few_left_now c.self.invariant (tuned g c) (none g c) (chosen_so g c) (healed g c) (begun g c) refl
+    let few = few_left_now c.self.invariant (tuned g c) (none g c) (chosen_so g c) (healed g c) (begun g c)
+    (read_is c.self.inside.round.number R c.nothing_read.ensures)
     c.in_ok-cells.cells (count_is g c) in
     let seen = ap (λ (t : Table). length t.tabled) c.self.view_is in
     omega (
@@ -91,4 +98,5 @@ returns-clause-few g c =
 
 pub returns-clause-left : goal.returns-clause-left
 returns-clause-left g c =
-    left_now c.self.invariant (tuned g c) (none g c) (chosen_so g c) (healed g c) (begun g c) refl refl c.self.view_is
+    left_now c.self.invariant (tuned g c) (none g c) (chosen_so g c) (healed g c) (begun g c)
+    (read_is c.self.inside.round.number R c.nothing_read.ensures) refl c.self.view_is

@@ -1,3 +1,5 @@
+use Rattle.ref_space.proofs.ReadLemmas.{read_is}
+use Rattle.ref_space.specs.declared.colour.Colour.TheVariants.{R}
 use Rattle.ref_space.proofs.Common.{◌≡◌, ◌*◌, ◌/◌, ◌+◌, ◌%◌, arith, vec_capacity}
 use Rattle.std.proofs.Common.{min}
 use Rattle.ref_space.proofs.TableLemmas.{sound_new, naming_new, seen_new, ways_new}
@@ -23,6 +25,7 @@ returns g c =
     let half = c.div_ceil-page_count.result in
     let count = 2 * half in
     let bound : half ≡ c.args.room / 64 + min 1 (c.args.room % 64) = c.div_ceil-page_count.ensures in
-    seen_new c.args.first_page count c.args.slots c.args.room (omega (arith, bound))
+    seen_new (read_is 1 R c.nothing_read.ensures) c.args.first_page count c.args.slots c.args.room
+    (omega (arith, bound))
     (ways_new c.args.first_page count c.in_ok-pages.ensures c.in_ok-forwards.ensures) c.in_ok-cells.ensures
     c.in_ok-index.ensures.items c.in_ok-slots.ensures

@@ -1,0 +1,70 @@
+-- A shared heap or queue may be seen by several threads, and a seat of one may go to another: by this set a search at a
+-- closure that takes them along need not look into them.
+use denote.RattleType.{RattleType}
+use denote.Param.Send.{IsSend, IsSync, sendable}
+use Rattle.std.proofs.Crossing.{crosses}
+use Rattle.std.proofs.alloc.Global.TheSendSync.{the_send as global_send, the_sync as global_sync}
+use Rattle.std.specs.contracts.alloc.Global.{the_row}
+use Rattle.std.specs.contracts.impls.GlobalAllocator.TheImpl.{ghosts}
+use Rattle.std.below.core.specs.contracts.clone.Clone+copy.TheImpl.{ghosts as clones}
+use Rattle.ref_base.specs.contracts.batch.Batch.{the_row as batch_row}
+use Rattle.ref_base.specs.contracts.heap_step.HeapStep.{the_row as heap_step}
+use Rattle.ref_clear.specs.contracts.notice.Notice.{the_row as notice_row}
+use Rattle.ref_objects.specs.contracts.hold.Hold.{the_row as hold_row}
+use Rattle.ref_turn.proofs.turn.SeatOf.TheSendSync.{the_field_send as seat_send}
+use Rattle.ref_turn.proofs.turn.Turn.TheSendSync.{the_field_sync as turn_sync}
+use Rattle.ref_world.specs.contracts.heap_machine.HeapReply.{the_row as heap_reply}
+use Rattle.ref_share.specs.contracts.heap_machine.HeapMachine.{the_row as heap_machine}
+use Rattle.ref_share.specs.contracts.heap_machine.HeapMachineMachine.TheImpl as heaps
+use Rattle.ref_share.specs.contracts.queue_machine.QueueMachine.{the_row as queue_machine}
+use Rattle.ref_share.specs.contracts.queue_machine.QueueMachineMachine.TheImpl as queues
+use Rattle.ref_share.specs.contracts.queue_machine.QueueReply.{the_row as queue_reply}
+use Rattle.ref_share.specs.contracts.queue_machine.QueueStep.{the_row as queue_step}
+use Rattle.ref_share.specs.contracts.shared.SeatFor.{the_field as seat_field}
+use Rattle.ref_share.specs.contracts.shared.Shared.{the_field as shared_field}
+use Rattle.ref_share.specs.contracts.shared_heap.HeapFrame.{the_row as heap_frame}
+use Rattle.ref_share.specs.contracts.shared_queue.QueueFrame.{the_row as queue_frame}
+
+abbrev batch : RattleType
+batch = batch_row notice_row the_row ghosts
+
+-- ---- a heap
+
+abbrev pub heap_row : RattleType
+heap_row =
+    (shared_field (heap_machine the_row ghosts) the_row (heap_step hold_row batch) (heap_reply batch) heap_frame
+    (heaps.ghosts the_row ghosts heaps.no_dict (clones the_row) heaps.no_dict) ghosts).row
+
+abbrev pub heap_seat_row : RattleType
+heap_seat_row =
+    (seat_field (heap_machine the_row ghosts) (heap_step hold_row batch) (heap_reply batch) heap_frame).row
+
+machine_send : IsSend (heap_machine the_row ghosts)
+machine_send = search (crosses, sendable) depth 60 fits 20000
+
+pub heap_sync : IsSync heap_row
+heap_sync = search (machine_send, turn_sync, global_send, global_sync, crosses, sendable) depth 60 fits 20000
+
+pub heap_seat_send : IsSend heap_seat_row
+heap_seat_send = search (machine_send, seat_send, crosses, sendable) depth 60 fits 20000
+
+-- ---- a queue
+
+abbrev pub queue_row : RattleType
+queue_row =
+    (shared_field (queue_machine the_row ghosts) the_row (queue_step batch) (queue_reply batch) queue_frame
+    (queues.ghosts the_row ghosts queues.no_dict (clones the_row) queues.no_dict) ghosts).row
+
+abbrev pub queue_seat_row : RattleType
+queue_seat_row = (seat_field (queue_machine the_row ghosts) (queue_step batch) (queue_reply batch) queue_frame).row
+
+queue_machine_send : IsSend (queue_machine the_row ghosts)
+queue_machine_send = search (crosses, sendable) depth 60 fits 20000
+
+pub queue_sync : IsSync queue_row
+queue_sync = search (queue_machine_send, turn_sync, global_send, global_sync, crosses, sendable) depth 60 fits 20000
+
+pub queue_seat_send : IsSend queue_seat_row
+queue_seat_send = search (queue_machine_send, seat_send, crosses, sendable) depth 60 fits 20000
+
+pub ruleset shared = (heap_sync, heap_seat_send, queue_sync, queue_seat_send)
