@@ -6,7 +6,7 @@ ghost use Rattle.ref_base.specs.Graphs.{object_at};
 ghost use Rattle.ref_base.specs.Members.{has};
 ghost use Rattle.ref_base.specs.Paths.{present};
 ghost use Rattle.ref_space.specs.Tables.{fields_in};
-ghost use Rattle.ref_objects.specs.Grounds.{IsClosed, named_in};
+ghost use Rattle.ref_objects.specs.Grounds.{IsClosed, IsWellFormed, named_in};
 
 use ref_base::{MutNo, ObjNo, SlotNo};
 use ref_objects::{Fields, Objects, Stage, Worklist};
@@ -57,7 +57,7 @@ fn are_objects_closed<A: Allocator + Copy>(heap: &Objects<A>) -> bool
     ensures names { OnTrue result ((m n : ℕ) → has heap.now.marked m ≡ true
         → has (named_in (object_at heap.now.heap.objects m)) n ≡ true → has heap.now.marked n ≡ true) }
 {
-    heap.facts();
+    known(heap);
     let Some(first) = heap.first_from(ObjNo(0)) else {
         return true;
     };
@@ -104,4 +104,11 @@ fn is_marked_if_any<A: Allocator + Copy>(heap: &Objects<A>, value: Option<ObjNo>
         Some(no) => heap.is_marked(no),
         None => true,
     }
+}
+
+/// What holds of every heap, for the proofs: it does nothing.
+pub fn known<A: Allocator + Copy>(objects: &Objects<A>)
+    ensures { IsWellFormed objects.now }
+{
+    let _count = objects.object_count();
 }

@@ -7,7 +7,7 @@ mod cycles;
 mod moves;
 mod refusals;
 
-use crate::closed::is_closed;
+use crate::closed::{is_closed, known};
 use crate::hand::{adopted, leak, released, taken};
 use crate::told::{
     Told, began, done, doomed, expect, is, is_or_fault, looked, made, moved, scanned, selected,
@@ -133,7 +133,7 @@ fn made_many(heap: &mut Marker, slot: SlotNo, count: u32) -> Told
     let mut told = Told::Nothing;
     for _object in 0..count {
         // Gives the proof that what is unhealed is there.
-        heap.objects().facts();
+        known(heap.objects());
         told = made(heap.alloc_obj(M, slot, 0));
     }
     told
@@ -144,7 +144,7 @@ fn mutated(heap: &mut Marker, call: Mutate) -> Told
     ensures { IsHealing heap.new }
 {
     // Gives the proof that what is unhealed is there.
-    heap.objects().facts();
+    known(heap.objects());
     match call {
         Mutate::New(slot, fields) => made(heap.alloc_obj(M, SlotNo(slot), fields)),
         Mutate::NewMany(slot, count) => made_many(heap, SlotNo(slot), count),
@@ -240,7 +240,7 @@ fn cycle_ended(heap: &mut Marker) -> Told
         return Told::No;
     }
     // Gives the proof that what is unhealed is there.
-    heap.objects().facts();
+    known(heap.objects());
     heap.to_idle();
     Told::Done
 }
@@ -250,7 +250,7 @@ fn collected(heap: &mut Marker, condemned: &mut Worklist, call: Collect) -> Told
     ensures { IsHealing heap.new }
 {
     // Gives the proof that what is unhealed is there.
-    heap.objects().facts();
+    known(heap.objects());
     match call {
         Collect::Begin(now, urgency) => began(heap.begin(now, urgency)),
         Collect::Scan(worker) => scanned(heap.scan(WorkerNo(worker))),
@@ -288,7 +288,7 @@ fn kept(heap: &mut Marker, hand: &mut Option<Hold>, call: Keep) -> Told
     ensures { IsHealing heap.new }
 {
     // Gives the proof that what is unhealed is there.
-    heap.objects().facts();
+    known(heap.objects());
     match call {
         Keep::Hold(slot) => taken(hand, heap.hold(M, SlotNo(slot))),
         Keep::Mint(no) => taken(hand, heap.mint(ObjNo(no))),

@@ -5,9 +5,9 @@ ghost use Rattle.ref_base.specs.Collectors.{first_state_of};
 ghost use Rattle.ref_base.specs.CollectorRows.{value_reply};
 ghost use Rattle.ref_base.specs.declared.heap_step.HeapStep.TheVariants.{Plain};
 ghost use Rattle.ref_base.specs.declared.plain_step.PlainStep.TheVariants.{Copy, Drop, New, Refer, Store};
-ghost use Rattle.ref_objects.specs.Grounds.{starting_refusal, IsMade};
+ghost use Rattle.ref_objects.specs.Grounds.{starting_refusal, IsMade, IsWellFormed};
 ghost use Rattle.ref_space.specs.Worklists.{empty_worklist};
-ghost use Rattle.ref_mark.specs.Chains.{no_chain, is_tagged};
+ghost use Rattle.ref_mark.specs.Chains.{no_chain};
 ghost use Rattle.ref_mark.specs.CycleHeaps.{first_cycle_heap, is_in_cycle, shaded, shaded_if_any, young};
 ghost use Rattle.ref_mark.specs.MarkCalls.{MarkerDoes, reply_of, done_reply};
 ghost use Rattle.ref_mark.specs.MarkViews.{ground_of, MayGrey};
@@ -100,14 +100,6 @@ impl<A: Allocator + Copy> Marker<A> {
         &self.objects
     }
 
-    /// What holds of every heap, for whoever proves something of one: no object has number 0. It does nothing.
-    pub fn facts(&self)
-        ensures { is_tagged self.now.tags 0 ≡ false }
-    {
-        // A function knows the invariant only where it uses a field.
-        let _ = &self.objects;
-    }
-
     /// The phase.
     pub fn phase(&self) -> Phase
         ensures { result ≡ self.now.phase }
@@ -128,9 +120,9 @@ impl<A: Allocator + Copy> Marker<A> {
         ensures { MarkerDoes self.old (Plain (New mutator into fields)) (reply_of Reply.Object result) self.new }
     {
         // Gives the proof that the next number is that of no object, nor marked.
-        self.objects.facts();
+        known(&self.objects);
         let no = self.objects.alloc_obj(mutator, into, fields)?;
-        self.objects.facts();
+        known(&self.objects);
         self.make_young(no);
         Ok(no)
     }
@@ -150,11 +142,11 @@ impl<A: Allocator + Copy> Marker<A> {
             (reply_of Reply.Object result) self.new }
     {
         // Gives the proof that the next number is that of no object, nor marked.
-        self.objects.facts();
+        known(&self.objects);
         let no = self
             .objects
             .alloc_ref(mutator, into, strength, from, queue, fields)?;
-        self.objects.facts();
+        known(&self.objects);
         self.make_young(no);
         Ok(no)
     }
@@ -200,7 +192,7 @@ impl<A: Allocator + Copy> Marker<A> {
     {
         if self.is_in_cycle() {
             self.objects.mark(no);
-            self.objects.facts();
+            known(&self.objects);
         }
     }
 
@@ -219,7 +211,7 @@ impl<A: Allocator + Copy> Marker<A> {
         ensures { self.new ≡ shaded self.old no }
     {
         if self.objects.mark(no) {
-            self.objects.facts();
+            known(&self.objects);
             self.push_grey(Entry::of(no));
         }
     }
@@ -250,4 +242,11 @@ fn worklists<A: Allocator + Copy>(
         found.push_reserved(Chain::new());
     }
     Ok((grey, found))
+}
+
+// What holds of every heap, for the proofs: it does nothing.
+fn known<A: Allocator + Copy>(objects: &Objects<A>)
+    ensures { IsWellFormed objects.now }
+{
+    let _count = objects.object_count();
 }

@@ -2,7 +2,7 @@
 //! change them.
 
 ghost use Rattle.std.specs.Prelude.{◌≡◌, ◌*◌, ◌+◌, ◌^◌, ◌<◌, ◌≤◌, if◌then◌else◌, true, false, None, Some};
-ghost use Rattle.std.specs.Prelude.{length, slice_index_or, replicate, IfOk, MatchResult};
+ghost use Rattle.std.specs.Prelude.{length, slice_index_or, replicate, IfOk, MatchResult, [], is_some, map};
 ghost use Rattle.ref_base.specs.Paths.{is_soft};
 ghost use Rattle.ref_base.specs.Graphs.{plain_object};
 ghost use Rattle.ref_base.specs.Heaps.{slot_at, with_slot, with_changed, with_field, nulls, stored};
@@ -15,8 +15,9 @@ ghost use Rattle.ref_objects.specs.Grounds.{first_ground, starting_refusal, IsMa
 ghost use Rattle.ref_objects.specs.Grounds.{ground_with_heap, ground_brought, with_new_object, is_spared};
 ghost use Rattle.ref_objects.specs.Grounds.{IsSparedIfAny};
 ghost use Rattle.ref_objects.specs.GroundViews.{made_at};
-ghost use Rattle.ref_space.specs.Tables.{made_of};
-ghost use Rattle.std.specs.Option.{option_map, IfSome};
+ghost use Rattle.ref_space.specs.Moves.{AreFree};
+ghost use Rattle.ref_space.specs.Tables.{made_of, IsOrderlyTable, left_of, LieOnce, tabled_at};
+ghost use Rattle.std.specs.Option.{option_map, is_none, IfSome};
 
 mod holds;
 mod layer;
@@ -297,7 +298,7 @@ impl<A: Allocator + Copy> Objects<A> {
             return Err(Fault::NoCell);
         }
         // Gives the proof that no number is above the last.
-        let _count = self.table.len();
+        known(&self.table);
         let no = ObjNo(self.next as u32);
         // What isn't marked would be condemned.
         self.table
@@ -332,4 +333,14 @@ impl<A: Allocator + Copy> Objects<A> {
         };
         self.make(place, fields, Some(reference))
     }
+}
+
+// What holds of every table, for the proofs: it does nothing.
+fn known<A: Allocator + Copy>(table: &Table<A>)
+    ensures orderly { IsOrderlyTable table.now }
+    ensures settled { table.now.ways.tuned ≡ true → left_of table.now ≡ [] }
+    ensures laid { LieOnce table.now.occupants (λ n. is_some (tabled_at table.now.tabled n)) }
+    ensures free { AreFree (map is_none table.now.occupants) table.now.ways.forwards table.now.ways.pages.uses }
+{
+    let _count = table.len();
 }

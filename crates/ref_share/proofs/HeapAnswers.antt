@@ -17,7 +17,8 @@ use Rattle.ref_clear.specs.declared.handed.Handed.{Handed}
 use Rattle.ref_world.specs.WorldHeaps.{heap_no_of}
 use Rattle.ref_mark.specs.MarkCalls.{unless_refused}
 use Rattle.ref_share.specs.HeapCalls.{asks_for_a_notice, TellsOfNone, KeepsBack, GivesNotice, takes_a_hold, Spends}
-use Rattle.ref_share.specs.HeapCalls.{GivesBatch, TellsOfBatch}
+use Rattle.ref_share.specs.HeapCalls.{GivesBatch}
+use Rattle.ref_world.specs.HeapReplies.{TellsOfBatch}
 use Rattle.ref_base.specs.declared.heap_step.HeapStep.TheVariants as heap
 use Rattle.ref_base.specs.declared.reply.Reply.TheVariants as told
 use Rattle.ref_world.specs.declared.heap_machine.HeapReply.TheVariants as replies

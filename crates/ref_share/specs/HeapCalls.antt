@@ -86,13 +86,6 @@ GivesBatch v k max batch (Ok answer) left w =
     × Called v (heap.Hands k max batch) (replies.Handed (handed_reply k answer) left) w
 GivesBatch v k max batch (Err fault) left w = (left ≡ batch) × RefusesBatch v k max batch fault w
 
--- how a reply to a hand of a batch is told
-abbrev pub TellsOfBatch : Reply → Result (Option Handed) Fault → Type 0
-TellsOfBatch (told.Notices ns q cycle k) result =
-    result ≡ Ok (Some (record { numbers = ns; queue = q; cycle = cycle }))
-TellsOfBatch (told.Refused fault) result = result ≡ Err fault
-TellsOfBatch reply result = result ≡ Ok None
-
 -- what is answered to such a step where a reply comes without a notice
 abbrev pub TellsOfNone : Reply → Result (Option HeldNotice) Fault → Type 0
 TellsOfNone (told.Refused fault) result = result ≡ Err fault

@@ -6,7 +6,7 @@ ghost use Rattle.ref_base.specs.declared.heap_step.HeapStep.TheVariants as steps
 ghost use Rattle.ref_share.specs.HeapSeats.{heap_view, IsHeapSeat};
 ghost use Rattle.ref_share.specs.HeapCalls.{AsksHeap, Performs, HoldsSlot, asks_for_a_notice};
 ghost use Rattle.ref_share.specs.HeapCalls.{GivesNotice, TellsOfNone, takes_a_hold, Spends, Adopts, Releases};
-ghost use Rattle.ref_share.specs.HeapCalls.{GivesBatch, TellsOfBatch, takes_along};
+ghost use Rattle.ref_share.specs.HeapCalls.{GivesBatch, takes_along};
 ghost use Rattle.ref_share.specs.HeapMachines.{Acts};
 ghost use Rattle.ref_share.specs.SeatCalls.{Called, RanOut};
 ghost use Rattle.ref_clear.specs.ClearHeaps.{ClearHeap};
@@ -101,7 +101,7 @@ impl<A: Allocator + Copy> SharedHeap<A> {
         ensures gives { GivesBatch (heap_view seat.old) worker max batch result.0 result.1 (heap_view seat.new) }
     {
         match self.call(rt, seat, HeapStep::Hands { worker, max, batch }) {
-            Ok(HeapReply::Handed(reply, batch)) => (handed_on(reply), batch),
+            Ok(HeapReply::Handed(reply, batch)) => (reply.answer(), batch),
             Err(TurnFault::Spent(HeapStep::Hands { batch, .. })) => (Err(Fault::TurnsSpent), batch),
             _answer => unreachable!(),
         }
@@ -278,26 +278,6 @@ impl<A: Allocator + Copy> SharedHeap<A> {
                 _ => Err(Fault::TurnsSpent),
             },
         }
-    }
-}
-
-// What was handed on at once, by the reply that tells it.
-fn handed_on(reply: Reply) -> Result<Option<Handed>, Fault>
-    ensures { TellsOfBatch reply result }
-{
-    match reply {
-        Reply::Notices {
-            objects,
-            queue,
-            cycle,
-            ..
-        } => Ok(Some(Handed {
-            numbers: objects,
-            queue,
-            cycle,
-        })),
-        Reply::Refused(fault) => Err(fault),
-        _ => Ok(None),
     }
 }
 

@@ -8,6 +8,7 @@ use Rattle.ref_base.specs.declared.heap_step.HoldName.{HoldName}
 use Rattle.ref_base.specs.declared.reply.Reply.{Reply}
 use Rattle.ref_base.specs.declared.reply.Reply.TheVariants as replies
 use Rattle.ref_clear.specs.ClearCalls.{held_notices}
+use Rattle.ref_clear.specs.declared.handed.Handed.{Handed as Batched}
 use Rattle.ref_world.specs.declared.heap_machine.HeapReply.{HeapReply}
 use Rattle.ref_world.specs.declared.heap_machine.HeapReply.TheVariants.{Told, Notice, Held, Back, Handed}
 
@@ -65,3 +66,10 @@ IsHeld (Err fault) reply = reply ≡ Told (replies.Refused fault)
 abbrev pub IsBack : {T : Type 0} → Result T (Fault × HoldName) → HeapAnswer → Type 0
 IsBack (Ok answer) reply = IsTold reply
 IsBack (Err back) reply = reply ≡ Back back.0 back.1
+
+-- how the heap answered a hand of several, by its reply
+abbrev pub TellsOfBatch : Reply → Result (Option Batched) Fault → Type 0
+TellsOfBatch (replies.Notices ns q cycle k) result =
+    result ≡ Ok (Some (record { numbers = ns; queue = q; cycle = cycle }))
+TellsOfBatch (replies.Refused fault) result = result ≡ Err fault
+TellsOfBatch reply result = result ≡ Ok None

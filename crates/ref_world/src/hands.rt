@@ -14,7 +14,6 @@ ghost use Rattle.ref_world.specs.Cores.{first_hands, hand_in, with_hand_in, with
 ghost use Rattle.ref_world.specs.Cores.{filling_refusal, filling_some_refusal, emptying_refusal, one_or_none};
 ghost use Rattle.ref_world.specs.Cores.{queue_if_any};
 ghost use Rattle.ref_world.specs.QueueReplies.{PutsEach, PollsSome};
-ghost use Rattle.ref_world.specs.Standing.{answered};
 ghost use Rattle.ref_world.specs.WorldHeaps.{heap_no_of};
 
 use crate::hand::Hand;
@@ -177,16 +176,11 @@ impl<A: Allocator + Copy> Hands<A> {
 
     // Asks the heap for the notices of the next references that the worker cleared, so many at most. Its hand, which is
     // empty, then holds them.
-    pub(crate) fn hand_on(
-        &mut self,
-        heap: &mut WorldHeap<A>,
-        worker: WorkerNo,
-        max: u32,
-    ) -> Result<Reply, Fault>
+    pub(crate) fn hand_on(&mut self, heap: &mut WorldHeap<A>, worker: WorkerNo, max: u32) -> Reply
         requires own { heap_no_of heap.old ≡ 0 }
         requires fits { filling_some_refusal self.old (Actor.Worker worker) max ≡ None }
-        ensures does { HeapDoes heap.old (HeapStep.Hands worker max []) (answered result) heap.new }
-        ensures hands { self.new ≡ received self.old (Actor.Worker worker) (told_notices (answered result)) }
+        ensures does { HeapDoes heap.old (HeapStep.Hands worker max []) result heap.new }
+        ensures hands { self.new ≡ received self.old (Actor.Worker worker) (told_notices result) }
     {
         let hand = &mut self.workers[worker.0 as usize];
         self.passage.hand_on(heap, hand, worker, max)

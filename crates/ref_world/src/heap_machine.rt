@@ -5,19 +5,19 @@ ghost use Rattle.ref_base.specs.Collectors.{State};
 ghost use Rattle.ref_base.specs.CollectorRows.{IsHeapRow};
 ghost use Rattle.ref_base.specs.Told.{told_notices};
 ghost use Rattle.ref_mark.specs.MarkCalls.{reply_of, reply_or_back, hold_reply, done_reply};
-ghost use Rattle.ref_clear.specs.ClearCalls.{HeapDoes, notice_reply, IsOfHeap, held_notices};
+ghost use Rattle.ref_clear.specs.ClearCalls.{HeapDoes, notice_reply, handed_reply, IsOfHeap, held_notices};
 ghost use Rattle.ref_clear.specs.Standing.{HeapStands};
 ghost use Rattle.ref_world.specs.HeapReplies.{told_reply, GivesOut, IsGiven, IsHeld, IsBack, IsTold};
-ghost use Rattle.ref_world.specs.Standing.{answered};
 ghost use Rattle.ref_world.specs.WorldHeaps.{heap_no_of};
 
+use crate::HandedReply;
 use crate::hand::is_within;
 use crate::plain_reply::{PlainAnswer, PlainReply};
 use crate::replies::{
-    began, done, doomed, handed_on, looked, made, moved, refers, scanned, selected, swept, value,
+    began, done, doomed, looked, made, moved, refers, scanned, selected, swept, value,
 };
 use ref_base::{Batch, Fault, HeapStep, ObjNo, PlainStep, Reply, WorkerNo};
-use ref_clear::{Heap, Notice};
+use ref_clear::{Handed, Heap, Notice};
 use ref_objects::Hold;
 use std::alloc::{Allocator, Global};
 
@@ -40,7 +40,7 @@ pub enum HeapReply<B> {
     Back(Fault, Hold),
     /// The reply to a hand of a batch, refused or not, and the batch, which always comes back: behind what was in it
     /// stand the notices that are told.
-    Handed(Reply, B),
+    Handed(HandedReply, B),
 }
 
 /// What a step of a heap answers, with the batch that was to be filled.
@@ -159,30 +159,29 @@ fn handed<A: Allocator + Copy>(
     ensures gives { GivesOut (heap_no_of heap.old) (HeapStep.Hands worker max batch) result }
 {
     let mut batch = batch;
-    let reply = handed_into(heap, worker, max, &mut batch);
-    HeapReply::Handed(reply, batch)
+    let answer = handed_into(heap, worker, max, &mut batch);
+    HeapReply::Handed(HandedReply::new(worker, answer), batch)
 }
 
-// The reply to a hand of several.
+// What a hand of several answers.
 fn handed_into<A: Allocator + Copy>(
     heap: &mut WorldHeap<A>,
     worker: WorkerNo,
     max: u32,
     batch: &mut Batch<Notice, A>,
-) -> Reply
-    ensures does { HeapDoes heap.old (HeapStep.Hands worker max batch.old) result heap.new }
-    ensures given { batch.new ≡ batch.old ++ held_notices (heap_no_of heap.old) (told_notices result) }
+) -> Result<Option<Handed>, Fault>
+    ensures does { HeapDoes heap.old (HeapStep.Hands worker max batch.old)
+        (reply_of (handed_reply worker) result) heap.new }
+    ensures given { batch.new ≡ batch.old
+        ++ held_notices (heap_no_of heap.old) (told_notices (reply_of (handed_reply worker) result)) }
 {
     if worker.0 >= heap.config().workers {
-        return Reply::Refused(Fault::NoSuchActor);
+        return Err(Fault::NoSuchActor);
     }
     if !is_within(max, batch.len()) {
-        return Reply::Refused(Fault::BadConfig);
+        return Err(Fault::BadConfig);
     }
-    match heap.hand_batch(worker, max, batch) {
-        Ok(handed) => handed_on(worker, handed),
-        Err(fault) => Reply::Refused(fault),
-    }
+    heap.hand_batch(worker, max, batch)
 }
 
 // A hold, or the fault.
@@ -230,17 +229,14 @@ fn released<A: Allocator>(answer: Result<(), (Fault, Hold)>) -> HeapAnswer<A>
     }
 }
 
-// The reply of a step that gives nothing out, or why it is refused.
+// The reply of a step that gives nothing out.
 #[inline(always)]
-pub(crate) fn told<A: Allocator>(reply: HeapAnswer<A>) -> Result<Reply, Fault>
+pub(crate) fn told<A: Allocator>(reply: HeapAnswer<A>) -> Reply
     requires { IsTold reply }
-    ensures { answered result ≡ told_reply reply }
+    ensures { result ≡ told_reply reply }
 {
     match reply {
-        HeapReply::Told(reply) => match reply.reply() {
-            Reply::Refused(fault) => Err(fault),
-            reply => Ok(reply),
-        },
+        HeapReply::Told(reply) => reply.reply(),
         _ => unreachable!(),
     }
 }

@@ -3,6 +3,7 @@
 #![tactic(auto)]
 
 mod hand;
+mod handed_reply;
 mod hands;
 mod heap_machine;
 mod notice;
@@ -12,6 +13,7 @@ mod replies;
 mod trace;
 mod world;
 
+pub use handed_reply::HandedReply;
 pub use heap_machine::{HeapAnswer, HeapCall, HeapReply, WorldHeap, apply_heap};
 pub use notice::WorldNotice;
 pub use plain_reply::PlainReply;

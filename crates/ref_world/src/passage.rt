@@ -3,16 +3,14 @@
 ghost use Rattle.std.specs.Prelude.{◌≡◌, true, IfOk, OnErr, []};
 ghost use Rattle.ref_base.specs.Told.{told_notices};
 ghost use Rattle.ref_base.specs.Refusals.{fits};
-ghost use Rattle.ref_mark.specs.MarkCalls.{reply_of};
-ghost use Rattle.ref_clear.specs.ClearCalls.{HeapDoes, handed_reply};
-ghost use Rattle.ref_world.specs.Standing.{answered};
+ghost use Rattle.ref_clear.specs.ClearCalls.{HeapDoes};
 ghost use Rattle.ref_world.specs.WorldHeaps.{heap_no_of};
 
 use crate::WorldHeap;
 use crate::hand::Hand;
-use crate::replies::handed_on;
+use crate::handed_reply::handed_on;
 use ref_base::{Batch, Fault, HeapStep, Reply, WorkerNo};
-use ref_clear::{Handed, Notice};
+use ref_clear::Notice;
 use std::alloc::Allocator;
 use std::marker::Model;
 
@@ -49,30 +47,20 @@ impl<A: Allocator + Copy> Passage<A> {
         hand: &mut Hand<A>,
         worker: WorkerNo,
         max: u32,
-    ) -> Result<Reply, Fault>
+    ) -> Reply
         requires own { heap_no_of heap.old ≡ 0 }
         requires empty { hand.old ≡ [] }
         requires fits { fits max 0 ≡ true }
-        ensures does { HeapDoes heap.old (HeapStep.Hands worker max []) (answered result) heap.new }
-        ensures hand { hand.new ≡ told_notices (answered result) }
+        ensures does { HeapDoes heap.old (HeapStep.Hands worker max []) result heap.new }
+        ensures hand { hand.new ≡ told_notices result }
     {
         let answer = heap.hand_batch(worker, max, &mut self.batch);
         hand.fill_from(&mut self.batch);
-        told(worker, answer)
+        handed_on(worker, answer)
     }
 
     pub(crate) fn end(self) {
         let Passage { batch } = self;
         batch.end();
-    }
-}
-
-// What a worker handed on at once, as a reply, or why it is refused.
-fn told(worker: WorkerNo, answer: Result<Option<Handed>, Fault>) -> Result<Reply, Fault>
-    ensures { answered result ≡ reply_of (handed_reply worker) answer }
-{
-    match answer {
-        Ok(handed) => Ok(handed_on(worker, handed)),
-        Err(fault) => Err(fault),
     }
 }

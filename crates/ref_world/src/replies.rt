@@ -3,12 +3,12 @@
 ghost use Rattle.std.specs.Prelude.{◌≡◌};
 ghost use Rattle.ref_base.specs.CollectorRows.{value_reply};
 ghost use Rattle.ref_mark.specs.MarkCalls.{reply_of, done_reply, scan_reply, moved_reply};
-ghost use Rattle.ref_clear.specs.ClearCalls.{looked_reply, swept_reply, handed_reply};
+ghost use Rattle.ref_clear.specs.ClearCalls.{looked_reply, swept_reply};
 ghost use Rattle.ref_world.specs.QueueReplies.{polls_reply};
 
 use crate::plain_reply::{PlainAnswer, PlainReply};
-use ref_base::{Fault, ObjNo, Reply, WorkerNo};
-use ref_clear::{Handed, Looked};
+use ref_base::{Fault, ObjNo, Reply};
+use ref_clear::Looked;
 use ref_queue::PolledBatch;
 
 // The object that was made.
@@ -124,27 +124,6 @@ pub(crate) fn moved(answer: Result<Option<ObjNo>, Fault>) -> PlainReply
         Ok(Some(object)) => PlainReply(PlainAnswer::Moved(object)),
         Ok(None) => PlainReply(PlainAnswer::Nothing),
         Err(fault) => PlainReply(PlainAnswer::Refused(fault)),
-    }
-}
-
-// What a worker handed on at once, or that nothing is pending.
-pub(crate) fn handed_on(worker: WorkerNo, handed: Option<Handed>) -> Reply
-    ensures { result ≡ handed_reply worker handed }
-{
-    match handed {
-        Some(
-            Handed {
-                numbers,
-                queue,
-                cycle,
-            },
-        ) => Reply::Notices {
-            objects: numbers,
-            queue,
-            cycle,
-            worker,
-        },
-        None => Reply::Nothing,
     }
 }
 

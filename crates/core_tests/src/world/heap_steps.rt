@@ -71,7 +71,7 @@ fn asked<A: Allocator + Copy>(bench: &mut Bench<A>, step: HeapCall<A>) -> Told {
             keep(&mut bench.hand, notice.into_hold());
             told
         }
-        HeapReply::Handed(reply, batch) => Told::Batch(reply, emptied(batch)),
+        HeapReply::Handed(reply, batch) => Told::Batch(reply.reply(), emptied(batch)),
         HeapReply::Held(hold) => {
             let told = Told::Held(hold.obj().0, hold.heap_no());
             keep(&mut bench.hand, hold);

@@ -2,13 +2,14 @@
 
 ghost use Rattle.ref_base.specs.declared.heap_step.HeapStep.TheVariants.{Plain};
 ghost use Rattle.ref_base.specs.declared.plain_step.PlainStep.TheVariants.{ClearNext, EndClear};
+ghost use Rattle.ref_objects.specs.Grounds.{IsWellFormed};
 ghost use Rattle.ref_mark.specs.MarkCalls.{reply_of, done_reply};
 ghost use Rattle.ref_clear.specs.ClearCalls.{HeapDoes, looked_reply};
 
 use super::Heap;
 use crate::Looked;
 use ref_base::{Fault, Phase, WorkerNo};
-use ref_objects::{Look, Reference};
+use ref_objects::{Look, Objects, Reference};
 use std::alloc::Allocator;
 
 impl<A: Allocator + Copy> Heap<A> {
@@ -19,9 +20,8 @@ impl<A: Allocator + Copy> Heap<A> {
     pub fn clear_next(&mut self, worker: WorkerNo) -> Result<Option<Looked>, Fault>
         ensures { HeapDoes self.old (Plain (ClearNext worker)) (reply_of looked_reply result) self.new }
     {
-        // Gives the proof that an object has a record for the link and the cycle, and that its number isn't 0.
-        self.marker.objects().facts();
-        self.marker.facts();
+        // Gives the proof that an object has a record for the link and the cycle.
+        known(self.marker.objects());
         let Some(look) = self.marker.take_found(worker)? else {
             return Ok(None);
         };
@@ -57,8 +57,15 @@ impl<A: Allocator + Copy> Heap<A> {
             return Err(Fault::ClearingLeft);
         }
         // Gives the proof that what is named is there.
-        self.marker.objects().facts();
+        known(self.marker.objects());
         self.marker.to_sweeping(&mut self.condemned);
         Ok(())
     }
+}
+
+// What holds of every heap, for the proofs: it does nothing.
+fn known<A: Allocator + Copy>(objects: &Objects<A>)
+    ensures { IsWellFormed objects.now }
+{
+    let _count = objects.object_count();
 }

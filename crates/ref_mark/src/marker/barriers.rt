@@ -10,7 +10,7 @@ ghost use Rattle.ref_base.specs.declared.plain_step.PlainStep.TheVariants.{Clear
 ghost use Rattle.ref_mark.specs.CycleHeaps.{barred, is_white, is_doomed};
 ghost use Rattle.ref_mark.specs.MarkCalls.{answer_in_cycle, MarkerDoes, reply_of, done_reply};
 
-use super::Marker;
+use super::{Marker, known};
 use ref_base::{Fault, MutNo, ObjNo, Phase, Reply, SlotNo};
 use std::alloc::Allocator;
 
@@ -28,7 +28,7 @@ impl<A: Allocator + Copy> Marker<A> {
         ensures { MarkerDoes self.old (Plain (Load mutator into from field)) (reply_of value_reply result) self.new }
     {
         let value = self.objects.load(mutator, into, from, field)?;
-        self.objects.facts();
+        known(&self.objects);
         self.bar(mutator, into);
         Ok(value)
     }
@@ -47,7 +47,7 @@ impl<A: Allocator + Copy> Marker<A> {
         ensures { MarkerDoes self.old (Plain (Get mutator into reference)) (reply_of value_reply result) self.new }
     {
         let hide_doomed = self.is_past_mark();
-        self.objects.facts();
+        known(&self.objects);
         let value = self.objects.get(mutator, into, reference, hide_doomed)?;
         self.bar(mutator, into);
         Ok(value)
@@ -94,7 +94,7 @@ impl<A: Allocator + Copy> Marker<A> {
             return;
         }
         if let Ok(Some(anew)) = self.objects.mark_slot(mutator, slot) {
-            self.objects.facts();
+            known(&self.objects);
             self.push_grey(anew);
         }
     }

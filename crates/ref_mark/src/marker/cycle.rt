@@ -16,7 +16,7 @@ ghost use Rattle.ref_mark.specs.MarkCalls.{MarkerDoes, reply_of, scan_reply};
 ghost use Rattle.ref_mark.specs.MarkViews.{MayFind};
 ghost use Rattle.ref_mark.specs.CycleHeaps.{shaded_all, shaded_if_any, whitened, with_found, is_white};
 
-use super::{MOST_WORKERS, Marker};
+use super::{MOST_WORKERS, Marker, known};
 use crate::chain::Chain;
 use ref_base::{Fault, ObjNo, Phase, Reply, Urgency, WorkerNo};
 use ref_objects::{Colour, Entry};
@@ -51,11 +51,11 @@ impl<A: Allocator + Copy> Marker<A> {
         };
         let Entry { no, place } = entry;
         // Gives the proof that the grey list has room.
-        self.objects.facts();
+        known(&self.objects);
         let finds = self
             .objects
             .scan(Entry { no, place }, self.policy, &mut self.grey);
-        self.objects.facts();
+        known(&self.objects);
         if finds {
             self.list_found(worker, no, place);
         }
@@ -129,7 +129,7 @@ impl<A: Allocator + Copy> Marker<A> {
         ensures { self.new ≡ shaded_if_any self.old (slice_index_or self.old.heap.slots place None) }
     {
         if let Some(anew) = self.objects.mark_slot_at(place) {
-            self.objects.facts();
+            known(&self.objects);
             self.push_grey(anew);
         }
     }
@@ -142,7 +142,7 @@ impl<A: Allocator + Copy> Marker<A> {
         if self.objects.hold_count() == 0 {
             return;
         }
-        self.objects.facts();
+        known(&self.objects);
         let mut held = self.objects.held_from(ObjNo(0));
         while let Some(no) = held {
             self.shade(no);
@@ -157,7 +157,7 @@ impl<A: Allocator + Copy> Marker<A> {
         requires may { MayFind self.old worker no }
         ensures { self.new ≡ with_found self.old worker no }
     {
-        self.objects.facts();
+        known(&self.objects);
         let finder = worker.0 as usize;
         let mut list = self.found[finder];
         list.push_near(

@@ -7,12 +7,12 @@ ghost use Rattle.ref_base.specs.Refusals.{is_empty, is_in, work_refusal};
 ghost use Rattle.ref_base.specs.CollectorRows.{list_at};
 ghost use Rattle.ref_space.specs.Worklists.{emptied_list, with_more};
 ghost use Rattle.ref_objects.specs.Grounds.{IsRefused, IsClosed, if_done, unmarked};
-ghost use Rattle.ref_mark.specs.Chains.{linked_last, chain_with};
+ghost use Rattle.ref_mark.specs.Chains.{is_tagged, linked_last, chain_with};
 ghost use Rattle.ref_mark.specs.CycleHeaps.{shaded, cycle_ended, found_looked_at, doomed, sweep_begun};
 ghost use Rattle.ref_mark.specs.CycleHeaps.{is_swept, swept, is_past_mark};
 ghost use Rattle.ref_mark.specs.MarkViews.{found_look};
 
-use super::Marker;
+use super::{Marker, known};
 use crate::chain::Chain;
 use ref_base::{Fault, ObjNo, Phase, WorkerNo};
 use ref_objects::{Entry, Look, Worklist};
@@ -43,13 +43,14 @@ impl<A: Allocator + Copy> Marker<A> {
 
     /// Takes the first reference that a worker found and that wasn't looked at since, and looks at it: where its
     /// referent is doomed it is cleared, for the worker, in this cycle. None where there is none. Tried in this order:
-    /// `NoSuchActor`, `WrongPhase` but in Clearing. By one search.
+    /// `NoSuchActor`, `WrongPhase` but in Clearing. No object has number 0. By one search.
     #[inline(always)]
     pub fn take_found(&mut self, worker: WorkerNo) -> Result<Option<Look>, Fault>
         ensures refused { IsRefused (work_refusal self.old.heap self.old.phase Phase.Clearing worker) result }
         ensures answer { IfOk result (λ look. look ≡ found_look self.old worker) }
         ensures after { self.new ≡ if_done result
             (found_looked_at self.old worker (list_at self.old.found worker)) self.old }
+        ensures numbered { is_tagged self.old.tags 0 ≡ false }
     {
         self.check_work(worker, Phase::Clearing)?;
         let mut list = self.found[worker.0 as usize];
@@ -91,7 +92,7 @@ impl<A: Allocator + Copy> Marker<A> {
         ensures after { self.new ≡ swept self.old entry.no }
     {
         // Gives the proof that nobody holds what is condemned.
-        self.objects.facts();
+        known(&self.objects);
         self.objects.free(entry)
     }
 

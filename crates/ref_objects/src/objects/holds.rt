@@ -8,7 +8,7 @@ ghost use Rattle.ref_objects.specs.Grounds.{IsRefused, GivesBack, if_done, groun
 ghost use Rattle.ref_objects.specs.Grounds.{is_spared};
 ghost use Rattle.ref_objects.specs.Grounds.{mint_refusal, holding_refusal, release_refusal, adopt_refusal};
 
-use super::Objects;
+use super::{Objects, known};
 use crate::hold::Hold;
 use ref_base::{Fault, MutNo, ObjNo, SlotNo};
 use std::alloc::Allocator;
@@ -91,7 +91,7 @@ impl<A: Allocator + Copy> Objects<A> {
             then ground_with_heap self.old (with_hold self.old.heap no) else self.old) }
     {
         // Gives the proof that the numbers rise.
-        let _count = self.table.len();
+        known(&self.table);
         let is_held = self.table.add_hold(no, self.condemning);
         self.holds += u64::from(is_held);
         is_held
@@ -106,7 +106,7 @@ impl<A: Allocator + Copy> Objects<A> {
             self.old) }
     {
         // Gives the proof that the numbers rise.
-        let _count = self.table.len();
+        known(&self.table);
         let was_held = self.table.drop_hold(no);
         if was_held {
             self.holds -= 1;

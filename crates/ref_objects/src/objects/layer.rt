@@ -12,7 +12,7 @@ ghost use Rattle.ref_objects.specs.Grounds.{unmarked};
 ghost use Rattle.ref_objects.specs.GroundViews.{with_slot_at, written};
 ghost use Rattle.ref_space.specs.Worklists.{emptied_list, with_more};
 
-use super::Objects;
+use super::{Objects, known};
 use crate::stage::Stage;
 use ref_base::{Fault, MutNo, ObjNo, SlotNo};
 use ref_space::{Change, Entry, Look, Worklist};
@@ -78,7 +78,7 @@ impl<A: Allocator + Copy> Objects<A> {
         ensures after { self.new ≡ ground_looked_at self.old no cycle }
     {
         // Gives the proof that the numbers rise.
-        let _count = self.table.len();
+        known(&self.table);
         self.table.look_at(no, cycle)
     }
 
@@ -113,7 +113,7 @@ impl<A: Allocator + Copy> Objects<A> {
             with_more (emptied_list condemned.old) (unmarked self.old.heap.objects self.old.marked) }
     {
         // Gives the proof that the numbers rise.
-        let _count = self.table.len();
+        known(&self.table);
         self.table.condemn(condemned);
         self.condemning = true;
     }
@@ -133,7 +133,7 @@ impl<A: Allocator + Copy> Objects<A> {
         ensures after { self.new ≡ after_freeing self.old entry.no }
     {
         // Gives the proof that the numbers rise.
-        let _count = self.table.len();
+        known(&self.table);
         self.condemning && self.table.free(entry)
     }
 
@@ -152,7 +152,7 @@ impl<A: Allocator + Copy> Objects<A> {
         ensures { result ≡ is_spared self.now no }
     {
         // Gives the proof that the numbers rise.
-        let _count = self.table.len();
+        known(&self.table);
         if self.condemning {
             self.table.is_marked(no)
         } else {

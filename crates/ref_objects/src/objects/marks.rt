@@ -14,7 +14,7 @@ ghost use Rattle.ref_objects.specs.Grounds.{IsRefused, if_done, ground_marked_if
 ghost use Rattle.ref_objects.specs.Grounds.{all_newly_marked, ground_scanned, MayGrow};
 ghost use Rattle.ref_base.specs.DoomedSets.{refers_into};
 
-use super::Objects;
+use super::{Objects, known};
 use crate::stage::Stage;
 use ref_base::{Fault, MutNo, ObjNo, Policy, SlotNo, Urgency};
 use ref_space::{Colour, Entry, Worklist, policy_from};
@@ -26,7 +26,7 @@ impl<A: Allocator + Copy> Objects<A> {
         ensures { result ≡ has self.now.marked no }
     {
         // Gives the proof that the numbers rise.
-        let _count = self.table.len();
+        known(&self.table);
         self.table.is_marked(no)
     }
 
@@ -35,7 +35,7 @@ impl<A: Allocator + Copy> Objects<A> {
         ensures { result ≡ is_unmarked self.now no }
     {
         // Gives the proof that the numbers rise.
-        let _count = self.table.len();
+        known(&self.table);
         self.table.is_unmarked(no)
     }
 
@@ -46,7 +46,7 @@ impl<A: Allocator + Copy> Objects<A> {
         ensures after { self.new ≡ ground_marked self.old no }
     {
         // Gives the proof that the numbers rise.
-        let _count = self.table.len();
+        known(&self.table);
         self.table.mark(no)
     }
 
@@ -73,7 +73,7 @@ impl<A: Allocator + Copy> Objects<A> {
         ensures after { self.new ≡ ground_marked_if_any self.old (slice_index_or self.old.heap.slots place None) }
     {
         // Gives the proof that the numbers rise.
-        let _count = self.table.len();
+        known(&self.table);
         self.table.mark_in(place)
     }
 
@@ -91,7 +91,7 @@ impl<A: Allocator + Copy> Objects<A> {
         ensures after { self.new ≡ ground_scanned (is_kept policy) self.old entry.no }
     {
         // Gives the proof that the numbers rise.
-        let _count = self.table.len();
+        known(&self.table);
         self.table.scan(entry, policy, grey)
     }
 
@@ -106,7 +106,7 @@ impl<A: Allocator + Copy> Objects<A> {
         ensures { self.new ≡ marks_begun self.old good }
     {
         // Gives the proof that nothing was marked or healed in a later round.
-        let _count = self.table.len();
+        known(&self.table);
         self.table.begin(good);
         self.condemning = false;
         self.last = good;

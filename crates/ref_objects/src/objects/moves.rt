@@ -7,7 +7,7 @@ ghost use Rattle.ref_base.specs.Refusals.{is_empty};
 ghost use Rattle.ref_space.specs.Worklists.{first_in};
 ghost use Rattle.ref_objects.specs.Grounds.{choice_in, with_choice, brought, with_choice_ended};
 
-use super::Objects;
+use super::{Objects, known};
 use crate::stage::Stage;
 use ref_base::{Fault, ObjNo};
 use ref_space::Colour;
@@ -27,7 +27,7 @@ impl<A: Allocator + Copy> Objects<A> {
         ensures after { self.new ≡ record self.old { space = with_choice self.old.space } }
     {
         // Gives the proof that there are no more objects than fit, and of where they lie.
-        let _count = self.table.len();
+        known(&self.table);
         // Nothing has died: at most one page has neither no object nor 64.
         if self.stage == Stage::Fresh {
             return Err(Fault::NoRoom);
@@ -86,7 +86,7 @@ impl<A: Allocator + Copy> Objects<A> {
         ensures { self.new ≡ record self.old { space = with_choice_ended self.old.space } }
     {
         // Gives the proof that no object is still to move.
-        let _count = self.table.len();
+        known(&self.table);
         self.table.renumber();
         self.has_choice = false;
     }

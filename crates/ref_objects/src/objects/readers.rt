@@ -12,7 +12,7 @@ ghost use Rattle.ref_objects.specs.Grounds.{IsRefused, kind_in, stamp_in, least_
 ghost use Rattle.ref_objects.specs.Grounds.{cleared_in_at, link_at, linked_in};
 ghost use Rattle.ref_objects.specs.Grounds.{IsSparedIfAny, IsWordIn, IsWordOfReferent};
 
-use super::Objects;
+use super::{Objects, known};
 use crate::kind::Kind;
 use ref_base::{Config, Fault, MutNo, ObjNo, QueueNo, SlotNo};
 use ref_space::{Fields, Linked, Reference};
@@ -47,17 +47,10 @@ impl<A: Allocator + Copy> Objects<A> {
         self.next
     }
 
-    /// What holds of every heap, for whoever proves something of one: that it is well formed. It does nothing.
-    pub fn facts(&self)
-        ensures { IsWellFormed self.now }
-    {
-        // Gives the proof that the numbers rise, and of where the objects lie.
-        let _count = self.table.len();
-    }
-
-    /// How many objects there are.
+    /// How many objects there are. Its contract says too what holds of every heap: it is well formed.
     pub fn object_count(&self) -> usize
-        ensures { result ≡ length self.now.heap.objects }
+        ensures count { result ≡ length self.now.heap.objects }
+        ensures well_formed { IsWellFormed self.now }
     {
         self.table.len()
     }
@@ -98,7 +91,7 @@ impl<A: Allocator + Copy> Objects<A> {
         ensures { result ≡ has self.now.heap.holds no }
     {
         // Gives the proof that the numbers rise.
-        let _count = self.table.len();
+        known(&self.table);
         self.table.is_held(no)
     }
 
@@ -131,7 +124,7 @@ impl<A: Allocator + Copy> Objects<A> {
         ensures word { IfSome result (IsWordIn self.now no field) }
     {
         // Gives the proof that the numbers rise.
-        let _count = self.table.len();
+        known(&self.table);
         self.table.word_at(no, field as usize)
     }
 
@@ -144,7 +137,7 @@ impl<A: Allocator + Copy> Objects<A> {
         ensures word { IfSome result (IsWordOfReferent self.now no) }
     {
         // Gives the proof that the numbers rise.
-        let _count = self.table.len();
+        known(&self.table);
         self.table.word_of_referent(no)
     }
 
@@ -224,7 +217,7 @@ impl<A: Allocator + Copy> Objects<A> {
         ensures { result ≡ least_from self.now.heap.holds (no + 1) }
     {
         // Gives the proof that no number is above the last.
-        let _count = self.table.len();
+        known(&self.table);
         match no.0.checked_add(1) {
             Some(next) => self.held_from(ObjNo(next)),
             None => None,

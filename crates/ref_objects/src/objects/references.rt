@@ -11,7 +11,7 @@ ghost use Rattle.ref_objects.specs.Grounds.{renewed, is_spared, ground_brought};
 ghost use Rattle.ref_objects.specs.Grounds.{IsSparedIfAny};
 ghost use Rattle.ref_objects.specs.GroundViews.{with_slot_at, written};
 
-use super::Objects;
+use super::{Objects, known};
 use ref_base::{Fault, MutNo, ObjNo, SlotNo, Strength};
 use ref_space::{Change, Reference};
 use std::alloc::Allocator;
@@ -28,8 +28,6 @@ impl<A: Allocator + Copy> Objects<A> {
         ensures spared { IfOk result
             (λ read. (is_spared self.now read.0 ≡ true) × IsSparedIfAny self.now (referent_of (Some read.1))) }
     {
-        // Gives the proof that what it refers to is spared.
-        self.facts();
         let place = self.place(mutator, slot)?;
         let no = self.table.slot(place).ok_or(Fault::EmptySlot)?;
         let reference = self.table.reference_in(place).ok_or(Fault::NotAReference)?;
@@ -151,7 +149,7 @@ impl<A: Allocator + Copy> Objects<A> {
             (reference_of self.now.heap (slice_index_or self.now.heap.slots place None)) }
     {
         // Gives the proof that the numbers rise.
-        let _count = self.table.len();
+        known(&self.table);
         self.table.refers_to_unmarked_in(place)
     }
 

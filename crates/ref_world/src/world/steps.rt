@@ -87,7 +87,7 @@ impl<A: Allocator + Copy> World<A> {
         self.hands.check_empty(Actor::Mutator(mutator))?;
         let asked = HeapStep::Unhook { mutator, reference };
         let actor = Actor::Mutator(mutator);
-        receive(&mut self.heap, &mut self.hands, actor, asked)
+        Ok(receive(&mut self.heap, &mut self.hands, actor, asked))
     }
 
     // Takes the notice of the next reference that the worker cleared into its hand.
@@ -98,7 +98,7 @@ impl<A: Allocator + Copy> World<A> {
         self.hands.check_empty(Actor::Worker(worker))?;
         let asked = HeapStep::Hand { worker };
         let actor = Actor::Worker(worker);
-        receive(&mut self.heap, &mut self.hands, actor, asked)
+        Ok(receive(&mut self.heap, &mut self.hands, actor, asked))
     }
 
     // Takes the notices of the next references that the worker cleared into its hand, so many at most.
@@ -108,7 +108,7 @@ impl<A: Allocator + Copy> World<A> {
         ensures inside { DoesInside self.old (Step.Hands worker max) (answered result) self.new }
     {
         self.hands.check_fits(Actor::Worker(worker), max)?;
-        self.hands.hand_on(&mut self.heap, worker, max)
+        Ok(self.hands.hand_on(&mut self.heap, worker, max))
     }
 
     // The slot then holds what the hand's first notice reports.
@@ -123,7 +123,7 @@ impl<A: Allocator + Copy> World<A> {
             slot,
             hold,
         };
-        told(apply_heap(&mut self.heap, asked))
+        Ok(told(apply_heap(&mut self.heap, asked)))
     }
 
     // Gives the hand's first notice up.
@@ -133,7 +133,7 @@ impl<A: Allocator + Copy> World<A> {
     {
         let hold = self.hands.take(actor)?.into_hold();
         let asked = HeapStep::Release { hold };
-        told(apply_heap(&mut self.heap, asked))
+        Ok(told(apply_heap(&mut self.heap, asked)))
     }
 
     // That there is such a mutator, and it has such a slot: NoSuchActor.
@@ -155,19 +155,19 @@ fn receive<A: Allocator + Copy>(
     hands: &mut Hands<A>,
     actor: Actor,
     asked: HeapCall<A>,
-) -> Result<Reply, Fault>
+) -> Reply
     requires own { heap_no_of heap.old ≡ 0 }
     requires gives { may_give_notice asked ≡ true }
     requires empty { filling_refusal hands.old actor ≡ None }
-    ensures does { HeapDoes heap.old asked (answered result) heap.new }
-    ensures hands { hands.new ≡ received hands.old actor (told_notices (answered result)) }
+    ensures does { HeapDoes heap.old asked result heap.new }
+    ensures hands { hands.new ≡ received hands.old actor (told_notices result) }
 {
     match apply_heap(heap, asked) {
         HeapReply::Notice(notice) => {
             let notice = WorldNotice::new(notice);
             let reply = notice.reply();
             hands.fill(actor, notice);
-            Ok(reply)
+            reply
         }
         reply => told(reply),
     }

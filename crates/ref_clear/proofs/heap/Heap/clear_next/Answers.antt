@@ -38,8 +38,8 @@ invariant_of-self-then-is_some g c =
     (sym c.in-Some.is ∙ c.in_ok-look.ensures.answer) c.if-not-is_cleared.false
     (rw c.worker.view_is at c.index.ensures) c.in-Some-reference.is
     (ap (λ (r : Reference). is_some r.queue) (sym c.reference.view_is) ∙ sym c.is_some.ensures ∙ c.if-is_some.true)
-    c.objects.ensures c.facts.ensures c.facts-2.ensures c.in_ok-look.ensures.after c.list_last.ensures.links
-    c.list_last.ensures.chain)
+    c.objects.ensures c.known.ensures c.in_ok-look.ensures.numbered c.in_ok-look.ensures.after
+    c.list_last.ensures.links c.list_last.ensures.chain)
 
 pub invariant_of-self-else-is_some : goal.invariant_of-self-else-is_some
 invariant_of-self-else-is_some g c =
@@ -59,8 +59,8 @@ returns g c =
           let after =
           seen_pended c.args.worker c.in_ok-look.ensures.refused c.self.invariant told c.if-not-is_cleared.false
           (rw c.worker.view_is at w.index.ensures) c.in-Some-reference.is (queue ∙ w.if-is_some.true)
-          c.objects.ensures c.facts.ensures c.facts-2.ensures c.in_ok-look.ensures.after w.list_last.ensures.links
-          w.list_last.ensures.chain in
+          c.objects.ensures c.known.ensures c.in_ok-look.ensures.numbered c.in_ok-look.ensures.after
+          w.list_last.ensures.links w.list_last.ensures.chain in
           rw (w.self-is, ← c.self.view_is, c.worker.view_is) (record { answer = answer; after = after })
       | else-is_some w ↦
           let after =

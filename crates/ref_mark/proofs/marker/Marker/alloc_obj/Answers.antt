@@ -6,7 +6,7 @@ pub invariant_of-self-2 : goal.invariant_of-self-2
 invariant_of-self-2 g c = record {
   lists =
       sound_made c.args.mutator c.args.into (plain_object c.self.inside.objects.next (nulls c.args.fields)) refl
-      c.in_ok-no.ensures.after c.self.invariant.lists c.facts-2.ensures;
+      c.in_ok-no.ensures.after c.self.invariant.lists c.known-2.ensures;
   moves = rw c.in_ok-no.ensures.after c.self.invariant.moves;
 }
 
@@ -15,5 +15,5 @@ returns g c =
     let young =
     young_made c.args.mutator c.args.into (plain_object c.self.inside.objects.next (nulls c.args.fields)) refl
     c.in_ok-no.ensures.after c.self.invariant.lists c.self.inside.policy c.self.inside.cycle
-    (unmarked_next c.self.inside.objects c.facts.ensures) in
+    (unmarked_next c.self.inside.objects c.known.ensures) in
     grind arith

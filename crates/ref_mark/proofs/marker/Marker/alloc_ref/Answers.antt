@@ -10,7 +10,7 @@ invariant_of-self-2 g c =
     record {
       lists =
           sound_made c.args.mutator c.args.into o refl c.in_ok-no.ensures.after c.self.invariant.lists
-          c.facts-2.ensures;
+          c.known-2.ensures;
       moves = rw c.in_ok-no.ensures.after c.self.invariant.moves;
     }
 
@@ -21,5 +21,5 @@ returns g c =
     (slot_at c.self.inside.objects.heap c.args.mutator c.args.from) c.args.queue c.args.fields in
     let young =
     young_made c.args.mutator c.args.into o refl c.in_ok-no.ensures.after c.self.invariant.lists c.self.inside.policy
-    c.self.inside.cycle (unmarked_next c.self.inside.objects c.facts.ensures) in
+    c.self.inside.cycle (unmarked_next c.self.inside.objects c.known.ensures) in
     grind arith

@@ -8,7 +8,7 @@ pub invariant_of-self : goal.invariant_of-self
 invariant_of-self g c =
     let value = slot_at c.self.inside.objects.heap c.args.mutator c.args.slot in
     record {
-      lists = sound_marked value c.in-Ok-Some.ensures.after c.self.invariant.lists c.facts.ensures;
+      lists = sound_marked value c.in-Ok-Some.ensures.after c.self.invariant.lists c.known.ensures;
       moves = settled_same c.self.inside.objects.space _ _ _
           (space_marked c.self.inside.objects _ value c.in-Ok-Some.ensures.after) c.self.invariant.moves;
     }

@@ -15,7 +15,7 @@ invariant_of-self g c =
     record {
       lists =
           sound_found c.worker.inside.0 c.args.no asks.worker c.index.ensures
-          (tagged_if_there _ c.args.no c.facts.ensures (referring_is_there (is_white k) k.heap c.args.no white))
+          (tagged_if_there _ c.args.no c.known.ensures (referring_is_there (is_white k) k.heap c.args.no white))
           asks.going asks.marked asks.black asks.new c.push_near.ensures.links c.push_near.ensures.chain
           c.self.invariant.lists;
       moves = rw c.push_near.ensures.links c.self.invariant.moves;
@@ -32,6 +32,6 @@ returns g c =
     c.requires.white in
     rw (← c.self.view_is, ← c.worker.view_is)
     (seen_found c.worker.inside.0 c.args.no asks.worker c.index.ensures
-    (tagged_if_there _ c.args.no c.facts.ensures (referring_is_there (is_white k) k.heap c.args.no white)) asks.going
+    (tagged_if_there _ c.args.no c.known.ensures (referring_is_there (is_white k) k.heap c.args.no white)) asks.going
     asks.marked asks.black asks.new c.push_near.ensures.links c.push_near.ensures.chain c.self.invariant.lists
     c.self.inside.policy c.self.inside.cycle white)

@@ -17,14 +17,14 @@ scan-finds-requires-clause-tuned g c =
     ∙ (work_passed c.args.self.now Marking c.args.worker c.in_ok-check_work.ensures).1))
 
 pub scan-finds-requires-clause-room : goal.scan-finds-requires-clause-room
-scan-finds-requires-clause-room g c = may_grow c.facts.ensures
+scan-finds-requires-clause-room g c = may_grow c.known.ensures
     (sound_scanned c.take_first.ensures.after c.self.invariant.lists)
 
 pub invariant_of-self-then-finds : goal.invariant_of-self-then-finds
 invariant_of-self-then-finds g c = record {
   lists =
       sound_blackened c.self.inside.policy c.in-Some.entry.no c.scan-finds.ensures.after c.scan-finds.ensures.listed
-      (sound_scanned c.take_first.ensures.after c.self.invariant.lists) c.facts-2.ensures;
+      (sound_scanned c.take_first.ensures.after c.self.invariant.lists) c.known-2.ensures;
   moves = settled_scanned (is_kept c.self.inside.policy) c.self.inside.objects _ c.in-Some.entry.no _ _
       c.scan-finds.ensures.after c.self.invariant.moves;
 }
@@ -33,7 +33,7 @@ pub invariant_of-self-else-finds : goal.invariant_of-self-else-finds
 invariant_of-self-else-finds g c = record {
   lists =
       sound_blackened c.self.inside.policy c.in-Some.entry.no c.scan-finds.ensures.after c.scan-finds.ensures.listed
-      (sound_scanned c.take_first.ensures.after c.self.invariant.lists) c.facts-2.ensures;
+      (sound_scanned c.take_first.ensures.after c.self.invariant.lists) c.known-2.ensures;
   moves = settled_scanned (is_kept c.self.inside.policy) c.self.inside.objects _ c.in-Some.entry.no _ _
       c.scan-finds.ensures.after c.self.invariant.moves;
 }

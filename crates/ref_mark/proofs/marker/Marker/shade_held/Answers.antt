@@ -10,7 +10,7 @@ loop-held-init g c =
     subst (λ (k : CycleHeap). c.held_from-held.result ≡ least_from k.heap.holds 0) c.self.view_is
     c.held_from-held.ensures in
     let order : IsInOrder start.heap.holds =
-    subst (λ (k : CycleHeap). IsInOrder k.heap.holds) c.self.view_is c.facts.ensures.held in (
+    subst (λ (k : CycleHeap). IsInOrder k.heap.holds) c.self.view_is c.known.ensures.held in (
       subst (λ (next : Option ℕ). IsHeldFrom start start next start.heap.holds) (sym first)
           (held_from_first start start.heap.holds),
       refl,

@@ -8,7 +8,7 @@ pub invariant_of-self : goal.invariant_of-self
 invariant_of-self g c =
     let value = slice_index_or c.self.inside.objects.heap.slots c.args.place None in
     record {
-      lists = sound_marked value c.mark_slot_at.ensures.after c.self.invariant.lists c.facts.ensures;
+      lists = sound_marked value c.mark_slot_at.ensures.after c.self.invariant.lists c.known.ensures;
       moves = settled_same c.self.inside.objects.space _ _ _
           (space_marked c.self.inside.objects _ value c.mark_slot_at.ensures.after) c.self.invariant.moves;
     }

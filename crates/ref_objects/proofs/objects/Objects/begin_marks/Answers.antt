@@ -18,9 +18,9 @@ begin-requires-clause-apart g c =
 pub invariant_of-self : goal.invariant_of-self
 invariant_of-self g c =
     rw c.begin.ensures
-    (begun_sound c.self.invariant c.args.good c.requires.cycle c.len-count.ensures.orderly.dated)
+    (begun_sound c.self.invariant c.args.good c.requires.cycle c.known.ensures.orderly.dated)
 
 pub returns : goal.returns
 returns g c =
     rw (c.begin.ensures, ← c.self.view_is)
-    (seen_begun c.self.invariant.ground c.args.good c.len-count.ensures.orderly.dated)
+    (seen_begun c.self.invariant.ground c.args.good c.known.ensures.orderly.dated)

@@ -16,12 +16,12 @@ pub invariant_of-self : goal.invariant_of-self
 invariant_of-self g c =
     grind (
       arith,
-      condemned_sound c.self.invariant c.len-count.ensures.orderly.rising
+      condemned_sound c.self.invariant c.known.ensures.orderly.rising
           (ap (λ (g : Ground). g.space.stage) c.self.view_is ∙ c.requires.tuned) c.self.view_is c.requires.closed,
     )
 
 pub returns-clause-after : goal.returns-clause-after
-returns-clause-after g c = grind (arith, seen_condemned c.self.invariant.ground c.len-count.ensures.orderly.rising)
+returns-clause-after g c = grind (arith, seen_condemned c.self.invariant.ground c.known.ensures.orderly.rising)
 
 pub returns-clause-list : goal.returns-clause-list
 returns-clause-list g c = grind (arith, unmarked-tabled)

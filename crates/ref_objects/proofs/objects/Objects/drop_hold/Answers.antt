@@ -10,7 +10,7 @@ overflow_sub-self g c = grind (arith, holds_in-le)
 
 pub invariant_of-self : goal.invariant_of-self
 invariant_of-self g c =
-    grind (arith, unheld_sound c.self.invariant c.len-count.ensures.orderly.rising c.args.no)
+    grind (arith, unheld_sound c.self.invariant c.known.ensures.orderly.rising c.args.no)
 
 pub invariant_of-self-else-was_held : goal.invariant_of-self-else-was_held
 invariant_of-self-else-was_held g c = grind (arith, changed-unheld)
@@ -20,7 +20,7 @@ returns-then-was_held-clause-held g c = grind (arith, has-holds_of)
 
 pub returns-then-was_held-clause-after : goal.returns-then-was_held-clause-after
 returns-then-was_held-clause-after g c =
-    grind (arith, has-holds_of, seen_dropped c.self.invariant.ground c.args.no c.len-count.ensures.orderly.rising)
+    grind (arith, has-holds_of, seen_dropped c.self.invariant.ground c.args.no c.known.ensures.orderly.rising)
 
 pub returns-else-was_held-clause-held : goal.returns-else-was_held-clause-held
 returns-else-was_held-clause-held g c = grind (arith, has-holds_of)
@@ -30,4 +30,4 @@ returns-else-was_held-clause-after g c = grind (arith, has-holds_of, changed-unh
 
 pub returns-then-was_held-clause-spared : goal.returns-then-was_held-clause-spared
 returns-then-was_held-clause-spared g c =
-    grind (arith, unheld_spared c.self.invariant c.len-count.ensures.orderly.rising c.args.no)
+    grind (arith, unheld_spared c.self.invariant c.known.ensures.orderly.rising c.args.no)

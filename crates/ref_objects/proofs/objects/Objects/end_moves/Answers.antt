@@ -18,12 +18,12 @@ invariant_of-self g c =
     let tuned_now = ap (λ (g : Ground). g.space.stage) c.self.view_is ∙ c.requires.tuned in
     rw c.renumber.ensures
     (ended_choice_sound c.self.invariant tuned_now
-    (c.len-count.ensures.settled (settled_tuned c.self.invariant tuned_now)))
+    (c.known.ensures.settled (settled_tuned c.self.invariant tuned_now)))
 
 pub returns : goal.returns
 returns g c =
     let tuned_now = ap (λ (g : Ground). g.space.stage) c.self.view_is ∙ c.requires.tuned in
     rw c.renumber.ensures
     (ended_seen c.self.invariant tuned_now
-    (c.len-count.ensures.settled (settled_tuned c.self.invariant tuned_now))
+    (c.known.ensures.settled (settled_tuned c.self.invariant tuned_now))
     ∙ ap (λ (g : Ground). record g { space = with_choice_ended g.space }) c.self.view_is)

@@ -12,13 +12,13 @@ free-requires-clause-tuned g c =
     ∙ ap is_tuned (c.self.invariant.moves.condemns c.if-self.true)
 
 pub free-requires-clause-unnamed : goal.free-requires-clause-unnamed
-free-requires-clause-unnamed g c = condemned_unnamed c.self.invariant c.len-count.ensures.orderly.rising c.if-self.true
+free-requires-clause-unnamed g c = condemned_unnamed c.self.invariant c.known.ensures.orderly.rising c.if-self.true
     c.args.entry.no
 
 pub invariant_of-self : goal.invariant_of-self
 invariant_of-self g c =
     rw c.free.ensures.after
-    (freed_sound c.self.invariant c.len-count.ensures.orderly.rising c.args.entry.no c.if-self.true
+    (freed_sound c.self.invariant c.known.ensures.orderly.rising c.args.entry.no c.if-self.true
     (ap left_of (sym c.free.ensures.after) ∙ c.free.ensures.left))
 
 pub returns-then-self-clause-answer : goal.returns-then-self-clause-answer
@@ -27,5 +27,5 @@ returns-then-self-clause-answer g c = grind (arith, is_unmarked-tabled)
 pub returns-then-self-clause-after : goal.returns-then-self-clause-after
 returns-then-self-clause-after g c =
     rw (c.free.ensures.after, ← c.self.view_is)
-    (freed_seen c.self.invariant c.len-count.ensures.orderly.rising c.args.entry.no c.if-self.true
+    (freed_seen c.self.invariant c.known.ensures.orderly.rising c.args.entry.no c.if-self.true
     (ap left_of (sym c.free.ensures.after) ∙ c.free.ensures.left))

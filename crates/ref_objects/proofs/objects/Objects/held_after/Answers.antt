@@ -7,5 +7,5 @@ returns-in-None g c =
     grind (
       arith,
       least_from-past c.self.inside.table.tabled c.self.inside.table.last (c.args.no + 1)
-          c.len-count.ensures.orderly.given,
+          c.known.ensures.orderly.given,
     )

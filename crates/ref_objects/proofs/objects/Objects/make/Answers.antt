@@ -13,8 +13,8 @@ invariant_of-self g c =
     rw c.push.ensures.after
     (new_sound (read_sound c.self.invariant None) c.args.place c.args.fields c.args.reference
     (omega (arith, c.if-self-from.false, c.from.ensures))
-    (ap left_of (sym c.push.ensures.after) ∙ c.push.ensures.left) c.len-count.ensures.orderly.given
-    c.len-count.ensures.orderly.begun)
+    (ap left_of (sym c.push.ensures.after) ∙ c.push.ensures.left) c.known.ensures.orderly.given
+    c.known.ensures.orderly.begun)
 
 pub returns-clause-refused : goal.returns-clause-refused
 returns-clause-refused g c =
@@ -25,5 +25,5 @@ returns-clause-after g c =
     rw (c.push.ensures.after, ← c.self.view_is)
     (seen_made (read_sound c.self.invariant None).ground c.args.place c.args.fields
     (option_map (made_of c.self.inside.table.slots) c.args.reference)
-    (ap left_of (sym c.push.ensures.after) ∙ c.push.ensures.left) c.len-count.ensures.orderly.given
-    c.len-count.ensures.orderly.begun)
+    (ap left_of (sym c.push.ensures.after) ∙ c.push.ensures.left) c.known.ensures.orderly.given
+    c.known.ensures.orderly.begun)

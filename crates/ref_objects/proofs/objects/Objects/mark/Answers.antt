@@ -6,11 +6,11 @@ use Rattle.ref_objects.proofs.objects.Objects.mark.Goals as goal
 
 pub invariant_of-self : goal.invariant_of-self
 invariant_of-self g c =
-    rw c.mark.ensures.after (marked_sound c.self.invariant c.len-count.ensures.orderly.rising c.args.no)
+    rw c.mark.ensures.after (marked_sound c.self.invariant c.known.ensures.orderly.rising c.args.no)
 
 pub returns-clause-answer : goal.returns-clause-answer
 returns-clause-answer g c = grind (arith, is_unmarked-tabled)
 
 pub returns-clause-after : goal.returns-clause-after
 returns-clause-after g c =
-    grind (arith, seen_marked c.self.invariant.ground c.len-count.ensures.orderly.rising c.args.no)
+    grind (arith, seen_marked c.self.invariant.ground c.known.ensures.orderly.rising c.args.no)

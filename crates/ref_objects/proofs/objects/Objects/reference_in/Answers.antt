@@ -19,6 +19,6 @@ returns-clause-spared g c =
     let reads : reference_at c.args.self.now.heap c.in_ok-no.no ≡ Some c.in_ok-reference.reference =
     grind (arith, reference-held c.self.invariant) in (
       slot_spared c.self.invariant c.self.view_is c.in_ok-place.place held,
-      spared_referent c.args.self.now c.facts.ensures.closed c.in_ok-no.no c.in_ok-reference.reference.referent
-          (ap referent_of reads),
+      spared_referent c.args.self.now (rw (← c.self.view_is) c.self.invariant.closed) c.in_ok-no.no
+          c.in_ok-reference.reference.referent (ap referent_of reads),
     )

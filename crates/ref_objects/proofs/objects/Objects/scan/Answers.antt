@@ -24,13 +24,13 @@ scan-requires-clause-room g c =
 pub invariant_of-self : goal.invariant_of-self
 invariant_of-self g c =
     rw c.scan.ensures.after
-    (scanned_sound (is_kept c.args.policy) c.self.invariant c.len-count.ensures.orderly.rising c.args.entry.no)
+    (scanned_sound (is_kept c.args.policy) c.self.invariant c.known.ensures.orderly.rising c.args.entry.no)
 
 pub returns-clause-finds : goal.returns-clause-finds
 returns-clause-finds g c =
     rw (← c.self.view_is)
     (c.scan.ensures.finds
-    ∙ refers_seen (is_kept c.args.policy) c.self.invariant c.len-count.ensures.orderly.rising c.args.entry.no
+    ∙ refers_seen (is_kept c.args.policy) c.self.invariant c.known.ensures.orderly.rising c.args.entry.no
     c.scan.new.self c.scan.ensures.after (tabled_reference (tabled_at c.self.inside.table.tabled c.args.entry.no))
     ∙ ap (refers_into _) (reference-tabled c.self.inside.table.tabled c.args.entry.no))
 
@@ -38,9 +38,9 @@ pub returns-clause-listed : goal.returns-clause-listed
 returns-clause-listed g c =
     rw (c.scan.ensures.listed, ← c.self.view_is)
     (ap (with_more c.args.grey.now)
-    (listed_seen (is_kept c.args.policy) c.self.invariant c.len-count.ensures.orderly.rising c.args.entry.no))
+    (listed_seen (is_kept c.args.policy) c.self.invariant c.known.ensures.orderly.rising c.args.entry.no))
 
 pub returns-clause-after : goal.returns-clause-after
 returns-clause-after g c =
     rw (c.scan.ensures.after, ← c.self.view_is)
-    (scanned_seen (is_kept c.args.policy) c.self.invariant c.len-count.ensures.orderly.rising c.args.entry.no)
+    (scanned_seen (is_kept c.args.policy) c.self.invariant c.known.ensures.orderly.rising c.args.entry.no)

@@ -15,7 +15,7 @@ pub returns-then-eq-clause-answer : goal.returns-then-eq-clause-answer
 returns-then-eq-clause-answer g c =
     let fresh : c.self.inside.stage ≡ Fresh = grind arith in
     let few = subst (λ (h : Ground). sparse_count h.space.ways.pages.uses < 2) c.self.view_is
-    (one_sparse c.self.inside.table.ways.pages.uses c.len-count.ensures.free.whole
+    (one_sparse c.self.inside.table.ways.pages.uses c.known.ensures.free.whole
     (c.self.invariant.moves.filled fresh)) in
     sym (few_choice c.args.self.now.space few)
 
@@ -23,7 +23,7 @@ pub returns-then-eq-clause-after : goal.returns-then-eq-clause-after
 returns-then-eq-clause-after g c =
     let fresh : c.self.inside.stage ≡ Fresh = grind arith in
     let few = subst (λ (h : Ground). sparse_count h.space.ways.pages.uses < 2) c.self.view_is
-    (one_sparse c.self.inside.table.ways.pages.uses c.len-count.ensures.free.whole
+    (one_sparse c.self.inside.table.ways.pages.uses c.known.ensures.free.whole
     (c.self.invariant.moves.filled fresh)) in
     ap (λ r. record c.args.self.now { space = with_choice_if c.args.self.now.space r })
     (sym (few_choice c.args.self.now.space few))

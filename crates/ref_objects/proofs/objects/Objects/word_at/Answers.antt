@@ -13,6 +13,6 @@ returns-clause-word g c =
     rw (← c.self.view_is)
     (word_seen (stored_fields c.self.inside.config c.self.inside.heap_no c.self.inside.table c.self.inside.holds
     c.self.inside.clock c.self.inside.next c.self.inside.condemning c.self.inside.last c.self.inside.stage
-    c.self.inside.has_choice) c.len-count.ensures.orderly.rising c.args.no
+    c.self.inside.has_choice) c.known.ensures.orderly.rising c.args.no
     c.args.field c.word_at.result
     c.word_at.ensures.there c.word_at.ensures.word)

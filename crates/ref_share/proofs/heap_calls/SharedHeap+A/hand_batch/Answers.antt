@@ -11,5 +11,5 @@ returns-in-Ok-Handed-clause-gives g c =
     let acted = c.in-Ok-Handed.ensures.acted in
     let step = heap.Hands c.args.worker c.args.max c.args.batch in
     gives_batch v w acted.0 acted.1 c.args.worker c.args.max c.args.batch c.in-Ok-Handed.batch c.in-Ok-Handed.reply
-    c.handed_on.result (subst (λ reply. Acts acted.0 step reply acted.1) is acted.2) c.handed_on.ensures
+    c.answer.result (subst (λ reply. Acts acted.0 step reply acted.1) is acted.2) c.answer.ensures
     (subst (λ reply. Called v step reply w) is c.in-Ok-Handed.ensures.ok)

@@ -10,4 +10,4 @@ pub returns-clause-hand : goal.returns-clause-hand
 returns-clause-hand g c =
     c.fill_from.ensures.filled
     ∙ given_notices _ _ _ _ c.self.invariant c.requires.own c.hand_batch-answer.ensures.given
-    ∙ ap told_notices (sym c.told.ensures)
+    ∙ ap told_notices (sym c.handed_on.ensures)

@@ -1,4 +1,4 @@
-use Rattle.ref_world.proofs.Common.{arith, ◌≡◌, None, sym, subst, drop_refusal, Core, heap_no_of, model_heap}
+use Rattle.ref_world.proofs.Common.{arith, ◌≡◌, None, sym, subst, drop_refusal, Core, heap_no_of, model_heap, Ok}
 use Rattle.ref_world.proofs.HandRows.{adopt_reply, adopted_told}
 use Rattle.ref_world.proofs.Refusals.{empty_at_adopt}
 use Rattle.ref_world.proofs.HandSteps.{adopt_does}
@@ -28,13 +28,13 @@ invariant_of-self g c = rw c.in_err-take.ensures.kept c.self.invariant
 
 pub invariant_of-self-2 : goal.invariant_of-self-2
 invariant_of-self-2 g c =
-    (adopt_does c.self.invariant c.self.view_is c.told.result c.args.mutator c.args.slot c.in_ok-take.field-0 _
+    (adopt_does c.self.invariant c.self.view_is (Ok c.told.result) c.args.mutator c.args.slot c.in_ok-take.field-0 _
     c.into_hold-hold.result c.in_ok-check_slot.ensures c.in_ok-take.ensures.refused c.in_ok-take.ensures.answer
     c.into_hold-hold.ensures c.told.ensures c.apply_heap.ensures.does c.in_ok-take.ensures.taken).1
 
 pub returns-clause-row : goal.returns-clause-row
 returns-clause-row g c =
-    (adopt_does c.self.invariant c.self.view_is c.told.result c.args.mutator c.args.slot c.in_ok-take.field-0 _
+    (adopt_does c.self.invariant c.self.view_is (Ok c.told.result) c.args.mutator c.args.slot c.in_ok-take.field-0 _
     c.into_hold-hold.result c.in_ok-check_slot.ensures c.in_ok-take.ensures.refused c.in_ok-take.ensures.answer
     c.into_hold-hold.ensures c.told.ensures c.apply_heap.ensures.does c.in_ok-take.ensures.taken).0
 

@@ -1,4 +1,4 @@
-use Rattle.ref_world.proofs.Common.{arith, Worker}
+use Rattle.ref_world.proofs.Common.{arith, Worker, Ok}
 use Rattle.ref_world.proofs.HandRows.{hand_row}
 use Rattle.ref_world.proofs.HandSteps.{filled_does}
 use Rattle.ref_world.proofs.Refusals.{full_at_hand}
@@ -12,13 +12,13 @@ returns-in_err-check_empty-clause-row g c = grind (arith, full_at_hand)
 
 pub invariant_of-self : goal.invariant_of-self
 invariant_of-self g c =
-    (filled_does c.self.invariant c.self.view_is c.receive.result (Worker c.args.worker) (steps.Hand c.args.worker)
+    (filled_does c.self.invariant c.self.view_is (Ok c.receive.result) (Worker c.args.worker) (steps.Hand c.args.worker)
     (heap.Hand c.args.worker) c.in_ok-check_empty.ensures (hand_row _ c.args.worker) c.receive.ensures.hands
     c.receive.ensures.does).1
 
 pub returns-clause-row : goal.returns-clause-row
 returns-clause-row g c =
-    (filled_does c.self.invariant c.self.view_is c.receive.result (Worker c.args.worker) (steps.Hand c.args.worker)
+    (filled_does c.self.invariant c.self.view_is (Ok c.receive.result) (Worker c.args.worker) (steps.Hand c.args.worker)
     (heap.Hand c.args.worker) c.in_ok-check_empty.ensures (hand_row _ c.args.worker) c.receive.ensures.hands
     c.receive.ensures.does).0
 

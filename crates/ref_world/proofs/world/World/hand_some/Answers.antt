@@ -1,4 +1,4 @@
-use Rattle.ref_world.proofs.Common.{arith, [], Worker, Core}
+use Rattle.ref_world.proofs.Common.{arith, [], Worker, Core, Ok}
 use Rattle.ref_world.proofs.HandRows.{hands_row, free_for_some}
 use Rattle.ref_world.proofs.HandSteps.{filled_does}
 use Rattle.ref_world.proofs.Refusals.{full_at_hands}
@@ -14,7 +14,7 @@ pub invariant_of-self : goal.invariant_of-self
 invariant_of-self g c =
     let old : Core =
     record { heap = c.self.inside.heap; hands = c.self.inside.hands; queues = c.self.inside.queues.items } in
-    (filled_does c.self.invariant c.self.view_is c.hand_on.result (Worker c.args.worker)
+    (filled_does c.self.invariant c.self.view_is (Ok c.hand_on.result) (Worker c.args.worker)
     (steps.Hands c.args.worker c.args.max) (heap.Hands c.args.worker c.args.max [])
     (free_for_some old.hands (Worker c.args.worker) c.args.max c.in_ok-check_fits.ensures).0
     (hands_row old c.args.worker c.args.max) c.hand_on.ensures.hands c.hand_on.ensures.does).1
@@ -23,7 +23,7 @@ pub returns-clause-row : goal.returns-clause-row
 returns-clause-row g c =
     let old : Core =
     record { heap = c.self.inside.heap; hands = c.self.inside.hands; queues = c.self.inside.queues.items } in
-    (filled_does c.self.invariant c.self.view_is c.hand_on.result (Worker c.args.worker)
+    (filled_does c.self.invariant c.self.view_is (Ok c.hand_on.result) (Worker c.args.worker)
     (steps.Hands c.args.worker c.args.max) (heap.Hands c.args.worker c.args.max [])
     (free_for_some old.hands (Worker c.args.worker) c.args.max c.in_ok-check_fits.ensures).0
     (hands_row old c.args.worker c.args.max) c.hand_on.ensures.hands c.hand_on.ensures.does).0

@@ -1,4 +1,4 @@
-use Rattle.ref_world.proofs.Common.{arith, Mutator}
+use Rattle.ref_world.proofs.Common.{arith, Mutator, Ok}
 use Rattle.ref_world.proofs.HandRows.{unhook_row}
 use Rattle.ref_world.proofs.HandSteps.{filled_does}
 use Rattle.ref_world.proofs.Refusals.{full_at_unhook}
@@ -12,14 +12,14 @@ returns-in_err-check_empty-clause-row g c = grind (arith, full_at_unhook)
 
 pub invariant_of-self : goal.invariant_of-self
 invariant_of-self g c =
-    (filled_does c.self.invariant c.self.view_is c.receive.result (Mutator c.args.mutator)
+    (filled_does c.self.invariant c.self.view_is (Ok c.receive.result) (Mutator c.args.mutator)
     (steps.Unhook c.args.mutator c.args.reference) (heap.Unhook c.args.mutator c.args.reference)
     c.in_ok-check_empty.ensures (unhook_row _ c.args.mutator c.args.reference) c.receive.ensures.hands
     c.receive.ensures.does).1
 
 pub returns-clause-row : goal.returns-clause-row
 returns-clause-row g c =
-    (filled_does c.self.invariant c.self.view_is c.receive.result (Mutator c.args.mutator)
+    (filled_does c.self.invariant c.self.view_is (Ok c.receive.result) (Mutator c.args.mutator)
     (steps.Unhook c.args.mutator c.args.reference) (heap.Unhook c.args.mutator c.args.reference)
     c.in_ok-check_empty.ensures (unhook_row _ c.args.mutator c.args.reference) c.receive.ensures.hands
     c.receive.ensures.does).0
