@@ -62,7 +62,7 @@ pub use Rattle.refrun.specs.Traces.{TellsRun, trace_text}
 pub use Rattle.ref_text.specs.declared.fault.LineFault.{LineFault}
 pub use Rattle.ref_text.specs.declared.fault.LineFault.TheVariants.{BadWord, DoubleObject, ExtraWord, MissingWord}
 pub use Rattle.ref_text.specs.declared.fault.TextFault.{TextFault}
-pub use Rattle.refrun.specs.declared.roles.Shared.{Shared}
+pub use Rattle.refrun.specs.declared.station.Shared.{Shared}
 pub use Rattle.refrun.specs.declared.script_step.ScriptReply.{ScriptReply}
 pub use Rattle.refrun.specs.declared.script_step.ScriptRow.{ScriptRow}
 pub use Rattle.refrun.specs.declared.script_step.ScriptStep.{ScriptStep}

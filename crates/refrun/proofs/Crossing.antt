@@ -1,10 +1,9 @@
--- What the threads of a stress run share, are given, and leave, may cross: a search at a closure need not look into it.
+-- What the threads of a stress run share, and what each leaves, may cross: a search at a closure need not look into it.
 use denote.Param.Send.{IsSend, IsSync, sendable}
 use Rattle.std.proofs.Crossing.{crosses}
 use Rattle.ref_share.proofs.Crossing.{shared}
-use Rattle.refrun.specs.contracts.roles.Shared.{the_row as shared_row}
+use Rattle.refrun.specs.contracts.station.Shared.{the_row as shared_row}
 use Rattle.refrun.specs.contracts.tally.Tally.{the_row as tally_row}
-use Rattle.refrun.specs.contracts.threads.Job.{the_row as job_row}
 use Rattle.refrun.specs.contracts.threads.Left.{the_row as left_row}
 
 pub shared_sync : IsSync shared_row
@@ -12,9 +11,6 @@ shared_sync = search (shared, crosses, sendable) depth 60 fits 20000
 
 pub tally_sync : IsSync tally_row
 tally_sync = search (crosses, sendable) depth 60 fits 20000
-
-pub job_send : IsSend job_row
-job_send = search (shared, crosses, sendable) depth 60 fits 20000
 
 pub left_send : IsSend left_row
 left_send = search (shared, crosses, sendable) depth 60 fits 20000

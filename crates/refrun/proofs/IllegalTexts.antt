@@ -157,11 +157,11 @@ an_object_is_listed_by_its_number printed prints = grind (arith, a_lone_object)
 
 -- promise: check_lists: what was taken in another order does not pass
 -- a poller that took 3 before 2 doesn't pass where 2 was put in before 3
-another_order_does_not_pass : ¬ (IsFirstFailure (2 ∷ 3 ∷ []) (2 ∷ 3 ∷ []) [] ((3 ∷ 2 ∷ []) ∷ []) [] None)
+another_order_does_not_pass : ¬ (IsFirstFailure (2 ∷ 3 ∷ []) (2 ∷ 3 ∷ []) [] ((3 ∷ 2 ∷ []) ∷ []) [] [] None)
 another_order_does_not_pass passes = let in_order = passes.1 0 [] (omega arith) in absurd cc
 
 -- promise: check_lists: a kept reference that was not put in does not pass
 -- no report of 5, which the second mutator kept
 a_missing_report_does_not_pass : ¬ (IsFirstFailure (2 ∷ 3 ∷ []) (2 ∷ 3 ∷ []) [] ((2 ∷ 3 ∷ []) ∷ [])
-    ((2 ∷ []) ∷ (5 ∷ []) ∷ []) None)
+    ((2 ∷ []) ∷ (5 ∷ []) ∷ []) [] None)
 a_missing_report_does_not_pass passes = let reported = passes.4 5 refl in absurd cc

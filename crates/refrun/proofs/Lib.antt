@@ -26,3 +26,4 @@ pub mod Reports
 pub mod SeatLists
 pub mod Crossing
 mod ScriptExamples
+mod JobExamples

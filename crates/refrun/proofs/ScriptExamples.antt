@@ -10,7 +10,7 @@ use Rattle.ref_base.specs.declared.plain_step.PlainStep.TheVariants.{Clear}
 use Rattle.refrun.specs.ScriptRuns.{RunsJob}
 use Rattle.refrun.specs.declared.lists.Check.TheVariants.{Order, Rest, Reports}
 use Rattle.refrun.specs.declared.evidence.Evidence.TheVariants.{NoReport}
-use Rattle.refrun.specs.StressChecks.{PutInAll}
+use Rattle.refrun.specs.StressChecks.{PutInAll, RanWell}
 use Rattle.refrun.specs.StressEvidence.{ShowsReports}
 use Rattle.refrun.proofs.NoEvidence.{contained}
 use Rattle.ref_queue.proofs.TableLemmas.{first_out}
@@ -81,19 +81,22 @@ a_repeat_is_not_distinct distinct = let apart = distinct.0.0 in absurd cc
 lists_are_put_in : PutInAll (2 ∷ 3 ∷ []) lists
 lists_are_put_in n there = there
 
-all_checks_pass : IsFirstFailure (2 ∷ 3 ∷ []) (2 ∷ 3 ∷ []) [] lists lists None
-all_checks_pass = (two_are_distinct, in_order, (two_are_distinct, λ n. refl), (refl, refl), lists_are_put_in)
+no_jobs : RanWell []
+no_jobs k d below = absurd (omega (arith, below))
+
+all_checks_pass : IsFirstFailure (2 ∷ 3 ∷ []) (2 ∷ 3 ∷ []) [] lists lists [] None
+all_checks_pass = (two_are_distinct, in_order, (two_are_distinct, λ n. refl), (refl, refl), lists_are_put_in, no_jobs)
 
 -- one is left over
 one_in_order : TookInOrder (2 ∷ 3 ∷ []) ((2 ∷ []) ∷ [])
 one_in_order zero d below = refl
 one_in_order (suc k) d below = absurd (omega (arith, below))
 
-what_stands_fails : IsFirstFailure (2 ∷ 3 ∷ []) (2 ∷ []) (3 ∷ []) ((2 ∷ []) ∷ []) [] (Some Rest)
+what_stands_fails : IsFirstFailure (2 ∷ 3 ∷ []) (2 ∷ []) (3 ∷ []) ((2 ∷ []) ∷ []) [] [] (Some Rest)
 what_stands_fails = grind (arith, two_are_distinct, one_is_distinct)
 
 -- 2 was put in twice, which is told before all else
-an_order_is_not_told_before_a_repeat : ¬ (IsFirstFailure (2 ∷ 2 ∷ []) (2 ∷ 2 ∷ []) [] lists [] (Some Order))
+an_order_is_not_told_before_a_repeat : ¬ (IsFirstFailure (2 ∷ 2 ∷ []) (2 ∷ 2 ∷ []) [] lists [] [] (Some Order))
 an_order_is_not_told_before_a_repeat fails = a_repeat_is_not_distinct fails.0
 
 -- the second mutator kept 5, which was not put in
@@ -103,7 +106,7 @@ kept = (2 ∷ []) ∷ (5 ∷ []) ∷ []
 not_put_in : ¬ (PutInAll (2 ∷ 3 ∷ []) kept)
 not_put_in all = true≢false (sym (all 5 refl))
 
-a_missing_report_fails : IsFirstFailure (2 ∷ 3 ∷ []) (2 ∷ 3 ∷ []) [] lists kept (Some Reports)
+a_missing_report_fails : IsFirstFailure (2 ∷ 3 ∷ []) (2 ∷ 3 ∷ []) [] lists kept [] (Some Reports)
 a_missing_report_fails = (two_are_distinct, in_order, (two_are_distinct, λ n. refl), (refl, refl), not_put_in)
 
 a_missing_report_is_shown : ShowsReports (λ ns. ns) (2 ∷ 3 ∷ []) kept (NoReport 5)

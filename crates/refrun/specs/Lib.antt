@@ -23,6 +23,7 @@ pub mod Listings
 pub mod StressChecks
 pub mod StressEvidence
 pub mod StressRuns
+pub mod CleaningSeats
 pub mod StressSeats
 pub mod DeclarationViews
 pub mod GraphReading

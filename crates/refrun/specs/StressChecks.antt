@@ -1,11 +1,13 @@
--- What a queue's lists must be once all threads of a stress run have ended: what was put in, what was taken, what
--- stands, what each poller took, and what each mutator kept to the end (this project's own).
-use Rattle.std.specs.Prelude.{◌≡◌, ℕ, true, nat_eq, List, [], codes, Option, None, Some}
+-- What must be so once all threads of a stress run have ended: of what was put into the queue, what was taken, what
+-- stands, what each poller took, what each mutator kept to the end, and what became of each job (this project's own).
+use Rattle.std.specs.Prelude.{◌≡◌, ◌==◌, ◌&&◌, not, if◌then◌else◌, ℕ, Bool, true, nat_eq, List, [], codes, Option, None}
+use Rattle.std.specs.Prelude.{Some}
 use Rattle.std.specs.List.{All, IsDistinct, concat}
 use Rattle.ref_base.specs.Members.{has}
 use Rattle.ref_base.specs.CollectorRows.{is_subsequence}
 use Rattle.refrun.specs.declared.lists.Check.{Check}
-use Rattle.refrun.specs.declared.lists.Check.TheVariants.{Twice, Order, Total, Rest, Reports}
+use Rattle.refrun.specs.declared.lists.Check.TheVariants.{Twice, Order, Total, Rest, Reports, Jobs}
+use Rattle.refrun.specs.declared.outcomes.JobFate.{JobFate}
 
 -- each poller took its numbers in the order in which they were put in
 abbrev pub TookInOrder : List ℕ → List (List ℕ) → Type 0
@@ -19,7 +21,15 @@ GivesEachOnce taken lists = IsDistinct nat_eq (concat lists) × ((n : ℕ) → h
 abbrev pub PutInAll : List ℕ → List (List ℕ) → Type 0
 PutInAll enqueued kept = (n : ℕ) → has (concat kept) n ≡ true → has enqueued n ≡ true
 
-module _ (enqueued taken stands : List ℕ) (lists kept : List (List ℕ)) where
+-- a job ran as it was to: once if it was registered and not taken out, and else never; and not while its object lived
+abbrev pub ran_well : JobFate → Bool
+ran_well f = (f.runs == (if f.is_due then 1 else 0)) && not f.is_early
+
+-- each job ran as it was to
+abbrev pub RanWell : List JobFate → Type 0
+RanWell fates = All (λ f. ran_well f ≡ true) fates
+
+module _ (enqueued taken stands : List ℕ) (lists kept : List (List ℕ)) (fates : List JobFate) where
   -- what each check asks
   abbrev pub Passes : Check → Type 0
   Passes Twice = IsDistinct nat_eq enqueued
@@ -27,6 +37,7 @@ module _ (enqueued taken stands : List ℕ) (lists kept : List (List ℕ)) where
   Passes Total = GivesEachOnce taken lists
   Passes Rest = (stands ≡ []) × (taken ≡ enqueued)
   Passes Reports = PutInAll enqueued kept
+  Passes Jobs = RanWell fates
 
   -- the first check that fails, in this order; none where all hold
   abbrev pub IsFirstFailure : Option Check → Type 0
@@ -35,7 +46,9 @@ module _ (enqueued taken stands : List ℕ) (lists kept : List (List ℕ)) where
   IsFirstFailure (Some Total) = Passes Twice × Passes Order × ¬ Passes Total
   IsFirstFailure (Some Rest) = Passes Twice × Passes Order × Passes Total × ¬ Passes Rest
   IsFirstFailure (Some Reports) = Passes Twice × Passes Order × Passes Total × Passes Rest × ¬ Passes Reports
-  IsFirstFailure None = Passes Twice × Passes Order × Passes Total × Passes Rest × Passes Reports
+  IsFirstFailure (Some Jobs) =
+      Passes Twice × Passes Order × Passes Total × Passes Rest × Passes Reports × ¬ Passes Jobs
+  IsFirstFailure None = Passes Twice × Passes Order × Passes Total × Passes Rest × Passes Reports × Passes Jobs
 
 -- the name of a check, as it is printed
 abbrev pub name_of_check : Check → List ℕ
@@ -44,3 +57,4 @@ name_of_check Order = codes "order"
 name_of_check Total = codes "total"
 name_of_check Rest = codes "rest"
 name_of_check Reports = codes "reports"
+name_of_check Jobs = codes "jobs"

@@ -1,9 +1,13 @@
 -- What shows that a check of a stress run's lists fails (this project's own).
-use Rattle.std.specs.Prelude.{◌≡◌, ◌≢◌, ℕ, zero, suc, ◌+◌, ◌<◌, false, List, Option, Some, None, slice_get, slice_range}
+use Rattle.std.specs.Prelude.{◌≡◌, ◌≢◌, ℕ, zero, suc, ◌+◌, ◌<◌, true, false, List, Option, Some, None, slice_get}
+use Rattle.std.specs.Prelude.{slice_range}
 use Rattle.std.specs.List.{All, Contains}
 use Rattle.ref_base.specs.CollectorRows.{is_subsequence}
 use Rattle.refrun.specs.declared.evidence.Evidence.{Evidence}
 use Rattle.refrun.specs.declared.evidence.Evidence.TheVariants as evidence
+use Rattle.refrun.specs.declared.evidence.WrongRun.{WrongRun}
+use Rattle.refrun.specs.declared.evidence.WrongRun.TheVariants as wrong
+use Rattle.refrun.specs.declared.outcomes.JobFate.{JobFate}
 
 -- the number was put in at both places
 abbrev pub ShowsTwice : List ℕ → Evidence → Type 0
@@ -17,6 +21,17 @@ ShowsRest enqueued taken stands (evidence.Stands n) = slice_get stands 0 ≡ Som
 ShowsRest enqueued taken stands (evidence.TakenInPlaceOf place put got) =
     (put ≡ slice_get enqueued place) × (got ≡ slice_get taken place) × (put ≢ got)
 ShowsRest enqueued taken stands e = ⊥
+
+-- the job was to run and didn't run once, or it began while its object lived, or it was not to run and did
+abbrev pub IsWrong : JobFate → WrongRun → Type 0
+IsWrong f (wrong.Runs n) = (f.is_due ≡ true) × (n ≡ f.runs) × (n ≢ 1)
+IsWrong f wrong.Early = f.is_early ≡ true
+IsWrong f wrong.Unasked = (f.is_due ≡ false) × (f.runs ≢ 0)
+
+-- what is wrong is so of the job of this number
+abbrev pub ShowsJobs : List JobFate → Evidence → Type 0
+ShowsJobs fates (evidence.Job job wrong) = (f : JobFate) × (slice_get fates job ≡ Some f) × IsWrong f wrong
+ShowsJobs fates e = ⊥
 
 -- what stands right in front of the place, if anything does
 abbrev pub before_place : List ℕ → ℕ → Option ℕ
@@ -54,13 +69,17 @@ module _ {V : Type 0} (items : V → List ℕ) where
   ShowsReports enqueued kept e = ⊥
 
   -- one of these
-  abbrev pub IsEvidence : (enqueued taken stands : List ℕ) → (lists kept : List V) → Evidence → Type 0
-  IsEvidence enqueued taken stands lists kept (evidence.PutTwice n first again) =
+  abbrev pub IsEvidence : (enqueued taken stands : List ℕ) → (lists kept : List V) → (fates : List JobFate) → Evidence
+      → Type 0
+  IsEvidence enqueued taken stands lists kept fates (evidence.PutTwice n first again) =
       ShowsTwice enqueued (evidence.PutTwice n first again)
-  IsEvidence enqueued taken stands lists kept (evidence.OutOfOrder p before n) =
+  IsEvidence enqueued taken stands lists kept fates (evidence.OutOfOrder p before n) =
       ShowsOrder enqueued lists (evidence.OutOfOrder p before n)
-  IsEvidence enqueued taken stands lists kept (evidence.Stands n) = ShowsRest enqueued taken stands (evidence.Stands n)
-  IsEvidence enqueued taken stands lists kept (evidence.TakenInPlaceOf place put got) =
+  IsEvidence enqueued taken stands lists kept fates (evidence.Stands n) =
+      ShowsRest enqueued taken stands (evidence.Stands n)
+  IsEvidence enqueued taken stands lists kept fates (evidence.TakenInPlaceOf place put got) =
       ShowsRest enqueued taken stands (evidence.TakenInPlaceOf place put got)
-  IsEvidence enqueued taken stands lists kept (evidence.NoReport n) = ShowsReports enqueued kept (evidence.NoReport n)
-  IsEvidence enqueued taken stands lists kept e = ShowsTotal taken lists e
+  IsEvidence enqueued taken stands lists kept fates (evidence.NoReport n) =
+      ShowsReports enqueued kept (evidence.NoReport n)
+  IsEvidence enqueued taken stands lists kept fates (evidence.Job job wrong) = ShowsJobs fates (evidence.Job job wrong)
+  IsEvidence enqueued taken stands lists kept fates e = ShowsTotal taken lists e

@@ -5,11 +5,12 @@ ghost use Rattle.std.specs.Prelude.{IfSome, IfNone, All};
 ghost use Rattle.std.specs.List.{Contains, IsDistinct, flat_map};
 ghost use Rattle.ref_base.specs.CollectorRows.{is_subsequence};
 ghost use Rattle.ref_base.specs.Members.{has};
-ghost use Rattle.refrun.specs.StressChecks.{Passes, GivesEachOnce};
+ghost use Rattle.refrun.specs.StressChecks.{Passes, GivesEachOnce, RanWell, ran_well};
 ghost use Rattle.refrun.specs.StressEvidence.{before_place, IsEvidence, ShowsTwice, ShowsOrder, ShowsTotal};
-ghost use Rattle.refrun.specs.StressEvidence.{ShowsAgain, ShowsRest, ShowsReports};
+ghost use Rattle.refrun.specs.StressEvidence.{ShowsAgain, ShowsRest, ShowsReports, ShowsJobs, IsWrong};
 
 use crate::lists::{Check, is_in_order};
+use crate::outcomes::JobFate;
 use ref_base::ObjNo;
 use std::alloc::Allocator;
 use std::fmt;
@@ -58,6 +59,22 @@ pub enum Evidence {
     NoReport {
         number: ObjNo,
     },
+    /// Of `jobs`: what is wrong with how the job ran.
+    Job {
+        job: usize,
+        wrong: WrongRun,
+    },
+}
+
+/// What is wrong with how a job ran. It prints behind the job's number.
+#[derive(Clone, Copy, Debug, PartialEq, Eq)]
+pub enum WrongRun {
+    /// The job was to run, and ran so often in the place of once.
+    Runs(u32),
+    /// The job began while its object lived.
+    Early,
+    /// The job was not to run, and ran.
+    Unasked,
 }
 
 impl fmt::Display for Evidence {
@@ -72,10 +89,7 @@ impl fmt::Display for Evidence {
                 poller,
                 before,
                 number,
-            } => match before {
-                Some(before) => write!(f, "poller {poller} took {number} behind {before}"),
-                None => write!(f, "poller {poller} took {number} first"),
-            },
+            } => write!(f, "poller {poller} took {number} {}", Behind(before)),
             Evidence::NotGiven { poller, number } => {
                 write!(
                     f,
@@ -99,6 +113,31 @@ impl fmt::Display for Evidence {
                 Told(taken)
             ),
             Evidence::NoReport { number } => write!(f, "no report of {number}"),
+            Evidence::Job { job, wrong } => write!(f, "job {job} {wrong}"),
+        }
+    }
+}
+
+impl fmt::Display for WrongRun {
+    fn fmt<W: fmt::Write>(&self, f: &mut fmt::Formatter<W>) -> fmt::Result {
+        match *self {
+            WrongRun::Runs(0) => f.write_str("never ran"),
+            WrongRun::Runs(runs) => write!(f, "ran {runs} times"),
+            WrongRun::Early => f.write_str("ran while its object lived"),
+            WrongRun::Unasked => f.write_str("ran, and was not to"),
+        }
+    }
+}
+
+/// Behind which number another was taken, or that it was the first.
+#[derive(Clone, Copy)]
+struct Behind(Option<ObjNo>);
+
+impl fmt::Display for Behind {
+    fn fmt<W: fmt::Write>(&self, f: &mut fmt::Formatter<W>) -> fmt::Result {
+        match self.0 {
+            Some(number) => write!(f, "behind {number}"),
+            None => f.write_str("first"),
         }
     }
 }
@@ -125,10 +164,12 @@ pub fn evidence_of<B: Allocator>(
     stands: &[ObjNo],
     lists: &[Vec<ObjNo, B>],
     kept: &[Vec<ObjNo, B>],
+    jobs: &[JobFate],
 ) -> Option<Evidence>
-    ensures shows { IfSome result (IsEvidence (λ v. v.items) enqueued.now taken.now stands.now lists.now kept.now) }
+    ensures shows { IfSome result (IsEvidence (λ v. v.items) enqueued.now taken.now stands.now lists.now kept.now
+        jobs.now) }
     ensures passes { IfNone result (Passes enqueued.now taken.now stands.now (map (λ v. v.items) lists.now)
-        (map (λ v. v.items) kept.now) check) }
+        (map (λ v. v.items) kept.now) jobs.now check) }
 {
     match check {
         Check::Twice => put_twice(enqueued),
@@ -136,6 +177,7 @@ pub fn evidence_of<B: Allocator>(
         Check::Total => not_once(taken, lists),
         Check::Rest => left_over(enqueued, taken, stands),
         Check::Reports => not_put_in(enqueued, kept),
+        Check::Jobs => not_well(jobs),
     }
 }
 
@@ -355,4 +397,35 @@ fn not_put_in<B: Allocator>(enqueued: &[ObjNo], kept: &[Vec<ObjNo, B>]) -> Optio
         }
     }
     None
+}
+
+/// The first job that did not run as it was to.
+fn not_well(jobs: &[JobFate]) -> Option<Evidence>
+    ensures shows { IfSome result (ShowsJobs jobs.now) }
+    ensures passes { IfNone result (RanWell jobs.now) }
+{
+    for job in 0..jobs.len() {
+        let fate = jobs[job];
+        if let Some(wrong) = wrong_of(fate) {
+            return Some(Evidence::Job { job, wrong });
+        }
+    }
+    None
+}
+
+/// What is wrong with how a job ran.
+fn wrong_of(fate: JobFate) -> Option<WrongRun>
+    ensures shows { IfSome result (IsWrong fate) }
+    ensures passes { IfNone result (ran_well fate ≡ true) }
+{
+    let runs = fate.runs;
+    if fate.is_early {
+        Some(WrongRun::Early)
+    } else if fate.is_due && runs != 1 {
+        Some(WrongRun::Runs(runs))
+    } else if !fate.is_due && runs != 0 {
+        Some(WrongRun::Unasked)
+    } else {
+        None
+    }
 }

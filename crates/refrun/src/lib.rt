@@ -1,6 +1,7 @@
 //! Scripts and graph texts in, traces and strengths out: what `refrun` reads and prints.
 #![tactic(auto)]
 
+mod cleaning;
 mod declarations;
 mod evidence;
 mod gate;
@@ -12,11 +13,12 @@ mod listing;
 mod lists;
 mod numerals;
 mod operands;
+mod outcomes;
 mod printed;
 mod reading;
-mod roles;
 mod script;
 mod script_step;
+mod station;
 mod steps;
 mod stress_options;
 mod tally;
@@ -25,9 +27,10 @@ mod told;
 mod trace;
 mod version;
 
-pub use evidence::{Evidence, evidence_of};
+pub use evidence::{Evidence, WrongRun, evidence_of};
 pub use listing::strength_text;
 pub use lists::{Check, check_lists};
+pub use outcomes::JobFate;
 pub use ref_text::{
     FromReader, LineFault, ReadError, TextFault, TextSink, TextSource, ToWriter, WriteFailed,
 };

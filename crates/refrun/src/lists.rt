@@ -4,8 +4,9 @@ ghost use Rattle.std.specs.Prelude.{◌≡◌, ◌↔◌, ℕ, map, nat_eq, true
 ghost use Rattle.std.specs.List.{IsDistinct};
 ghost use Rattle.ref_base.specs.CollectorRows.{is_subsequence};
 ghost use Rattle.ref_base.specs.Members.{has};
-ghost use Rattle.refrun.specs.StressChecks.{IsFirstFailure, GivesEachOnce, PutInAll};
+ghost use Rattle.refrun.specs.StressChecks.{IsFirstFailure, GivesEachOnce, PutInAll, RanWell};
 
+use crate::outcomes::JobFate;
 use ref_base::{Fault, ObjNo};
 use std::alloc::Allocator;
 use std::collections::HashSet;
@@ -25,6 +26,8 @@ pub enum Check {
     Rest,
     /// Each reference that was kept to the end was put in.
     Reports,
+    /// Each job that was to run did once, behind its object's death, and no other did.
+    Jobs,
 }
 
 impl fmt::Display for Check {
@@ -40,6 +43,7 @@ impl fmt::Display for Check {
             Check::Total => write!(f, "total"),
             Check::Rest => write!(f, "rest"),
             Check::Reports => write!(f, "reports"),
+            Check::Jobs => write!(f, "jobs"),
         }
     }
 }
@@ -56,9 +60,10 @@ pub fn check_lists<A: Allocator + Copy, B: Allocator>(
     stands: &[ObjNo],
     lists: &[Vec<ObjNo, B>],
     kept: &[Vec<ObjNo, B>],
+    jobs: &[JobFate],
 ) -> Result<Option<Check>, Fault>
     ensures answer { IfOk result (IsFirstFailure enqueued.now taken.now stands.now (map (λ v. v.items) lists.now)
-        (map (λ v. v.items) kept.now)) }
+        (map (λ v. v.items) kept.now) jobs.now) }
     ensures err { OnErr result (result ≡ Err Fault.NoMemory) }
 {
     if !are_distinct(alloc, enqueued)? {
@@ -75,6 +80,9 @@ pub fn check_lists<A: Allocator + Copy, B: Allocator>(
     }
     if !are_put_in(alloc, enqueued, kept)? {
         return Ok(Some(Check::Reports));
+    }
+    if !are_well(jobs) {
+        return Ok(Some(Check::Jobs));
     }
     Ok(None)
 }
@@ -158,6 +166,13 @@ fn are_put_in<A: Allocator + Copy, B: Allocator>(
         }
     }
     Ok(true)
+}
+
+/// Whether each job ran as it was to.
+fn are_well(jobs: &[JobFate]) -> bool
+    ensures { IsTrue result ↔ RanWell jobs.now }
+{
+    jobs.iter().all(|job| job.is_well())
 }
 
 /// These numbers as a set.

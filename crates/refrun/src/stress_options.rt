@@ -33,4 +33,9 @@ impl StressOptions {
             rule: SpanRule::Fixed,
         }
     }
+
+    // How many threads these are.
+    pub(crate) fn threads(&self) -> u32 {
+        self.config().mutators.saturating_add(self.workers)
+    }
 }

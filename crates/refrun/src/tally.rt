@@ -13,10 +13,11 @@ pub struct Tally {
     urgent: AtomicU64,
     handed: AtomicU64,
     polled: AtomicU64,
+    jobs: AtomicU64,
     is_stopped: AtomicBool,
 }
 
-/// What a tally showed. It prints as `7 rounds, 4 cycles, 1 urgent, 3 notices, 1 and 0 batches, 2 moves`.
+/// What a tally showed. It prints as `7 rounds, 4 cycles, 1 urgent, 3 notices, 1 and 0 batches, 2 moves, 5 jobs`.
 #[derive(Clone, Copy, Debug, PartialEq, Eq)]
 pub struct Counts {
     /// Rounds of mutators that have ended.
@@ -33,6 +34,8 @@ pub struct Counts {
     pub polled: u64,
     /// Objects that workers have moved, but for those that a load or a get moved.
     pub moves: u64,
+    /// Jobs of the cleaner that have run.
+    pub jobs: u64,
 }
 
 impl fmt::Display for Counts {
@@ -45,11 +48,12 @@ impl fmt::Display for Counts {
             handed,
             polled,
             moves,
+            jobs,
         } = *self;
         write!(f, "{rounds} rounds, {cycles} cycles, {urgent} urgent, ")?;
         write!(
             f,
-            "{notices} notices, {handed} and {polled} batches, {moves} moves"
+            "{notices} notices, {handed} and {polled} batches, {moves} moves, {jobs} jobs"
         )
     }
 }
@@ -65,6 +69,7 @@ impl Tally {
             urgent: AtomicU64::new(0),
             handed: AtomicU64::new(0),
             polled: AtomicU64::new(0),
+            jobs: AtomicU64::new(0),
             is_stopped: AtomicBool::new(false),
         }
     }
@@ -88,6 +93,7 @@ impl Tally {
             urgent: self.urgent.load(Ordering::SeqCst),
             handed: self.handed.load(Ordering::SeqCst),
             polled: self.polled.load(Ordering::SeqCst),
+            jobs: self.jobs.load(Ordering::SeqCst),
         }
     }
 
@@ -109,6 +115,10 @@ impl Tally {
 
     pub(crate) fn count_polled(&self) {
         self.polled.fetch_add(1, Ordering::SeqCst);
+    }
+
+    pub(crate) fn count_jobs(&self, jobs: u64) {
+        self.jobs.fetch_add(jobs, Ordering::SeqCst);
     }
 
     pub(crate) fn count_notice(&self) {

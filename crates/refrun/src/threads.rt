@@ -1,25 +1,29 @@
 //! A stress run: threads over one heap and one queue, and the queue's lists once they have ended.
 
-ghost use Rattle.std.specs.Prelude.{◌≡◌, false, All, IfOk, IfSome, IfNone, OnErr, Err, map};
+ghost use Rattle.std.specs.Prelude.{◌≡◌, ◌≤◌, false, All, IfOk, IfSome, IfNone, OnErr, Err, map};
 ghost use Rattle.ref_share.specs.HeapSeats.{IsHeapSeat};
 ghost use Rattle.ref_share.specs.QueueSeats.{IsQueueSeat};
 ghost use Rattle.refrun.specs.StressChecks.{IsFirstFailure, Passes};
 ghost use Rattle.refrun.specs.StressEvidence.{IsEvidence};
+ghost use Rattle.refrun.specs.CleaningSeats.{IsCleanSeated};
+ghost use Rattle.refrun.specs.declared.threads.Left.{Left};
 ghost use Rattle.refrun.specs.StressSeats.{IsLeftAt, IsSeated, IsSeatedAt, StaysSeated};
 ghost use Rattle.ref_base.specs.declared.fault.Fault.TheVariants.{BadConfig};
 ghost use Rattle.refrun.specs.StressRuns.{has_threads_in_range};
 
+use crate::cleaning::{Cleaning, CleaningSeats, CleaningStation, JOBS, config_of};
 use crate::evidence::{Evidence, evidence_of};
 use crate::gate::Gate;
 use crate::lists::{Check, check_lists};
-use crate::roles::{QUEUE, Running, Shared, Station};
+use crate::outcomes::{JobFate, Outcomes, answer_of};
+use crate::station::{QUEUE, Running, Shared, Station};
 use crate::stress_options::StressOptions;
 use crate::tally::Tally;
 use ref_base::{Fault, MutNo, ObjNo, WorkerNo};
 use ref_clear::Notice;
 use ref_objects::Hold;
-use ref_queue::Queue;
-use ref_share::{HeapSeat, QueueSeat, SharedHeap, SharedQueue, end_queue};
+use ref_queue::{Action, Queue};
+use ref_share::{HeapSeat, QueueSeat, QueuedCleaner, SharedHeap, SharedQueue, end_queue};
 use std::alloc::{AllocError, Global};
 use std::sync::Wait;
 use std::sync::atomic::{AtomicU32, Ordering};
@@ -36,10 +40,11 @@ enum Role {
 
 /// What one thread is given.
 #[derive(Drop)]
-struct Job {
+struct Job<'a> {
     role: Role,
     heap_seat: HeapSeat,
     queue_seat: QueueSeat,
+    cleaning: CleaningStation<'a>,
 }
 
 /// What one thread leaves: what it kept or took, or why it gave up, and its seats.
@@ -68,7 +73,7 @@ impl Drop for Ending<'_> {
     }
 }
 
-/// What a stress run leaves: numbers of references, in order.
+/// What a stress run leaves: numbers of references, in order, and what became of its jobs.
 #[derive(Drop)]
 pub struct StressLists {
     /// What was put into the queue.
@@ -81,6 +86,8 @@ pub struct StressLists {
     pub pollers: Vec<Vec<ObjNo>>,
     /// What each mutator kept to the end.
     pub kept: Vec<Vec<ObjNo>>,
+    /// What became of each job, by its number.
+    pub jobs: Vec<JobFate>,
 }
 
 impl StressLists {
@@ -88,7 +95,7 @@ impl StressLists {
     pub fn check(&self, alloc: Global) -> Result<Option<Check>, Fault>
         ensures answer { IfOk result (IsFirstFailure self.now.enqueued.items self.now.taken.items
             self.now.stands.items (map (λ v. v.items) self.now.pollers.items)
-            (map (λ v. v.items) self.now.kept.items)) }
+            (map (λ v. v.items) self.now.kept.items) self.now.jobs.items) }
         ensures err { OnErr result (result ≡ Err Fault.NoMemory) }
     {
         check_lists(
@@ -98,15 +105,17 @@ impl StressLists {
             self.stands.as_slice(),
             self.pollers.as_slice(),
             self.kept.as_slice(),
+            self.jobs.as_slice(),
         )
     }
 
     /// What shows that this check fails, and none where it holds. Takes no memory.
     pub fn evidence(&self, check: Check) -> Option<Evidence>
         ensures shows { IfSome result (IsEvidence (λ v. v.items) self.now.enqueued.items self.now.taken.items
-            self.now.stands.items self.now.pollers.items self.now.kept.items) }
+            self.now.stands.items self.now.pollers.items self.now.kept.items self.now.jobs.items) }
         ensures passes { IfNone result (Passes self.now.enqueued.items self.now.taken.items self.now.stands.items
-            (map (λ v. v.items) self.now.pollers.items) (map (λ v. v.items) self.now.kept.items) check) }
+            (map (λ v. v.items) self.now.pollers.items) (map (λ v. v.items) self.now.kept.items) self.now.jobs.items
+            check) }
     {
         evidence_of(
             check,
@@ -115,6 +124,7 @@ impl StressLists {
             self.stands.as_slice(),
             self.pollers.as_slice(),
             self.kept.as_slice(),
+            self.jobs.as_slice(),
         )
     }
 }
@@ -144,6 +154,9 @@ pub fn stress<R: Threads + Wait + Sync>(
 /// is closed, and the pollers take what is left. The tally says meanwhile how far the run is, and can stop the
 /// mutators.
 ///
+/// Beside that mutators register jobs of a cleaner for objects of another heap, and let these objects go; the first
+/// worker runs that heap's cycles, and pollers run the jobs of what is gone.
+///
 /// `BadConfig` where mutators and pollers together, or workers, are not 1 to 8. `NoMemory` where a growth is refused,
 /// or the memory for threads. All its memory is of this allocator.
 pub fn stress_lists<R: Threads + Wait + Sync>(
@@ -153,6 +166,83 @@ pub fn stress_lists<R: Threads + Wait + Sync>(
     tally: &Tally,
 ) -> Result<Option<StressLists>, Fault>
     ensures threads { has_threads_in_range options ≡ false → result ≡ Err BadConfig }
+{
+    options.config().check()?;
+    let mut lists = Vec::new(alloc);
+    for thread in 0..options.threads() {
+        let mut jobs = Vec::new(alloc);
+        for place in 0..jobs_of(thread, options) {
+            let number = u64::from(thread) * JOBS + place;
+            let Ok(action) = Box::new(
+                alloc,
+                |number: u64| -> u64
+                    ensures { result ≡ number }
+                { answer_of(number) },
+            ) else {
+                return Err(Fault::NoMemory);
+            };
+            let action: Action = action;
+            let Ok(()) = jobs.push(ref_queue::Job::new(number, number, action)) else {
+                return Err(Fault::NoMemory);
+            };
+        }
+        let Ok(()) = lists.push(jobs) else {
+            return Err(Fault::NoMemory);
+        };
+    }
+    stress_with(rt, alloc, options, tally, lists)
+}
+
+/// How many jobs this thread has: the first threads are the mutators.
+fn jobs_of(thread: u32, options: StressOptions) -> u64
+    ensures { result ≤ 64 }
+{
+    if thread < options.mutators { JOBS } else { 0 }
+}
+
+/// Runs the threads, each with the jobs of one list, and then ends their cleaner.
+fn stress_with<R: Threads + Wait + Sync>(
+    rt: &R,
+    alloc: Global,
+    options: StressOptions,
+    tally: &Tally,
+    lists: Vec<Vec<ref_queue::Job>>,
+) -> Result<Option<StressLists>, Fault> {
+    let Ok(outcomes) = Outcomes::new(alloc, lists.len().saturating_mul(JOBS as usize)) else {
+        return Err(Fault::NoMemory);
+    };
+    let (heap, heap_seat) = SharedHeap::new(alloc, config_of(options.mutators), 0)?;
+    let (cleaner, clean) = QueuedCleaner::new(alloc)?;
+    let cleaning = Cleaning {
+        heap,
+        cleaner,
+        outcomes,
+    };
+    let mut seats = CleaningSeats {
+        heap: heap_seat,
+        clean,
+    };
+    let answer = match cleaning.stations(alloc, &mut seats, lists) {
+        Ok(stations) => stress_at(rt, alloc, options, tally, stations),
+        Err(_) => Err(Fault::NoMemory),
+    };
+    let jobs = cleaning.end(alloc, seats);
+    let Some(mut lists) = answer? else {
+        return Ok(None);
+    };
+    lists.jobs = jobs?;
+    Ok(Some(lists))
+}
+
+/// Runs threads over a heap and a queue, each at one of these stations, and gives what they leave but for the jobs.
+fn stress_at<R: Threads + Wait + Sync>(
+    rt: &R,
+    alloc: Global,
+    options: StressOptions,
+    tally: &Tally,
+    stations: Vec<CleaningStation>,
+) -> Result<Option<StressLists>, Fault>
+    requires { All (λ station. IsCleanSeated station) stations.items }
 {
     let (heap, mut heap_seat) = SharedHeap::new(alloc, options.config(), 0)?;
     let (queue, mut queue_seat) = SharedQueue::new(alloc, QUEUE)?;
@@ -166,6 +256,7 @@ pub fn stress_lists<R: Threads + Wait + Sync>(
         queue,
         gate: Gate::new(),
         running,
+        options,
     };
     let lists = run(
         rt,
@@ -174,13 +265,14 @@ pub fn stress_lists<R: Threads + Wait + Sync>(
         tally,
         &mut heap_seat,
         &mut queue_seat,
-        options,
+        stations,
     );
     let Shared {
         heap: _heap,
         queue,
         gate: _gate,
         running: _running,
+        options: _options,
     } = shared;
     match queue.finish(queue_seat) {
         Ok(queue) | Err(Some(queue)) => {
@@ -201,12 +293,13 @@ fn run<R: Threads + Wait + Sync>(
     tally: &Tally,
     heap_seat: &mut HeapSeat,
     queue_seat: &mut QueueSeat,
-    options: StressOptions,
+    stations: Vec<CleaningStation>,
 ) -> Result<Vec<Vec<ObjNo>>, Fault>
-    requires { IsHeapSeat shared.now.heap heap_seat.old × IsQueueSeat shared.now.queue queue_seat.old }
+    requires seats { IsHeapSeat shared.now.heap heap_seat.old × IsQueueSeat shared.now.queue queue_seat.old }
+    requires stations { All (λ station. IsCleanSeated station) stations.items }
     ensures { IsHeapSeat shared.now.heap heap_seat.new × IsQueueSeat shared.now.queue queue_seat.new }
 {
-    let Ok(jobs) = jobs(alloc, shared, heap_seat, queue_seat, options) else {
+    let Ok(jobs) = jobs(alloc, shared, heap_seat, queue_seat, stations) else {
         return Err(Fault::NoMemory);
     };
     let left = run_together(rt, alloc, shared, tally, jobs)?;
@@ -220,7 +313,7 @@ fn run_together<R: Threads + Wait + Sync>(
     alloc: Global,
     shared: &Shared,
     tally: &Tally,
-    jobs: Vec<Job>,
+    jobs: Vec<Job<'_>>,
 ) -> Result<Vec<Left>, Fault>
     requires { All (λ job. IsSeatedAt shared.now job) jobs.items }
     ensures { IfOk result (λ all. All (λ left. IsLeftAt shared.now left) all.items) }
@@ -246,7 +339,7 @@ fn all_made<'s, E, R: Threads + Wait + Sync>(
     scope: &Scope<'s, E>,
     shared: &'s Shared,
     tally: &'s Tally,
-    jobs: Vec<Job>,
+    jobs: Vec<Job<'s>>,
 ) -> Result<Vec<PromisedHandle<Left, SeatsOf<'s>>>, Fault>
     requires { All (λ job. IsSeatedAt shared.now job) jobs.items }
     ensures { IfOk result (λ all. All (λ thread. thread.promise.0.now ≡ shared.now) all.items) }
@@ -268,14 +361,38 @@ fn made<'s, E, R: Threads + Wait + Sync>(
     scope: &Scope<'s, E>,
     shared: &'s Shared,
     tally: &'s Tally,
-    job: Job,
+    job: Job<'s>,
 ) -> Result<PromisedHandle<Left, SeatsOf<'s>>, Fault>
     requires { IsSeatedAt shared.now job }
     ensures { IfOk result (λ thread. thread.promise.0.now ≡ shared.now) }
 {
+    made_given(
+        scope,
+        shared,
+        job,
+        move |job: Job| -> Left
+            requires { IsSeatedAt shared.now job }
+            ensures { IsLeftAt shared.entry.now result }
+        { left_by(rt, alloc, shared, tally, job) },
+    )
+}
+
+/// Makes a thread that calls this with what it is given, and leaves seats of these.
+fn made_given<'s, E, C: Send + Drop + 's, F: FnOnce(C) -> Left + Send + 's>(
+    scope: &Scope<'s, E>,
+    shared: &'s Shared,
+    given: C,
+    work: F,
+) -> Result<PromisedHandle<Left, SeatsOf<'s>>, Fault>
+    requires runs { F.pre work given }
+    requires leaves { (left : Left) → F.post work given left → IsLeftAt shared.now left }
+    ensures { IfOk result (λ thread. thread.promise.0.now ≡ shared.now) }
+{
     match scope.spawn_with(
         SeatsOf(shared),
-        move || left_by(rt, alloc, shared, tally, job),
+        move || -> Left
+            requires { F.pre work given }
+        { work(given) },
     ) {
         Ok(thread) => Ok(thread),
         Err(_) => Err(Fault::NoMemory),
@@ -330,38 +447,38 @@ fn joined(
 }
 
 /// What each thread is given, with seats that are split off these.
-fn jobs(
+fn jobs<'a>(
     alloc: Global,
     shared: &Shared,
     heap_seat: &mut HeapSeat,
     queue_seat: &mut QueueSeat,
-    options: StressOptions,
-) -> Result<Vec<Job>, AllocError>
-    requires { IsHeapSeat shared.now.heap heap_seat.old × IsQueueSeat shared.now.queue queue_seat.old }
+    stations: Vec<CleaningStation<'a>>,
+) -> Result<Vec<Job<'a>>, AllocError>
+    requires seats { IsHeapSeat shared.now.heap heap_seat.old × IsQueueSeat shared.now.queue queue_seat.old }
+    requires stations { All (λ station. IsCleanSeated station) stations.items }
     ensures seats { IsHeapSeat shared.now.heap heap_seat.new × IsQueueSeat shared.now.queue queue_seat.new }
     ensures seated { IfOk result (λ jobs. All (λ job. IsSeatedAt shared.now job) jobs.items) }
 {
-    let rounds = options.rounds;
     let mut jobs = Vec::new(alloc);
-    for number in 0..options.mutators {
-        let mutator = MutNo(number);
-        let role = Role::Mutate { mutator, rounds };
-        jobs.push(job_of(shared, heap_seat, queue_seat, role))?;
-    }
-    for number in 0..options.workers {
-        let role = Role::Work(WorkerNo(number));
-        jobs.push(job_of(shared, heap_seat, queue_seat, role))?;
-    }
-    for number in 0..options.pollers {
-        let role = Role::Poll(MutNo(options.mutators.saturating_add(number)));
-        jobs.push(job_of(shared, heap_seat, queue_seat, role))?;
+    let mut thread: u32 = 0;
+    for cleaning in stations {
+        let role = role_of(thread, shared.options);
+        jobs.push(job_of(shared, heap_seat, queue_seat, role, cleaning))?;
+        thread = thread.saturating_add(1);
     }
     Ok(jobs)
 }
 
 /// What one thread of this role is given.
-fn job_of(shared: &Shared, heap_seat: &mut HeapSeat, queue_seat: &mut QueueSeat, role: Role) -> Job
-    requires { IsHeapSeat shared.now.heap heap_seat.old × IsQueueSeat shared.now.queue queue_seat.old }
+fn job_of<'a>(
+    shared: &Shared,
+    heap_seat: &mut HeapSeat,
+    queue_seat: &mut QueueSeat,
+    role: Role,
+    cleaning: CleaningStation<'a>,
+) -> Job<'a>
+    requires seats { IsHeapSeat shared.now.heap heap_seat.old × IsQueueSeat shared.now.queue queue_seat.old }
+    requires station { IsCleanSeated cleaning }
     ensures seats { IsHeapSeat shared.now.heap heap_seat.new × IsQueueSeat shared.now.queue queue_seat.new }
     ensures seated { IsSeatedAt shared.now result }
 {
@@ -369,6 +486,22 @@ fn job_of(shared: &Shared, heap_seat: &mut HeapSeat, queue_seat: &mut QueueSeat,
         role,
         heap_seat: shared.heap.split(heap_seat),
         queue_seat: shared.queue.split(queue_seat),
+        cleaning,
+    }
+}
+
+/// What the thread of this number is for: the first are mutators, the last pollers.
+fn role_of(thread: u32, options: StressOptions) -> Role {
+    let others = options.mutators.saturating_add(options.workers);
+    if thread < options.mutators {
+        Role::Mutate {
+            mutator: MutNo(thread),
+            rounds: options.rounds,
+        }
+    } else if thread < others {
+        Role::Work(WorkerNo(thread - options.mutators))
+    } else {
+        Role::Poll(MutNo(thread.saturating_sub(options.workers)))
     }
 }
 
@@ -388,12 +521,23 @@ fn left_by<'a, R: Wait>(
         role,
         heap_seat,
         queue_seat,
+        mut cleaning,
     } = job;
     let ending = Ending(count_of(&role, &shared.running));
     let mut station = Station::new(alloc, shared, tally, heap_seat, queue_seat);
-    let mut noted = Vec::new(alloc);
-    let mut holds = Vec::new(alloc);
-    let answer = act(rt, shared, &mut station, role, &mut noted, &mut holds);
+    let (mut noted, mut holds) = (Vec::new(alloc), Vec::new(alloc));
+    let answer = if shared.gate.pass(rt) {
+        act(
+            rt,
+            role,
+            &mut station,
+            &mut cleaning,
+            &mut noted,
+            &mut holds,
+        )
+    } else {
+        Err(Fault::NoMemory)
+    };
     if answer.is_err() {
         station.stop();
     }
@@ -416,25 +560,24 @@ fn count_of<'a>(role: &Role, running: &'a Running) -> &'a AtomicU32 {
     }
 }
 
-/// What one thread does once all are there; `NoMemory` where it is told to give up.
+/// What one thread does once all are there.
 fn act<R: Wait>(
     rt: &R,
-    shared: &Shared,
-    station: &mut Station,
     role: Role,
+    station: &mut Station,
+    cleaning: &mut CleaningStation,
     noted: &mut Vec<ObjNo>,
     holds: &mut Vec<Hold>,
 ) -> Result<(), Fault>
-    requires { IsSeated station.old }
+    requires { IsSeated station.old × IsCleanSeated cleaning.old }
     ensures { StaysSeated station.old station.new }
 {
-    if !shared.gate.pass(rt) {
-        return Err(Fault::NoMemory);
-    }
     match role {
-        Role::Mutate { mutator, rounds } => station.mutate(rt, mutator, rounds, noted, holds),
-        Role::Work(worker) => station.work(rt, worker),
-        Role::Poll(mutator) => station.poll(rt, mutator, noted),
+        Role::Mutate { mutator, rounds } => {
+            station.mutate(rt, mutator, rounds, cleaning, noted, holds)
+        }
+        Role::Work(worker) => station.work(rt, worker, cleaning),
+        Role::Poll(mutator) => station.poll(rt, mutator, cleaning, noted),
     }
 }
 
@@ -466,5 +609,6 @@ fn lists_left(
         stands: queue.stands(alloc)?,
         pollers,
         kept,
+        jobs: Vec::new(alloc),
     })
 }

@@ -2,12 +2,13 @@
 
 use rationed::Rationed;
 use ref_base::{Fault, ObjNo};
-use refrun::{Check, StressLists, check_lists};
+use refrun::{Check, JobFate, StressLists, check_lists};
 use std::alloc::{AllocError, Allocator, Global};
 use std::process::Abort;
 use std::test::Fail;
 
-/// What was put in, was taken and stands, what each poller took and each mutator kept, and the first check that fails.
+/// What was put in, was taken and stands, what each poller took and each mutator kept, what became of each job, and the
+/// first check that fails.
 struct Case {
     name: &'static str,
     enqueued: &'static [u32],
@@ -15,10 +16,25 @@ struct Case {
     stands: &'static [u32],
     lists: &'static [&'static [u32]],
     kept: &'static [&'static [u32]],
+    jobs: &'static [JobFate],
     fails: Option<Check>,
 }
 
-static CASES: [Case; 21] = [
+/// A job that was to run, and did once.
+const RAN: JobFate = JobFate {
+    is_due: true,
+    runs: 1,
+    is_early: false,
+};
+
+/// A job that was not to run, and didn't.
+const NEVER: JobFate = JobFate {
+    is_due: false,
+    runs: 0,
+    is_early: false,
+};
+
+static CASES: [Case; 27] = [
     Case {
         name: "a number put in twice",
         enqueued: &[2, 2],
@@ -26,6 +42,7 @@ static CASES: [Case; 21] = [
         stands: &[],
         lists: &[&[2, 2]],
         kept: &[],
+        jobs: &[],
         fails: Some(Check::Twice),
     },
     Case {
@@ -35,6 +52,7 @@ static CASES: [Case; 21] = [
         stands: &[],
         lists: &[&[3, 2]],
         kept: &[],
+        jobs: &[],
         fails: Some(Check::Order),
     },
     Case {
@@ -44,6 +62,7 @@ static CASES: [Case; 21] = [
         stands: &[],
         lists: &[&[2]],
         kept: &[],
+        jobs: &[],
         fails: Some(Check::Total),
     },
     Case {
@@ -53,6 +72,7 @@ static CASES: [Case; 21] = [
         stands: &[3],
         lists: &[&[2]],
         kept: &[],
+        jobs: &[],
         fails: Some(Check::Rest),
     },
     Case {
@@ -62,6 +82,7 @@ static CASES: [Case; 21] = [
         stands: &[],
         lists: &[&[2, 4], &[3]],
         kept: &[],
+        jobs: &[],
         fails: None,
     },
     Case {
@@ -71,6 +92,7 @@ static CASES: [Case; 21] = [
         stands: &[],
         lists: &[],
         kept: &[],
+        jobs: &[],
         fails: None,
     },
     Case {
@@ -80,6 +102,7 @@ static CASES: [Case; 21] = [
         stands: &[],
         lists: &[&[], &[]],
         kept: &[],
+        jobs: &[],
         fails: None,
     },
     Case {
@@ -89,6 +112,7 @@ static CASES: [Case; 21] = [
         stands: &[],
         lists: &[&[9]],
         kept: &[],
+        jobs: &[],
         fails: Some(Check::Twice),
     },
     Case {
@@ -98,6 +122,7 @@ static CASES: [Case; 21] = [
         stands: &[],
         lists: &[&[2, 3], &[4]],
         kept: &[],
+        jobs: &[],
         fails: Some(Check::Order),
     },
     Case {
@@ -107,6 +132,7 @@ static CASES: [Case; 21] = [
         stands: &[],
         lists: &[&[2, 2, 3]],
         kept: &[],
+        jobs: &[],
         fails: Some(Check::Order),
     },
     Case {
@@ -116,6 +142,7 @@ static CASES: [Case; 21] = [
         stands: &[],
         lists: &[&[2], &[4, 3]],
         kept: &[],
+        jobs: &[],
         fails: Some(Check::Order),
     },
     Case {
@@ -125,6 +152,7 @@ static CASES: [Case; 21] = [
         stands: &[],
         lists: &[&[2, 3], &[3]],
         kept: &[],
+        jobs: &[],
         fails: Some(Check::Total),
     },
     Case {
@@ -134,6 +162,7 @@ static CASES: [Case; 21] = [
         stands: &[3],
         lists: &[&[2], &[3]],
         kept: &[],
+        jobs: &[],
         fails: Some(Check::Total),
     },
     Case {
@@ -143,6 +172,7 @@ static CASES: [Case; 21] = [
         stands: &[4],
         lists: &[&[2], &[4]],
         kept: &[],
+        jobs: &[],
         fails: Some(Check::Total),
     },
     Case {
@@ -152,6 +182,7 @@ static CASES: [Case; 21] = [
         stands: &[],
         lists: &[&[2], &[3]],
         kept: &[],
+        jobs: &[],
         fails: Some(Check::Rest),
     },
     Case {
@@ -161,6 +192,7 @@ static CASES: [Case; 21] = [
         stands: &[2],
         lists: &[&[2]],
         kept: &[],
+        jobs: &[],
         fails: Some(Check::Rest),
     },
     Case {
@@ -170,6 +202,7 @@ static CASES: [Case; 21] = [
         stands: &[],
         lists: &[&[2]],
         kept: &[],
+        jobs: &[],
         fails: Some(Check::Rest),
     },
     Case {
@@ -179,6 +212,7 @@ static CASES: [Case; 21] = [
         stands: &[],
         lists: &[&[2, 4], &[3]],
         kept: &[&[4, 2], &[3]],
+        jobs: &[],
         fails: None,
     },
     Case {
@@ -188,6 +222,7 @@ static CASES: [Case; 21] = [
         stands: &[],
         lists: &[&[2, 3]],
         kept: &[&[2], &[3, 5]],
+        jobs: &[],
         fails: Some(Check::Reports),
     },
     Case {
@@ -197,6 +232,7 @@ static CASES: [Case; 21] = [
         stands: &[],
         lists: &[&[]],
         kept: &[&[], &[7], &[8]],
+        jobs: &[],
         fails: Some(Check::Reports),
     },
     Case {
@@ -206,7 +242,71 @@ static CASES: [Case; 21] = [
         stands: &[3],
         lists: &[&[2]],
         kept: &[&[3], &[9]],
+        jobs: &[],
         fails: Some(Check::Rest),
+    },
+    Case {
+        name: "a job that ran, one that was taken out, and one that ran by hand",
+        enqueued: &[2],
+        taken: &[2],
+        stands: &[],
+        lists: &[&[2]],
+        kept: &[],
+        jobs: &[RAN, NEVER, RAN],
+        fails: None,
+    },
+    Case {
+        name: "a job that never ran",
+        enqueued: &[],
+        taken: &[],
+        stands: &[],
+        lists: &[],
+        kept: &[],
+        jobs: &[RAN, JobFate { runs: 0, ..RAN }],
+        fails: Some(Check::Jobs),
+    },
+    Case {
+        name: "a job that ran twice",
+        enqueued: &[],
+        taken: &[],
+        stands: &[],
+        lists: &[],
+        kept: &[],
+        jobs: &[NEVER, RAN, JobFate { runs: 2, ..RAN }, RAN],
+        fails: Some(Check::Jobs),
+    },
+    Case {
+        name: "a job that ran while its object lived",
+        enqueued: &[],
+        taken: &[],
+        stands: &[],
+        lists: &[],
+        kept: &[],
+        jobs: &[JobFate {
+            is_early: true,
+            ..RAN
+        }],
+        fails: Some(Check::Jobs),
+    },
+    Case {
+        name: "a job that was taken out, and ran",
+        enqueued: &[],
+        taken: &[],
+        stands: &[],
+        lists: &[],
+        kept: &[],
+        jobs: &[NEVER, JobFate { runs: 1, ..NEVER }],
+        fails: Some(Check::Jobs),
+    },
+    Case {
+        name: "a job that never ran, and no report",
+        enqueued: &[],
+        taken: &[],
+        stands: &[],
+        lists: &[],
+        kept: &[&[7]],
+        jobs: &[JobFate { runs: 0, ..RAN }],
+        fails: Some(Check::Reports),
     },
 ];
 
@@ -240,6 +340,7 @@ fn checked<A: Allocator + Copy>(
         stands.as_slice(),
         lists.as_slice(),
         kept.as_slice(),
+        case.jobs,
     ))
 }
 
@@ -309,6 +410,7 @@ fn each_check_prints_as_its_name(rt: HostRuntime) -> Result<(), Fail> {
         (Check::Total, "total"),
         (Check::Rest, "rest"),
         (Check::Reports, "reports"),
+        (Check::Jobs, "jobs"),
     ];
     for (check, name) in names {
         assert_eq!(rt; format!(in rt.alloc(); "{check}")?.as_str(), name);
@@ -317,7 +419,7 @@ fn each_check_prints_as_its_name(rt: HostRuntime) -> Result<(), Fail> {
 }
 
 /// What shows that a case fails, by the case's place in the table.
-const SHOWN: [(usize, &str); 15] = [
+const SHOWN: [(usize, &str); 20] = [
     (0, "2 was put in at 0 and at 1"),
     (1, "poller 0 took 2 behind 3"),
     (2, "no poller took 3"),
@@ -333,6 +435,11 @@ const SHOWN: [(usize, &str); 15] = [
     (18, "no report of 5"),
     (19, "no report of 7"),
     (20, "3 stands"),
+    (22, "job 1 never ran"),
+    (23, "job 2 ran 2 times"),
+    (24, "job 0 ran while its object lived"),
+    (25, "job 1 ran, and was not to"),
+    (26, "no report of 7"),
 ];
 
 /// What is told to show that a check of this case fails.
@@ -343,6 +450,7 @@ fn shown_in(alloc: Global, case: &Case) -> Result<String, Fail> {
         stands: objects(alloc, case.stands)?,
         pollers: objects_of_each(alloc, case.lists)?,
         kept: objects_of_each(alloc, case.kept)?,
+        jobs: case.jobs.iter().copied().collect(alloc)?,
     };
     let shown = match lists.check(alloc)? {
         Some(check) => lists.evidence(check),

@@ -50,8 +50,9 @@ fn the_counts_of_a_stress_run_print_in_one_line(rt: HostRuntime) -> Result<(), F
         handed: 6,
         polled: 5,
         moves: 2,
+        jobs: 8,
     };
-    let line = "7 rounds, 4 cycles, 1 urgent, 3 notices, 6 and 5 batches, 2 moves";
+    let line = "7 rounds, 4 cycles, 1 urgent, 3 notices, 6 and 5 batches, 2 moves, 8 jobs";
     let table = [(counts, line)];
     agree(&rt, rt.alloc(), &table)
 }

@@ -35,6 +35,7 @@ const NOTHING_DONE: Counts = Counts {
     handed: 0,
     polled: 0,
     moves: 0,
+    jobs: 0,
 };
 
 /// Runs with too many threads, or too few, of a kind.
@@ -87,6 +88,8 @@ fn the_lists_of_a_run_pass_each_check(rt: HostRuntime) -> Result<(), Fail> {
         assert_eq!(rt; counts.rounds, rounds);
         // The last cycle is urgent.
         assert!(rt; counts.urgent > 0 && counts.cycles > 0, "{counts}");
+        // The first job of each mutator is neither run by hand nor taken out.
+        assert!(rt; counts.jobs >= u64::from(options.mutators), "{counts}");
         // Each round makes two objects. Where all fit into one page nothing moves, since there is no other with few.
         assert!(rt; rounds > 32 || counts.moves == 0, "{counts}");
     }
@@ -103,7 +106,7 @@ fn a_run_that_is_stopped_begins_no_round(rt: HostRuntime) -> Result<(), Fail> {
         let tally = Tally::new();
         tally.stop();
         assert_eq!(rt; stress(&rt, rt.alloc(), endless, &tally), Ok(None));
-        assert_eq!(rt; tally.counts().rounds, 0);
+        assert_eq!(rt; (tally.counts().rounds, tally.counts().jobs), (0, 0));
     }
     Ok(())
 }

@@ -83,7 +83,7 @@ pub fn a_failed_read_is_marked<R: Read>(source: &mut FromReader<R>) -> bool
 pub fn what_stands_is_told(number: ObjNo, lists: &[Vec<ObjNo>]) -> bool
     ensures { result ≡ true }
 {
-    evidence_of(Check::Rest, &[], &[], &[number], lists, &[]).is_some()
+    evidence_of(Check::Rest, &[], &[], &[number], lists, &[], &[]).is_some()
 }
 
 #[test]

@@ -40,6 +40,17 @@ returns-then-not-branch-3-clause-answer g c = (
   fails c.in_ok-are_put_in.ensures.answer c.if-not-branch-3.true,
 )
 
+pub returns-then-not-are_well-clause-answer : goal.returns-then-not-are_well-clause-answer
+returns-then-not-are_well-clause-answer g c = (
+  passes c.in_ok-are_distinct.ensures.answer c.if-not-branch.false,
+  (in_order (λ v. v.items) c.args.enqueued.now c.args.lists.now).0
+      (passes c.are_in_order.ensures c.if-not-are_in_order.false),
+  passes c.in_ok-gives_each_once.ensures.answer c.if-not-branch-2.false,
+  (is_nil _ c.if-not-is_empty.ensures, lists_same _ _ c.if-ne.ensures),
+  passes c.in_ok-are_put_in.ensures.answer c.if-not-branch-3.false,
+  fails c.are_well.ensures c.if-not-are_well.true,
+)
+
 pub returns-clause-answer : goal.returns-clause-answer
 returns-clause-answer g c = (
   passes c.in_ok-are_distinct.ensures.answer c.if-not-branch.false,
@@ -48,4 +59,5 @@ returns-clause-answer g c = (
   passes c.in_ok-gives_each_once.ensures.answer c.if-not-branch-2.false,
   (is_nil _ c.if-not-is_empty.ensures, lists_same _ _ c.if-ne.ensures),
   passes c.in_ok-are_put_in.ensures.answer c.if-not-branch-3.false,
+  passes c.are_well.ensures c.if-not-are_well.false,
 )

@@ -1,5 +1,0 @@
-use Rattle.refrun.proofs.Common.{StaysSeated}
-use Rattle.refrun.proofs.roles.Station.end_last.Given as goal
-
-abbrev pub invariant-loop : goal.invariant-loop
-invariant-loop g l = StaysSeated l.initial.self l.self

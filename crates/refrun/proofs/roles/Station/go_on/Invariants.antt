@@ -1,5 +1,0 @@
-use Rattle.refrun.proofs.Common.{StaysSeated}
-use Rattle.refrun.proofs.roles.Station.go_on.Given as goal
-
-abbrev pub invariant-loop-number : goal.invariant-loop-number
-invariant-loop-number g l = StaysSeated l.initial.self l.self

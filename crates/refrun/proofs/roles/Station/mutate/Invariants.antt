@@ -1,6 +1,0 @@
-use Rattle.refrun.proofs.Common.{StaysSeated}
-use Rattle.refrun.proofs.roles.Station.mutate.Given as goal
-
-abbrev pub invariant-loop-round : goal.invariant-loop-round
-invariant-loop-round g l =
-    StaysSeated l.initial.self l.self

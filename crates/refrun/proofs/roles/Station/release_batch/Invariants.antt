@@ -1,8 +1,0 @@
-use Rattle.refrun.proofs.Common.{StaysSeated, length}
-use Rattle.refrun.proofs.roles.Station.release_batch.Given as goal
-
-abbrev pub invariant-loop-notice : goal.invariant-loop-notice
-invariant-loop-notice g l = StaysSeated l.initial.self l.self
-
-abbrev pub decreases-loop-notice : goal.decreases-loop-notice
-decreases-loop-notice g l = length l.batch
