@@ -46,12 +46,6 @@ pub got_renewed : (h : Heap) (m d s n : ℕ) (value : Option ℕ) → slot_at h 
 got_renewed h m d s n None held = refl
 got_renewed h m d s n (Some value) held = grind arith
 
-pub got_unrenewed : (h : Heap) (m d s n : ℕ) (r : Reference) (value : Option ℕ) → slot_at h m s ≡ Some n
-    → reference_at h n ≡ Some r → is_soft r.strength ≡ false → with_slot h m d value ≡ got h m d s value
-got_unrenewed h m d s n r value held found other =
-    ap (λ (g : Heap). with_slot g m d value) (unstamped_renewed h n r value found other)
-    ∙ got_renewed h m d s n value held
-
 -- it refers to what it did
 changed_referent : (os : List Object) (n : ℕ) (f : Reference → Reference)
     → ((r : Reference) → (f r).referent ≡ r.referent)

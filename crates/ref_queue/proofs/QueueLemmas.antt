@@ -1,8 +1,7 @@
 -- What a queue's fields say of the lists that its contracts see.
-use Rattle.std.proofs.Common.{◌≡◌, ℕ, Bool, true, false, refl, ap, ap₂, sym, ◌∙◌, arith, List, [], ◌∷◌, ◌++◌, length}
+use Rattle.std.proofs.Common.{◌≡◌, ℕ, Bool, true, false, refl, ap, sym, ◌∙◌, arith, List, [], ◌∷◌, ◌++◌, length}
 use Rattle.std.proofs.Common.{map, append_assoc, length-append}
 use Rattle.std.proofs.lemmas.List.{take_at, length-map}
-use Rattle.ref_base.specs.Members.{has}
 use Rattle.ref_queue.specs.QueueViews.{front, seen_queue, IsSoundQueue}
 use Rattle.ref_queue.specs.QueueAnswers.{AnswersPoll}
 use Rattle.ref_queue.specs.declared.queue.Polled.TheVariants.{Took, Empty, Closed}
@@ -30,12 +29,6 @@ module _ {T : Type 0} (object_of : T → ℕ) where
 
 module _ {T : Type 0} {object_of queue_of : T → ℕ} {queue : ℕ} {ns : List ℕ} {xs : List T}
     (sound : IsSoundQueue object_of queue_of queue ns xs) where
-  -- whether its number is among those that came says whether it was ever put in
-  pub was_put-came : (x : T) {object : ℕ} {b : Bool} → object ≡ object_of x → has ns object ≡ b
-      → has (front ns xs ++ map object_of xs) (object_of x) ≡ b
-  was_put-came x {object} {b} of came =
-      ap₂ (λ (ms : List ℕ) n. has ms n) sound.order (sym of) ∙ came
-
   module _ {closed : Bool} {rest : List T} where
     -- a poll where something stands
     pub Polls-Took : {x : T} → xs ≡ x ∷ rest

@@ -1,13 +1,24 @@
 -- What the calls of a reference queue answer, and what they leave.
-use Rattle.std.specs.Prelude.{◌≡◌, ℕ, true, false, [], ◌∷◌, length, Result, Ok, Err}
+use Rattle.std.specs.Prelude.{◌≡◌, ℕ, Bool, true, false, List, [], ◌∷◌, ◌++◌, length, Result, Ok, Err}
 use Rattle.ref_base.specs.declared.fault.Fault.{Fault}
 use Rattle.ref_base.specs.declared.fault.Fault.TheVariants.{WrongQueue, NoMemory}
 use Rattle.ref_queue.specs.declared.queue.Put.{Put}
 use Rattle.ref_queue.specs.declared.queue.Put.TheVariants.{Added, Already, Closed}
 use Rattle.ref_queue.specs.declared.queue.Polled.{Polled}
 use Rattle.ref_queue.specs.declared.queue.Polled.TheVariants.{Took, Empty, Closed as Ended}
+use Rattle.ref_base.specs.declared.out.Done.{Done}
+use Rattle.ref_base.specs.declared.out.Done.TheVariants as done
+use Rattle.ref_base.specs.Members.{has}
 use Rattle.ref_base.specs.QueueBatches.{MayGoIn}
 use Rattle.ref_base.specs.QueueLists.{Lists, enqueued, was_put, with_parcel, with_taken}
+
+-- when this becomes of an item of number n, where these numbers came before and those came after it
+abbrev pub Admits : List ℕ → Bool → ℕ → Done → List ℕ → Type 0
+Admits came closed n done.Added after = (has came n ≡ false) × (closed ≡ false) × (after ≡ came ++ n ∷ [])
+Admits came closed n done.Already after = (has came n ≡ true) × (after ≡ came)
+Admits came closed n done.Closed after = (has came n ≡ false) × (closed ≡ true) × (after ≡ came)
+Admits came closed n (done.Refused fault) after =
+    (fault ≡ NoMemory) × (has came n ≡ false) × (closed ≡ false) × (after ≡ came)
 
 module _ {T : Type 0} (object_of queue_of : T → ℕ) (q : Lists T) (x : T) where
   -- x is for this queue

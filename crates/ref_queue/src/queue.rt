@@ -1,6 +1,9 @@
 //! The queue, and what its calls answer.
 
 ghost use Rattle.std.specs.Prelude.{◌≡◌, ◌+◌, ◌≤◌, ◌<◌, ◌++◌, [], length, map, not, nat_eq, true, false, IfOk, OnErr};
+ghost use Rattle.std.specs.VecDeque.{deque_len, deque_capacity};
+ghost use Rattle.ref_base.specs.declared.out.Done.TheVariants.{Added};
+ghost use Rattle.ref_queue.specs.QueueAnswers.{Admits};
 
 use crate::enqueued::Enqueued;
 use ref_base::{Batch, Done, Fault, Nos, ObjNo, Outs, Parcel, QueueNo};
@@ -102,47 +105,21 @@ impl<T: Parcel, A: Allocator + Copy> Queue<T, A> {
         if parcel.queue() != self.queue {
             return Err((Fault::WrongQueue, parcel));
         }
-        if self.is_closed || self.standing.len() == self.standing.capacity() {
-            return self.put_without_room(parcel);
-        }
-        // There is room for the parcel, so its number is looked for once.
         let position = self.enqueued.len() as u64;
-        match self.enqueued.insert(parcel.obj()) {
-            Ok(true) => {
+        let number = parcel.obj();
+        match admit(
+            &mut self.enqueued,
+            &mut self.standing,
+            self.is_closed,
+            number,
+        ) {
+            Done::Added => {
                 self.standing.push_back_reserved(parcel);
                 Ok(Put::Added(position))
             }
-            Ok(false) => Ok(Put::Already(parcel)),
-            Err(_) => Err((Fault::NoMemory, parcel)),
-        }
-    }
-
-    // Puts in an item for this queue, where the queue is closed or has no room for the item yet. Never compiled into
-    // its callers.
-    #[inline(never)]
-    fn put_without_room(&mut self, item: T) -> Result<Put<T>, (Fault, T)>
-        requires { T.queue_of item ≡ self.old.queue }
-        ensures answer { AnswersPut T.object_of T.queue_of self.old item result }
-        ensures after { self.new ≡ after_put T.object_of T.queue_of self.old item result }
-    {
-        let object = item.obj();
-        if self.enqueued.contains(object) {
-            return Ok(Put::Already(item));
-        }
-        if self.is_closed {
-            return Ok(Put::Closed(item));
-        }
-        // The room comes first, so that what follows the insert can't fail.
-        if self.standing.reserve(1).is_err() {
-            return Err((Fault::NoMemory, item));
-        }
-        let position = self.enqueued.len() as u64;
-        match self.enqueued.insert(object) {
-            Ok(_new) => {
-                self.standing.push_back_reserved(item);
-                Ok(Put::Added(position))
-            }
-            Err(_) => Err((Fault::NoMemory, item)),
+            Done::Already => Ok(Put::Already(parcel)),
+            Done::Closed => Ok(Put::Closed(parcel)),
+            Done::Refused(fault) => Err((fault, parcel)),
         }
     }
 
@@ -216,21 +193,19 @@ impl<T: Parcel, A: Allocator + Copy> Queue<T, A> {
         ensures after { self.new ≡ after_one self.old item result }
         ensures back { batch.new ≡ batch.old ++ come_back item result }
     {
-        match self.put(item) {
-            Ok(Put::Added(_position)) => Done::Added,
-            Ok(Put::Already(item)) => {
-                batch.push(item);
-                Done::Already
-            }
-            Ok(Put::Closed(item)) => {
-                batch.push(item);
-                Done::Closed
-            }
-            Err((fault, item)) => {
-                batch.push(item);
-                Done::Refused(fault)
-            }
+        let number = item.obj();
+        let done = admit(
+            &mut self.enqueued,
+            &mut self.standing,
+            self.is_closed,
+            number,
+        );
+        if done.is_added() {
+            self.standing.push_back_reserved(item);
+        } else {
+            batch.push(item);
         }
+        done
     }
 
     /// Takes the first that stand, at most so many, into a batch, behind what is in it. In time of what is taken. Takes
@@ -302,6 +277,58 @@ impl<T: Parcel, A: Allocator + Copy> Queue<T, A> {
     {
         let Queue { standing, .. } = self;
         standing
+    }
+}
+
+// What becomes of an item of this queue that has this number. Where it is `Added`, its number stands last among those
+// that were put in, and there is room for the item, which the caller pushes.
+#[inline(always)]
+fn admit<T, A: Allocator + Copy>(
+    enqueued: &mut Enqueued<A>,
+    standing: &mut VecDeque<T, A>,
+    is_closed: bool,
+    number: ObjNo,
+) -> Done
+    ensures admits { Admits enqueued.old is_closed number result enqueued.new }
+    ensures stands { standing.new.items ≡ standing.old.items }
+    ensures room { result ≡ Added → deque_len standing.new < deque_capacity standing.new }
+{
+    if is_closed || standing.len() == standing.capacity() {
+        return admit_without_room(enqueued, standing, is_closed, number);
+    }
+    // There is room for the item, so its number is looked for once.
+    match enqueued.insert(number) {
+        Ok(true) => Done::Added,
+        Ok(false) => Done::Already,
+        Err(_) => Done::Refused(Fault::NoMemory),
+    }
+}
+
+// As `admit`, where the queue is closed or has no room for the item yet. Never compiled into its callers.
+#[inline(never)]
+fn admit_without_room<T, A: Allocator + Copy>(
+    enqueued: &mut Enqueued<A>,
+    standing: &mut VecDeque<T, A>,
+    is_closed: bool,
+    number: ObjNo,
+) -> Done
+    ensures admits { Admits enqueued.old is_closed number result enqueued.new }
+    ensures stands { standing.new.items ≡ standing.old.items }
+    ensures room { result ≡ Added → deque_len standing.new < deque_capacity standing.new }
+{
+    if enqueued.contains(number) {
+        return Done::Already;
+    }
+    if is_closed {
+        return Done::Closed;
+    }
+    // The room comes first, so that what follows the insert can't fail.
+    if standing.reserve(1).is_err() {
+        return Done::Refused(Fault::NoMemory);
+    }
+    match enqueued.insert(number) {
+        Ok(_new) => Done::Added,
+        Err(_) => Done::Refused(Fault::NoMemory),
     }
 }
 

@@ -66,4 +66,4 @@ pub use Rattle.refrun.specs.declared.station.Shared.{Shared}
 pub use Rattle.refrun.specs.declared.script_step.ScriptReply.{ScriptReply}
 pub use Rattle.refrun.specs.declared.script_step.ScriptRow.{ScriptRow}
 pub use Rattle.refrun.specs.declared.script_step.ScriptStep.{ScriptStep}
-pub use Rattle.refrun.specs.declared.threads.Job.{Job}
+pub use Rattle.refrun.specs.declared.threads.task.Task.{Task}

@@ -4,7 +4,7 @@ use Rattle.std.proofs.Crossing.{crosses}
 use Rattle.ref_share.proofs.Crossing.{shared}
 use Rattle.refrun.specs.contracts.station.Shared.{the_row as shared_row}
 use Rattle.refrun.specs.contracts.tally.Tally.{the_row as tally_row}
-use Rattle.refrun.specs.contracts.threads.Left.{the_row as left_row}
+use Rattle.refrun.specs.contracts.threads.task.Left.{the_row as left_row}
 
 pub shared_sync : IsSync shared_row
 shared_sync = search (shared, crosses, sendable) depth 60 fits 20000

@@ -6,8 +6,8 @@ use Rattle.ref_share.specs.QueueSeats.{IsQueueSeat}
 use Rattle.refrun.specs.CleaningSeats.{IsCleanSeated}
 use Rattle.refrun.specs.declared.station.Shared.{Shared}
 use Rattle.refrun.specs.declared.station.Station.{Station}
-use Rattle.refrun.specs.declared.threads.Job.{Job}
-use Rattle.refrun.specs.declared.threads.Left.{Left}
+use Rattle.refrun.specs.declared.threads.task.Task.{Task}
+use Rattle.refrun.specs.declared.threads.task.Left.{Left}
 
 -- a thread's seats are those of the heap and the queue that it works with
 abbrev pub IsSeated : Station → Type 0
@@ -23,6 +23,6 @@ IsLeftAt shared left = IsHeapSeat shared.heap left.heap_seat × IsQueueSeat shar
 
 module _ {X : Type 0} {F : X → Type 0} {g : Mut ((x : X) × F x) (ℕ × Unit {0}) ℕ} where
   -- what a thread is given are seats of these, and of the jobs' heap and cleaner that it works with
-  abbrev pub IsSeatedAt : Shared → Job X F g → Type 0
-  IsSeatedAt shared job =
-      IsHeapSeat shared.heap job.heap_seat × IsQueueSeat shared.queue job.queue_seat × IsCleanSeated job.cleaning
+  abbrev pub IsSeatedAt : Shared → Task X F g → Type 0
+  IsSeatedAt shared task =
+      IsHeapSeat shared.heap task.heap_seat × IsQueueSeat shared.queue task.queue_seat × IsCleanSeated task.cleaning

@@ -1,3 +1,4 @@
+pub mod DeliveryUses
 pub mod HeapUses
 pub mod LoopUses
 pub mod QueueUses

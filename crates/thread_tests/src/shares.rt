@@ -20,7 +20,7 @@ pub mod calls;
 pub mod cleaners;
 mod cycles;
 mod last_turns;
-mod many_queues;
+pub mod many_queues;
 mod memory;
 mod printed;
 mod refusals;

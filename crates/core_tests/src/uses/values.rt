@@ -2,8 +2,8 @@
 
 ghost use Rattle.std.specs.Prelude.{◌≡◌, true};
 
-use ref_base::{Config, Fault, ObjNo, Reply, SpanRule};
-use ref_space::keeps;
+use ref_base::{Config, Fault, ObjNo, Reply, SpanRule, Urgency};
+use ref_space::{keeps, policy_from};
 use std::alloc::Global;
 
 // promise: keeps: a stamp that lies the whole span behind the clock is kept
@@ -12,6 +12,22 @@ fn keeps_at_the_whole_span() -> bool
     ensures { result ≡ true }
 {
     keeps(10, 0, 10)
+}
+
+// promise: policy_from, scaled: a scaled span is one by the free cells, rounded down
+/// With one of four cells free a scaled span of 10 is 2.
+fn span_with_a_quarter_free() -> u64
+    ensures { result ≡ 2 }
+{
+    let config = Config {
+        mutators: 1,
+        workers: 1,
+        queues: 1,
+        cells: 4,
+        span: 10,
+        rule: SpanRule::Scaled,
+    };
+    policy_from(config, 1, 0, Urgency::Normal).span
 }
 
 // promise: Config::check: eight mutators at most
@@ -54,6 +70,10 @@ fn a_reply_prints_each_word(alloc: Global) -> bool
 fn what_callers_of_values_see(rt: HostRuntime) {
     let facts = [
         ("the whole span is kept", keeps_at_the_whole_span()),
+        (
+            "a span is scaled by what is free",
+            span_with_a_quarter_free() == 2,
+        ),
         ("nine mutators are too many", nine_mutators_are_too_many()),
         ("a full hand is fault 23", a_full_hand_is_fault_23()),
         (

@@ -82,14 +82,9 @@ impl<A: Allocator + Copy> Objects<A> {
         let value = self.gets(read, reference, hide_unmarked);
         // The prover takes an Option that is passed on by value as spent.
         let (renewing, putting, answer) = (value, value, value);
-        if is_soft(reference.strength) {
-            // First, since the slot that is written may be the one that is read.
-            self.renew(read, no, reference, renewing);
-            self.put_got(place, read, putting);
-        } else {
-            // Apart, so that nothing is written before it: what was read is known still.
-            self.put_got(place, read, putting);
-        }
+        // First, since the slot that is written may be the one that is read.
+        self.renew(read, no, reference, renewing);
+        self.put_got(place, read, putting);
         Ok(answer)
     }
 
@@ -153,17 +148,16 @@ impl<A: Allocator + Copy> Objects<A> {
         self.table.refers_to_unmarked_in(place)
     }
 
-    // Stamps the soft reference `no`, which the slot at this place holds, with the clock, if a get of it answers an
-    // object: that is `value`.
+    // Stamps the reference `no`, which the slot at this place holds, with the clock, if it is soft and a get of it
+    // answers an object: that is `value`.
     #[inline(always)]
     fn renew(&mut self, place: usize, no: ObjNo, reference: Reference, value: Option<ObjNo>)
         requires place { place < length self.old.heap.slots }
         requires own { slice_index_or self.old.heap.slots place None ≡ Some no }
         requires read { reference_at self.old.heap no ≡ Some reference }
-        requires soft { is_soft reference.strength ≡ true }
         ensures { self.new ≡ ground_with_heap self.old (renewed self.old.heap no value) }
     {
-        if value.is_some() {
+        if is_soft(reference.strength) && value.is_some() {
             let clock = self.clock;
             self.write_in(place, no, Change::Stamp(clock));
         }

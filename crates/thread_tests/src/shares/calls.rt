@@ -262,7 +262,7 @@ pub fn replied<A: Allocator>(answer: Result<HeapAnswer<A>, TurnFault<HeapCall<A>
 }
 
 /// Gives up a batch and its notices.
-fn given_up<A: Allocator>(mut batch: Batch<Notice, A>) {
+pub fn given_up<A: Allocator>(mut batch: Batch<Notice, A>) {
     while let Some(notice) = batch.take_first() {
         notice.into_hold().leak();
     }

@@ -127,7 +127,7 @@ fn slot_of(queue: u32, queues: u32) -> u32
 
 /// Worker 0 finds the object dead, and clears the references in the order of their slots: that of the last queue, and
 /// then the others.
-fn find_dead<R: Abort>(rt: &R, heap: &SharedHeap, seat: &mut HeapSeat, queues: u32)
+pub fn find_dead<R: Abort>(rt: &R, heap: &SharedHeap, seat: &mut HeapSeat, queues: u32)
     requires seat { IsHeapSeat heap.now seat.old }
     requires queues { 0 < queues × queues ≤ 16 }
     ensures { IsHeapSeat heap.now seat.new }

@@ -173,6 +173,26 @@ fn is_open_once_closed<R: Wait>(rt: &R, queue: SharedQueue, mut seat: QueueSeat)
     }
 }
 
+// promise: SharedQueue::finish: an open queue is given back open
+/// A queue that had no turn, so that nobody has closed it, is given back open.
+fn is_open_without_a_turn(queue: SharedQueue, seat: QueueSeat) -> Option<bool>
+    requires seat { IsQueueSeat queue seat }
+    requires none { (queue_view seat).first ≡ 2 ^ 64 - 1 }
+    ensures { IfSome result (λ is_open. is_open ≡ true) }
+{
+    match queue.finish(seat) {
+        Ok(mut left) => {
+            let is_open = left.close();
+            end_queue(Ok(left));
+            Some(is_open)
+        }
+        Err(left) => {
+            end_queue(Err(left));
+            None
+        }
+    }
+}
+
 #[test]
 fn a_queue_that_was_closed_stays_so(rt: HostRuntime) -> Result<(), Fail> {
     let (queue, mut seat) = SharedQueue::new(rt.alloc(), Q)?;
@@ -194,6 +214,13 @@ fn a_queue_that_was_closed_stays_so(rt: HostRuntime) -> Result<(), Fail> {
     ] {
         assert!(rt; holds, "{fact}");
     }
+    Ok(())
+}
+
+#[test]
+fn a_queue_that_was_not_closed_is_open(rt: HostRuntime) -> Result<(), Fail> {
+    let (queue, seat) = SharedQueue::starting(rt.alloc(), Q, u64::MAX)?;
+    assert!(rt; is_open_without_a_turn(queue, seat) == Some(true));
     Ok(())
 }
 

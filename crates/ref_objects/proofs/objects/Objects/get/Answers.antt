@@ -1,6 +1,5 @@
 use Rattle.ref_objects.proofs.Common.{arith}
-use Rattle.ref_objects.proofs.GotLemmas.{got_renewed, got_unrenewed, still_refers}
-use Rattle.ref_objects.proofs.objects.Objects.get.Goals.{then-is_soft, else-is_soft}
+use Rattle.ref_objects.proofs.GotLemmas.{got_renewed, still_refers}
 use Rattle.ref_objects.proofs.objects.Objects.get.Goals as goal
 
 pub put_got-requires-clause-read : goal.put_got-requires-clause-read
@@ -10,8 +9,4 @@ put_got-requires-clause-read g c =
     c.gets-value.result (grind arith) c.in_ok-no.ensures.answer.1 c.gets-value.ensures is)
 
 pub returns-clause-after : goal.returns-clause-after
-returns-clause-after g c =
-    elim c.if-is_soft.branch [
-      | then-is_soft w ↦ grind (arith, got_renewed)
-      | else-is_soft w ↦ grind (arith, got_unrenewed)
-    ]
+returns-clause-after g c = grind (arith, got_renewed)
