@@ -6,9 +6,10 @@ ghost use Rattle.std.specs.Prelude.{◌≡◌};
 ghost use Rattle.ref_share.specs.CleanedHeaps.{HasSeats};
 
 use anyhow::Error;
-use ref_base::{Config, Reply, SlotNo, SpanRule, Strength, Urgency};
+use ref_base::{Batch, Config, Reply, SlotNo, SpanRule, Strength, Urgency};
 use ref_queue::{Action, Job, Ran};
-use ref_share::{Cleanable, CleanedHeap, Gate};
+use ref_share::{Cleanable, CleanedHeap, Gate, end_batch};
+use std::alloc::Global;
 use std::collections::VecDeque;
 use std::fs::File;
 use std::sync::Wait;
@@ -58,7 +59,7 @@ fn main(rt: HostRuntime) -> Result<(), Error> {
         jobs.push_back(Job::new(key, key, action))?;
     }
     let mut heap = CleanedHeap::new(rt.alloc(), CONFIG)?;
-    let used = use_cache(&rt, &mut heap, jobs);
+    let used = use_cache(&rt, rt.alloc(), &mut heap, jobs);
     heap.end();
     used
 }
@@ -67,6 +68,7 @@ fn main(rt: HostRuntime) -> Result<(), Error> {
 /// the files of what a cycle finds dead, and prints which values are left.
 fn use_cache<R: Print + Wait>(
     rt: &R,
+    alloc: Global,
     heap: &mut CleanedHeap,
     jobs: VecDeque<Job>,
 ) -> Result<(), Error>
@@ -77,8 +79,10 @@ fn use_cache<R: Print + Wait>(
     close(rt, heap, first)?;
     heap.empty(rt, SlotNo(1))?;
     heap.empty(rt, SlotNo(3))?;
-    heap.cycle(rt, 0, Urgency::Normal)
-        .map_err(|fault| fault.into_fault())?;
+    let batch = Batch::new(alloc)?;
+    let (cycled, left) = heap.cycle(rt, 0, Urgency::Normal, batch);
+    end_batch(left);
+    cycled.map_err(|fault| fault.into_fault())?;
     heap.clean_some(rt, &Printer { rt })
         .map_err(|fault| fault.into_fault())?;
     tell(rt, heap)

@@ -36,7 +36,7 @@ abbrev clears : HeapEntry
 clears = asked plain.EndClear told.Done
 
 abbrev hands : HeapEntry
-hands = entry 0 (heap.Hand 0) (replies.Told told.Nothing)
+hands = entry 0 (heap.Hands 0 32 []) (replies.Handed told.Nothing [])
 
 abbrev sweeps : HeapEntry
 sweeps = asked (plain.Sweep 0) told.Nothing
@@ -116,15 +116,16 @@ module _ {A : Type 0} (start : Option ClearHeap) (queues : List (SharedQueue A))
     ),
   )
 
-  nothing_is_pending : DeliversAll 0 queues (seat cleared) seats (Ok tt) (seat (cleared ++ hands ∷ [])) seats
-  nothing_is_pending = (0, (seat cleared, seats), refl, (((refl, refl, refl), ([], refl), refl), refl))
+  nothing_is_pending : DeliversAll 0 queues (seat cleared) seats (Ok tt) [] (seat (cleared ++ hands ∷ [])) seats
+  nothing_is_pending = (0, (seat cleared, seats), refl, (((7, refl), ((refl, refl, refl), ([], refl), refl)), refl))
 
-  it_is_a_cycle : Cycles queues 0 5 Normal (seat []) seats (Ok tt) (seat (cleared ++ hands ∷ sweeps ∷ ends ∷ [])) seats
+  it_is_a_cycle : Cycles queues 0 5 Normal (seat []) seats (Ok tt) []
+      (seat (cleared ++ hands ∷ sweeps ∷ ends ∷ [])) seats
   it_is_a_cycle = inl (
-    (seat cleared, seats),
+    (seat cleared, (seats, [])),
     (it_begins_marks_and_clears, refl),
     inl (
-      (seat (cleared ++ hands ∷ []), seats),
+      (seat (cleared ++ hands ∷ []), (seats, [])),
       nothing_is_pending,
       (
         (
@@ -156,7 +157,7 @@ module _ {A : Type 0} (start : Option ClearHeap) (queues : List (SharedQueue A))
       let clocks : 5 ≡ four = cc in
       absurd (omega (arith, clocks))
 
-  it_stops_before_anything_is_done : Cycles queues 0 5 Normal (seat []) seats (Err (Refused WrongPhase))
+  it_stops_before_anything_is_done : Cycles queues 0 5 Normal (seat []) seats (Err (Refused WrongPhase)) []
       (seat (asked (plain.Begin 5 Normal) (told.Refused WrongPhase) ∷ [])) seats
   it_stops_before_anything_is_done = inr (
     Refused WrongPhase,
@@ -170,8 +171,8 @@ module _ {A : Type 0} (start : Option ClearHeap) (queues : List (SharedQueue A))
   -- ---- a want of room
 
   it_is_made_at_once : DoesAfter queues 0 5 (plain.New 0 0 1) (Normal ∷ Urgent ∷ []) (seat []) seats
-      (Ok (told.Object 1)) (seat (asked (plain.New 0 0 1) (told.Object 1) ∷ [])) seats
-  it_is_made_at_once = inl ((refl, ((refl, refl, refl), ([], refl), refl)), (λ is. cc), refl)
+      (Ok (told.Object 1)) [] (seat (asked (plain.New 0 0 1) (told.Object 1) ∷ [])) seats
+  it_is_made_at_once = inl ((refl, ((refl, refl, refl), ([], refl), refl)), (λ is. cc), refl, refl)
 
   -- no cycle came before
   given_up_at_once : (w : HeapView) → ¬ (DoesUnlessFull (plain.New 0 0 1) (seat []) (Err (Refused NoCell)) w)

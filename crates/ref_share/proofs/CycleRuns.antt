@@ -1,8 +1,8 @@
 -- A delivery of all that is pending, and a whole cycle, are a worker's work: nothing but deliveries hands on or puts
 -- in.
-use Rattle.ref_share.proofs.Common.{◌≡◌, ℕ, zero, suc, true, List, Some, Result, Ok, Err, inl, inr, refl, sym}
+use Rattle.ref_share.proofs.Common.{◌≡◌, ℕ, zero, suc, true, List, [], Some, None, Result, Ok, Err, inl, inr, refl, sym}
 use Rattle.ref_share.proofs.Common.{ap, subst, ◌∙◌, slice_get, Fault, Reply, HeapView, QueueSeat, SharedQueue, Works}
-use Rattle.ref_share.proofs.Common.{ShareFault, Nothing, Busy, Notice}
+use Rattle.ref_share.proofs.Common.{ShareFault, Busy, HeldNotice, Notice}
 use Rattle.ref_base.specs.declared.heap_step.HeapStep.TheVariants as heap
 use Rattle.ref_base.specs.declared.plain_step.PlainStep.{PlainStep}
 use Rattle.ref_base.specs.declared.plain_step.PlainStep.TheVariants as plain
@@ -11,10 +11,10 @@ use Rattle.ref_base.specs.declared.urgency.Urgency.{Urgency}
 use Rattle.ref_world.specs.declared.heap_machine.HeapReply.TheVariants as replies
 use Rattle.ref_share.proofs.WorkerRuns.{handed_same}
 use Rattle.ref_share.specs.Cycles.{HasMore, IsLast, GoesThrough, IsBegun, Then, MarksAndClears, Cycles}
-use Rattle.ref_share.specs.Deliveries.{DeliversOne, DeliversAll}
+use Rattle.ref_share.specs.Deliveries.{DeliversSome, DeliversAll}
 use Rattle.ref_share.specs.HeapCalls.{Declined, Performs}
 use Rattle.ref_share.specs.Repeats.{Repeats}
-use Rattle.ref_share.specs.WorkerCalls.{had_turn, notices_handed}
+use Rattle.ref_share.specs.WorkerCalls.{batch_had_turn, notices_handed}
 use Rattle.ref_share.specs.declared.answers.ShareFault.TheVariants.{Refused, Held}
 
 -- ---- steps that hand nothing on
@@ -135,49 +135,55 @@ module _ {A : Type 0} (k : ℕ) (queues : List (SharedQueue A)) where
   )
 
   deliveries_work : (worker count : ℕ) (a b : HeapView × List QueueSeat)
-      → Repeats (DeliversOne worker queues) count a b → Works k queues count a.0 a.1 b.0 b.1
+      → Repeats (DeliversSome worker queues) count a b → Works k queues count a.0 a.1 b.0 b.1
   deliveries_work worker zero a b same = (ap (λ p. p.0) same, ap (λ p. p.1) same)
   deliveries_work worker (suc count) a b more =
       let y = more.0 in
-      let one = more.2 in
-      (y.0, y.1, deliveries_work worker count a y more.1, inl (worker, Ok one.0, refl, one.2))
+      let some = more.2 in
+      (y.0, y.1, deliveries_work worker count a y more.1, inr (inl (worker, 32, Ok (Some some.0), [], refl, some.1)))
 
   pub delivery_of_all_works : (worker : ℕ) (v w : HeapView) (seats after : List QueueSeat)
-      (result : Result (Unit {0}) ShareFault) → DeliversAll worker queues v seats result w after
-      → had_turn result ≡ true → (count : ℕ) × Works k queues count v seats w after
-  delivery_of_all_works worker v w seats after (Ok done) all turn =
+      (result : Result (Unit {0}) ShareFault) (left : List HeldNotice)
+      → DeliversAll worker queues v seats result left w after
+      → batch_had_turn result left ≡ true → (count : ℕ) × Works k queues count v seats w after
+  delivery_of_all_works worker v w seats after (Ok done) left all turn =
       let a = all.1 in
-      (suc all.0, (a.0, a.1, deliveries_work worker all.0 (v, seats) a all.2, inl (worker, Ok Nothing, refl, all.3)))
-  delivery_of_all_works worker v w seats after (Err fault) all turn =
+      let last = inr (inl (worker, 32, Ok None, left, refl, all.3)) in
+      (suc all.0, (a.0, a.1, deliveries_work worker all.0 (v, seats) a all.2, last))
+  delivery_of_all_works worker v w seats after (Err fault) left all turn =
       let a = all.1 in
-      (suc all.0, (a.0, a.1, deliveries_work worker all.0 (v, seats) a all.2, inl (worker, Err fault, turn, all.3)))
+      let last = inr (inl (worker, 32, Err fault, left, turn, all.3)) in
+      (suc all.0, (a.0, a.1, deliveries_work worker all.0 (v, seats) a all.2, last))
 
   pub cycle_works : (worker now : ℕ) (how : Urgency) (v w : HeapView) (seats after : List QueueSeat)
-      (result : Result (Unit {0}) ShareFault) → Cycles queues worker now how v seats result w after
-      → had_turn result ≡ true → (count : ℕ) × Works k queues count v seats w after
-  cycle_works worker now how v w seats after result cycles turn =
+      (result : Result (Unit {0}) ShareFault) (left : List HeldNotice)
+      → Cycles queues worker now how v seats result left w after
+      → batch_had_turn result left ≡ true → (count : ℕ) × Works k queues count v seats w after
+  cycle_works worker now how v w seats after result left cycles turn =
       elim cycles [
         | inl marked ↦
             let y = marked.0 in
-            let front = aside_works v y.0 seats y.1
-            (λ q. mark_hands_nothing k q worker now how v (Ok tt) y.0 marked.1.0) marked.1.1 in
+            let front = aside_works v y.0 seats y.1.0
+            (λ q. mark_hands_nothing k q worker now how v (Ok tt) y.0 marked.1.0) (ap (λ p. p.0) marked.1.1) in
             elim marked.2 [
               | inl delivered ↦
                   let z = delivered.0 in
-                  let all = delivery_of_all_works worker y.0 z.0 y.1 z.1 (Ok tt) delivered.1 refl in
-                  let back = aside_works z.0 w z.1 after
+                  let all = delivery_of_all_works worker y.0 z.0 y.1.0 z.1.0 (Ok tt) z.1.1 delivered.1 refl in
+                  let back = aside_works z.0 w z.1.0 after
                   (λ q. phase_hands_nothing k q (plain.Sweep worker) plain.EndSweep z.0 result w delivered.2.0)
-                  delivered.2.1 in
-                  let middle = works_on 1 v y.0 seats y.1 front all.0 z.0 z.1 all.1 in
-                  works_on middle.0 v z.0 seats z.1 middle.1 1 w after back
+                  (ap (λ p. p.0) delivered.2.1) in
+                  let middle = works_on 1 v y.0 seats y.1.0 front all.0 z.0 z.1.0 all.1 in
+                  works_on middle.0 v z.0 seats z.1.0 middle.1 1 w after back
               | inr stopped ↦
-                  let had = subst (λ (r : Result (Unit {0}) ShareFault). had_turn r ≡ true) stopped.1 turn in
-                  let all = delivery_of_all_works worker y.0 w y.1 after (Err stopped.0) stopped.2 had in
-                  works_on 1 v y.0 seats y.1 front all.0 w after all.1
+                  let had = subst (λ (r : Result (Unit {0}) ShareFault). batch_had_turn r left ≡ true) stopped.1 turn
+                  in
+                  let all = delivery_of_all_works worker y.0 w y.1.0 after (Err stopped.0) left stopped.2 had in
+                  works_on 1 v y.0 seats y.1.0 front all.0 w after all.1
             ]
         | inr stopped ↦ (
           1,
           aside_works v w seats after
-              (λ q. mark_hands_nothing k q worker now how v (Err stopped.0) w stopped.2.0) stopped.2.1,
+              (λ q. mark_hands_nothing k q worker now how v (Err stopped.0) w stopped.2.0)
+              (ap (λ p. p.0) stopped.2.1),
         )
       ]

@@ -58,12 +58,12 @@ second_refused = record { before = 0; done = done.Added ∷ done.Refused NoMemor
 abbrev puts_in : ℕ → (position : ℕ) → QueueEntry
 puts_in n position = entry 0 (queue.Put (notice n)) (answers.Put (Ok (puts.Added position)))
 
--- a hand that gives nothing
-abbrev hand_of : (number : ℕ) → HeapEntry
-hand_of number = entry number (heap.Hand 0) (replies.Told told.Nothing)
+-- a hand of a batch that gives nothing, by the seat of this number, and these are left
+abbrev hand_of : (number : ℕ) → List HeldNotice → HeapEntry
+hand_of number left = entry number (heap.Hands 0 32 []) (replies.Handed told.Nothing left)
 
 abbrev hands_none : HeapEntry
-hands_none = hand_of 0
+hands_none = hand_of 0 []
 
 module _ {A : Type 0} (start : Option ClearHeap) (first second : SharedQueue A) (s t u : QueueSeat) where
   -- the heap's one seat, which has made these calls
@@ -245,20 +245,27 @@ module _ {A : Type 0} (start : Option ClearHeap) (first second : SharedQueue A) 
 
   -- ---- all that is pending
 
-  all_is_delivered : PutsNotice (queue_view t) (notice 2) (Ok (puts.Added 0)) (queue_view u)
-      → DeliversAll 0 queues (seat []) (s ∷ t ∷ []) (Ok tt) (seat (hands 2 ∷ hands_none ∷ [])) (s ∷ u ∷ [])
+  all_is_delivered : PutsBatch (queue_view t) both (Ok both_added) [] (queue_view u)
+      → DeliversAll 0 queues (seat []) (s ∷ t ∷ []) (Ok tt) [] (seat (hands_both ∷ hands_none ∷ [])) (s ∷ u ∷ [])
   all_is_delivered called = (
     1,
-    (seat (hands 2 ∷ []), s ∷ u ∷ []),
-    ((seat [], s ∷ t ∷ []), refl, (Added 2 1 0, (λ is. cc), it_is_delivered called)),
-    (((refl, refl, refl), ([], refl), refl), refl),
+    (seat (hands_both ∷ []), s ∷ u ∷ []),
+    ((seat [], s ∷ t ∷ []), refl, (both_added, both_are_delivered called)),
+    (((7, refl), ((refl, refl, refl), ([], refl), refl)), refl),
   )
 
   -- no hand gave nothing
-  nothing_was_tried : (after : List QueueSeat) → ¬ (DeliversAll 0 queues (seat []) (s ∷ t ∷ []) (Ok tt) (seat []) after)
-  nothing_was_tried after all =
-      let none : [] ≡ (all.1.0).mine ++ hand_of (all.1.0).number ∷ [] = all.3.0.2 in
-      absurd (omega (arith, ap length none, length-append (all.1.0).mine (hand_of (all.1.0).number ∷ [])))
+  nothing_was_tried : (left : List HeldNotice) (after : List QueueSeat)
+      → ¬ (DeliversAll 0 queues (seat []) (s ∷ t ∷ []) (Ok tt) left (seat []) after)
+  nothing_was_tried left after all =
+      let last : HeapEntry = hand_of (all.1.0).number left in
+      let none : [] ≡ (all.1.0).mine ++ last ∷ [] = all.3.0.1.2 in
+      absurd (omega (arith, ap length none, length-append (all.1.0).mine (last ∷ [])))
+
+  -- notices are left though all were delivered
+  some_are_left_behind_all : (w : HeapView) (after : List QueueSeat)
+      → ¬ (DeliversAll 0 queues (seat []) (s ∷ t ∷ []) (Ok tt) both w after)
+  some_are_left_behind_all w after all = let none : both ≡ [] = all.3.0.0.1 in absurd cc
 
   -- ---- a worker's thread
 

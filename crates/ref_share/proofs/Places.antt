@@ -3,11 +3,13 @@ use Rattle.ref_share.proofs.Common.{◌≡◌, ℕ, zero, suc, ◌<◌, List, []
 use Rattle.ref_share.proofs.Common.{ap, sym, subst, ◌∙◌, ◌≢◌, arith, Result, Ok, Err, IfErr, true, slice_get, slice_set}
 use Rattle.ref_share.proofs.Common.{false≢true, Fault, BadQueue, HeldNotice, Put, AreSeats, PutsAt, PutsNotice}
 use Rattle.ref_share.proofs.Common.{IsQueueSeat, queue_view, SharedQueue, QueueSeat}
-use Rattle.std.specs.Prelude.{unwrap_or}
+use Rattle.std.specs.Prelude.{unwrap_or, is_some, false}
 use Rattle.ref_base.specs.Outs.{Outs}
 use Rattle.ref_share.proofs.Common.{None, HoldName, HeapView, ShareFault, Busy, Notice}
 use Rattle.ref_clear.specs.declared.handed.Handed.{Handed}
 use Rattle.ref_share.specs.Deliveries.{PutsBatchAt, GoBack, TellsReleased, SendsBatch, DeliversBatch, refused_in}
+use Rattle.ref_share.specs.Deliveries.{DeliversSome}
+use Rattle.ref_share.proofs.ReleasedRest.{all_back_leaves_none}
 use Rattle.ref_share.specs.HeapCalls.{GivesBatch}
 use Rattle.ref_share.specs.declared.answers.ShareFault.TheVariants.{Refused, Held}
 use Rattle.ref_share.specs.QueueCalls.{PutsBatch, refuses_put}
@@ -100,3 +102,31 @@ module _ {A : Type 0} (queues : List (SharedQueue A)) (seats after : List QueueS
       delivered (Err Busy) sends gives = absurd sends
       delivered (Err (Notice back fault)) sends gives = absurd sends
       delivered (Err (Held hold fault)) sends gives = (handed, batch, u, gives, sends)
+
+  -- a delivery that a fault doesn't stop leaves none
+  pub delivered_leaves_none : (k max : ℕ) (v : HeapView) (answer : Option Outs) (left : List HeldNotice)
+      (w : HeapView) → DeliversBatch k max v queues seats (Ok answer) left w after → left ≡ []
+  delivered_leaves_none k max v None left w delivers = delivers.0.0.1
+  delivered_leaves_none k max v (Some outs) left w delivers =
+      let sends = delivers.4 in all_back_leaves_none sends.0 delivers.2 w left sends.3
+
+  -- one that gave some was one of those before the last
+  pub some_delivered : (k : ℕ) (v : HeapView) (answer : Option Outs) (left : List HeldNotice) (w : HeapView)
+      → is_some answer ≡ true → DeliversBatch k 32 v queues seats (Ok answer) left w after
+      → (left ≡ []) × DeliversSome k queues (v, seats) (w, after)
+  some_delivered k v None left w some delivers = absurd (false≢true some)
+  some_delivered k v (Some outs) left w some delivers =
+      let none = delivered_leaves_none k 32 v (Some outs) left w delivers in (
+        none,
+        (
+          outs,
+          subst (λ (ns : List HeldNotice). DeliversBatch k 32 v queues seats (Ok (Some outs)) ns w after) none delivers,
+        ),
+      )
+
+  -- and one that gave none is the last
+  pub none_delivered : (k : ℕ) (v : HeapView) (answer : Option Outs) (left : List HeldNotice) (w : HeapView)
+      → is_some answer ≡ false → DeliversBatch k 32 v queues seats (Ok answer) left w after
+      → DeliversBatch k 32 v queues seats (Ok None) left w after
+  none_delivered k v None left w none delivers = delivers
+  none_delivered k v (Some outs) left w none delivers = absurd (false≢true (sym none))

@@ -7,6 +7,16 @@ use Rattle.std.specs.Option.{unwrap_or}
 use Rattle.ref_base.specs.Members.{first_of}
 use Rattle.ref_share.specs.Deliveries.{GoBack}
 
+-- where all went back, none is left
+pub all_back_leaves_none : (ns : List HeldNotice) (v w : HeapView) (left : List HeldNotice)
+    → GoBack ns v (Ok tt) left w → left ≡ []
+all_back_leaves_none [] v w left goes = goes.0
+all_back_leaves_none (n ∷ ns) v w left goes =
+    elim goes [
+      | inl more ↦ all_back_leaves_none ns more.0 w left more.2
+      | inr kept ↦ let other : Ok tt ≡ Err kept.0 = kept.1 in absurd cc
+    ]
+
 -- what has a first is that and the rest
 pub first_and_rest : (xs : List HeldNotice) (x : HeldNotice) → first_of xs ≡ Some x → xs ≡ x ∷ drop 1 xs
 first_and_rest [] x is = absurd cc

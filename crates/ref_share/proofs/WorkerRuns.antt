@@ -245,7 +245,7 @@ module _ {A : Type 0} (k q : ℕ) (queues : List (SharedQueue A)) (seats after :
 
   -- one for which no turn was left, where nothing would be left
   batch_unput : (place : ℕ) (batch left : List HeldNotice) (w : HeapView) → AreFor place batch
-      → batch_had_turn (Err (Refused TurnsSpent)) left ≡ true
+      → batch_had_turn {T = Option Outs} (Err (Refused TurnsSpent)) left ≡ true
       → IsBatchPut place batch queues seats (Err TurnsSpent) left after
       → notices_handed k q w.mine ≡ notices_handed k q v.mine ++ worked_notices k q batch
       → notices_put k q (queue_view s).mine ≡ notices_handed k q w.mine
@@ -257,7 +257,7 @@ module _ {A : Type 0} (k q : ℕ) (queues : List (SharedQueue A)) (seats after :
 
   -- one that could not be made, or put nothing in
   batch_refused : (place : ℕ) (batch : List HeldNotice) (fault : Fault) (left : List HeldNotice) (w : HeapView)
-      → AreFor place batch → batch_had_turn (Err (Refused fault)) left ≡ true
+      → AreFor place batch → batch_had_turn {T = Option Outs} (Err (Refused fault)) left ≡ true
       → PutsBatchAt place batch queues seats (Err fault) left after
       → notices_handed k q w.mine ≡ notices_handed k q v.mine ++ worked_notices k q batch
       → notices_put k q (queue_view s).mine ≡ notices_handed k q w.mine
@@ -296,7 +296,7 @@ module _ {A : Type 0} (k q : ℕ) (queues : List (SharedQueue A)) (seats after :
       (all_given_back releases.0 u released left w releases.3 ∙ adds)
 
   refused_sent : (j max : ℕ) (fault : Fault) (left : List HeldNotice) (w : HeapView)
-      → batch_had_turn (Err (Refused fault)) left ≡ true
+      → batch_had_turn {T = Option Outs} (Err (Refused fault)) left ≡ true
       → GivesAndSends j max v queues seats (Err (Refused fault)) left w after
       → notices_put k q (queue_view s).mine ≡ notices_handed k q w.mine
   refused_sent j max fault left w turn d =

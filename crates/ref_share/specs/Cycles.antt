@@ -1,6 +1,7 @@
 -- What one thread calls in a whole cycle of the collector, from one call of its seats to the next, and where it stopped
 -- (a cycle begins, marks, clears and sweeps: JEP 333; the calls are this project's profile).
-use Rattle.std.specs.Prelude.{◌≡◌, ◌≢◌, ℕ, ◌⊎◌, Bool, true, false, List, Result, Ok, Err}
+use Rattle.std.specs.Prelude.{◌≡◌, ◌≢◌, ℕ, ◌⊎◌, Bool, true, false, List, [], Result, Ok, Err}
+use Rattle.ref_base.specs.HeapSteps.{HeldNotice}
 use Rattle.ref_base.specs.declared.fault.Fault.{Fault}
 use Rattle.ref_base.specs.declared.fault.Fault.TheVariants.{GreyLeft, ClearingLeft, SweepLeft}
 use Rattle.ref_base.specs.declared.plain_step.PlainStep.{PlainStep}
@@ -74,13 +75,19 @@ MarksAndClears worker now urgency =
     Then (IsBegun now urgency)
     (Then (GoesThrough (plain.Scan worker) plain.EndMark) (GoesThrough (plain.ClearNext worker) plain.EndClear))
 
+-- what one thread's part of a cycle goes from and to: its seats of the heap and of the queues, and the notices that are
+-- left in its batch
+abbrev pub CycleState : Type 0
+CycleState = HeapView × (List QueueSeat × List HeldNotice)
+
 module _ {A : Type 0} (queues : List (SharedQueue A)) (worker now : ℕ) (urgency : Urgency) where
   -- A cycle: it begins, marks and clears, hands on what is pending of the worker, and sweeps. Where it stops it goes no
-  -- further, and no queue's seat makes a call but in the deliveries.
-  abbrev pub Cycles : HeapView → List QueueSeat → Result (Unit {0}) ShareFault → HeapView → List QueueSeat → Type 0
-  Cycles v seats result w after =
+  -- further, and no queue's seat makes a call but in the deliveries, which alone may leave notices.
+  abbrev pub Cycles : HeapView → List QueueSeat → Result (Unit {0}) ShareFault → List HeldNotice → HeapView
+      → List QueueSeat → Type 0
+  Cycles v seats result left w after =
       Then
-      (λ (a : HeapView × List QueueSeat) answer b. MarksAndClears worker now urgency a.0 answer b.0 × (b.1 ≡ a.1))
-      (Then (λ a answer b. DeliversAll worker queues a.0 a.1 answer b.0 b.1)
+      (λ (a : CycleState) answer b. MarksAndClears worker now urgency a.0 answer b.0 × (b.1 ≡ a.1))
+      (Then (λ a answer b. DeliversAll worker queues a.0 a.1.0 answer b.1.1 b.0 b.1.0)
       (λ a answer b. GoesThrough (plain.Sweep worker) plain.EndSweep a.0 answer b.0 × (b.1 ≡ a.1)))
-      (v, seats) result (w, after)
+      (v, (seats, [])) result (w, (after, left))

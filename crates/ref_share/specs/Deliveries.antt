@@ -1,11 +1,10 @@
 -- From the heap to a queue: which calls `enqueue`, `deliver_one`, `deliver_batch` and `deliver_all` have made, and what
 -- they answer (this project's profile; Java SE 17 has `Reference.enqueue`).
-use Rattle.std.specs.Prelude.{◌≡◌, ◌≢◌, ℕ, ◌<◌, ◌≤◌, ◌⊎◌, Bool, true, false, List, [], ◌∷◌, length, Option, Some, None}
+use Rattle.std.specs.Prelude.{◌≡◌, ℕ, ◌<◌, ◌≤◌, ◌⊎◌, Bool, true, false, List, [], ◌∷◌, length, Option, Some, None}
 use Rattle.std.specs.Prelude.{Result, Ok, Err, slice_get, slice_set}
 use Rattle.ref_base.specs.HeapSteps.{HeldNotice, NamedStep}
 use Rattle.ref_base.specs.declared.fault.Fault.{Fault}
 use Rattle.ref_base.specs.declared.fault.Fault.TheVariants.{BadQueue}
-use Rattle.ref_base.specs.declared.heap_step.HeapStep.TheVariants.{Hand}
 use Rattle.ref_base.specs.declared.heap_step.HoldName.{HoldName}
 use Rattle.ref_queue.specs.declared.queue.Put.{Put}
 use Rattle.ref_queue.specs.declared.queue.Put.TheVariants as puts
@@ -158,24 +157,22 @@ module _ {A : Type 0} (k max : ℕ) (v : HeapView) (queues : List (SharedQueue A
       (GivesBatch v k max [] (Err fault) left w × (after ≡ seats)) ⊎ GivesAndSends (Err (Refused fault)) left w after
   DeliversBatch result left w after = GivesAndSends result left w after
 
--- ---- what stops a cycle
-
 -- ---- all that is pending
 
 module _ {A : Type 0} (worker : ℕ) (queues : List (SharedQueue A)) where
-  -- the worker's hand gives a notice, and it is sent
-  abbrev pub DeliversOne : HeapView × List QueueSeat → HeapView × List QueueSeat → Type 0
-  DeliversOne a b =
-      (delivery : Delivery) × (delivery ≢ Nothing) × Delivers (Hand worker) a.0 queues a.1 (Ok delivery) b.0 b.1
+  -- as many of the worker's notices as go at once are delivered, and none is left
+  abbrev pub DeliversSome : HeapView × List QueueSeat → HeapView × List QueueSeat → Type 0
+  DeliversSome a b = (outs : Outs) × DeliversBatch worker 32 a.0 queues a.1 (Ok (Some outs)) [] b.0 b.1
 
-  -- none is pending any more; or the delivery stops with this fault
-  abbrev pub DeliversLast : HeapView → List QueueSeat → Result (Unit {0}) ShareFault → HeapView → List QueueSeat
-      → Type 0
-  DeliversLast v seats (Ok _) w after = Delivers (Hand worker) v queues seats (Ok Nothing) w after
-  DeliversLast v seats (Err fault) w after = Delivers (Hand worker) v queues seats (Err fault) w after
+  -- none is pending any more; or the delivery stops with this fault, and these notices are left
+  abbrev pub DeliversLast : HeapView → List QueueSeat → Result (Unit {0}) ShareFault → List HeldNotice → HeapView
+      → List QueueSeat → Type 0
+  DeliversLast v seats (Ok _) left w after = DeliversBatch worker 32 v queues seats (Ok None) left w after
+  DeliversLast v seats (Err fault) left w after = DeliversBatch worker 32 v queues seats (Err fault) left w after
 
-  -- notices are delivered one after the other, until the last
-  abbrev pub DeliversAll : HeapView → List QueueSeat → Result (Unit {0}) ShareFault → HeapView → List QueueSeat → Type 0
-  DeliversAll v seats result w after =
-      (count : ℕ) × (a : HeapView × List QueueSeat) × Repeats DeliversOne count (v, seats) a
-      × DeliversLast a.0 a.1 result w after
+  -- notices are delivered, batch after batch, until the last
+  abbrev pub DeliversAll : HeapView → List QueueSeat → Result (Unit {0}) ShareFault → List HeldNotice → HeapView
+      → List QueueSeat → Type 0
+  DeliversAll v seats result left w after =
+      (count : ℕ) × (a : HeapView × List QueueSeat) × Repeats DeliversSome count (v, seats) a
+      × DeliversLast a.0 a.1 result left w after

@@ -2,6 +2,7 @@
 -- program is told that no memory is left (Java SE 17 `java.lang.ref.SoftReference`; that a normal cycle comes before
 -- the urgent one is this project's profile).
 use Rattle.std.specs.Prelude.{◌≡◌, ◌≢◌, ℕ, ◌⊎◌, List, [], ◌∷◌, Option, Some, None, Result, Ok, Err}
+use Rattle.ref_base.specs.HeapSteps.{HeldNotice}
 use Rattle.ref_base.specs.declared.fault.Fault.TheVariants.{NoCell}
 use Rattle.ref_base.specs.declared.plain_step.PlainStep.{PlainStep}
 use Rattle.ref_base.specs.declared.reply.Reply.{Reply}
@@ -27,13 +28,13 @@ DoesUnlessFull step v (Err fault) w = Does step v (Err fault) w × (fault ≢ Re
 
 module _ {A : Type 0} (queues : List (SharedQueue A)) (worker now : ℕ) (step : PlainStep) where
   -- The step is done behind as many of these cycles as it takes, in this order: each comes where no cell was left for
-  -- the step before it. Where a cycle stops, nothing comes behind it.
-  abbrev pub DoesAfter : List Urgency → HeapView → List QueueSeat → Result Reply ShareFault → HeapView
-      → List QueueSeat → Type 0
-  DoesAfter [] v seats result w after = Does step v result w × (after ≡ seats)
-  DoesAfter (first ∷ more) v seats result w after =
-      (Does step v result w × (result ≢ Err (Refused NoCell)) × (after ≡ seats))
+  -- the step before it. Where a cycle stops, nothing comes behind it, and what it left of its notices is left.
+  abbrev pub DoesAfter : List Urgency → HeapView → List QueueSeat → Result Reply ShareFault → List HeldNotice
+      → HeapView → List QueueSeat → Type 0
+  DoesAfter [] v seats result left w after = Does step v result w × (left ≡ []) × (after ≡ seats)
+  DoesAfter (first ∷ more) v seats result left w after =
+      (Does step v result w × (result ≢ Err (Refused NoCell)) × (left ≡ []) × (after ≡ seats))
       ⊎ (((u : HeapView) × (x : HeapView) × (between : List QueueSeat) × Declined v step NoCell u
-      × Cycles queues worker now first u seats (Ok tt) x between × DoesAfter more x between result w after)
+      × Cycles queues worker now first u seats (Ok tt) [] x between × DoesAfter more x between result left w after)
       ⊎ ((u : HeapView) × (fault : ShareFault) × (result ≡ Err fault) × Declined v step NoCell u
-      × Cycles queues worker now first u seats (Err fault) w after))
+      × Cycles queues worker now first u seats (Err fault) left w after))

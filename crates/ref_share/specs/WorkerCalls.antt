@@ -59,7 +59,7 @@ had_turn (Err (Notice back TurnsSpent)) = false
 had_turn result = true
 
 -- nor did the delivery of a batch: there the notices would be left
-abbrev pub batch_had_turn : Result (Option Outs) ShareFault → List HeldNotice → Bool
+abbrev pub batch_had_turn : {T : Type 0} → Result T ShareFault → List HeldNotice → Bool
 batch_had_turn (Err (Refused TurnsSpent)) (notice ∷ left) = false
 batch_had_turn result left = true
 

@@ -23,8 +23,9 @@ use crate::{
     SharedCleaner, SharedHeap, SharedQueue, cycle, end_queue, make_or_collect,
 };
 use ref_base::{
-    Config, Fault, MutNo, PlainStep, QueueNo, Reply, SlotNo, Strength, Urgency, WorkerNo,
+    Batch, Config, Fault, MutNo, PlainStep, QueueNo, Reply, SlotNo, Strength, Urgency, WorkerNo,
 };
+use ref_clear::Notice;
 use ref_objects::Hold;
 use ref_queue::Job;
 use std::alloc::Global;
@@ -108,19 +109,23 @@ impl CleanedHeap<Job> {
     }
 
     /// Makes an object as `make` does. Where the heap is full a cycle comes first, and then an urgent one, as
-    /// `make_or_collect` tells. The notices of what they clear stand in the queue then, for `clean_some`.
+    /// `make_or_collect` tells. The notices of what they clear stand in the queue then, for `clean_some`. The batch goes
+    /// and comes back as from `cycle`.
     pub fn make_or_collect<R: Wait>(
         &mut self,
         rt: &R,
         slot: SlotNo,
         fields: u32,
         now: u64,
-    ) -> Result<Reply, ShareFault>
-        requires { HasSeats self.old }
+        batch: Batch<Notice>,
+    ) -> (Result<Reply, ShareFault>, Batch<Notice>)
+        requires seats { HasSeats self.old }
+        requires empty { batch ≡ [] }
         ensures seats { HasSeats self.new }
         ensures does { DoesAfter (self.old.queue ∷ []) 0 now (New 0 slot fields) (Normal ∷ Urgent ∷ [])
-            (heap_view self.old.heap_seat) (self.old.queue_seat ∷ []) result (heap_view self.new.heap_seat)
-            (self.new.queue_seat ∷ []) }
+            (heap_view self.old.heap_seat) (self.old.queue_seat ∷ []) result.0 result.1
+            (heap_view self.new.heap_seat) (self.new.queue_seat ∷ []) }
+        ensures empty { IfOk result.0 (λ _. result.1 ≡ []) }
         ensures others { self.new ≡ record self.old {
           heap_seat = self.new.heap_seat;
           queue_seat = self.new.queue_seat;
@@ -142,6 +147,7 @@ impl CleanedHeap<Job> {
             WORKER,
             now,
             step,
+            batch,
         )
     }
 
@@ -304,12 +310,22 @@ impl CleanedHeap<Job> {
             .is_registered(rt, &mut self.clean_seat, cleanable)
     }
 
-    /// One whole cycle, as `cycle`, by worker 0: what it finds dead is cleared, told to its queue, and freed.
-    pub fn cycle<R: Wait>(&mut self, rt: &R, now: u64, urgency: Urgency) -> Result<(), ShareFault>
-        requires { HasSeats self.old }
+    /// One whole cycle, as `cycle`, by worker 0: what it finds dead is cleared, told to its queue, and freed. The batch
+    /// goes and comes back as there. Notices that it holds with a fault can't be put in any more: `end_batch` gives
+    /// them up, and their jobs run at `end`.
+    pub fn cycle<R: Wait>(
+        &mut self,
+        rt: &R,
+        now: u64,
+        urgency: Urgency,
+        batch: Batch<Notice>,
+    ) -> (Result<(), ShareFault>, Batch<Notice>)
+        requires seats { HasSeats self.old }
+        requires empty { batch ≡ [] }
         ensures seats { HasSeats self.new }
         ensures cycles { Cycles (self.old.queue ∷ []) 0 now urgency (heap_view self.old.heap_seat)
-            (self.old.queue_seat ∷ []) result (heap_view self.new.heap_seat) (self.new.queue_seat ∷ []) }
+            (self.old.queue_seat ∷ []) result.0 result.1 (heap_view self.new.heap_seat) (self.new.queue_seat ∷ []) }
+        ensures empty { IfOk result.0 (λ _. result.1 ≡ []) }
         ensures others { self.new ≡ record self.old {
           heap_seat = self.new.heap_seat;
           queue_seat = self.new.queue_seat;
@@ -326,6 +342,7 @@ impl CleanedHeap<Job> {
             WORKER,
             now,
             urgency,
+            batch,
         )
     }
 

@@ -13,12 +13,17 @@ ghost use Rattle.ref_share.specs.Deliveries.{TellsReleased, refused_in};
 ghost use Rattle.ref_share.specs.QueueCalls.{ComesBack};
 
 use crate::{Delivery, HeapSeat, QueueSeat, ShareFault, SharedHeap, SharedQueue};
-use ref_base::{Batch, Done, Fault, MutNo, ObjNo, Outs, Parcel, QueueNo, SlotNo, WorkerNo};
+use ref_base::{
+    Batch, Done, Fault, MOST_IN_BATCH, MutNo, ObjNo, Outs, Parcel, QueueNo, SlotNo, WorkerNo,
+};
 use ref_clear::Notice;
 use ref_objects::Hold;
 use ref_queue::Put;
 use std::alloc::Allocator;
 use std::sync::Wait;
+
+/// How many notices go at once.
+const MOST: u32 = MOST_IN_BATCH as u32;
 
 /// Clears the reference in the mutator's slot and puts its notice into its queue: as `Reference.enqueue` of Java SE 17.
 /// True exactly where it was added; false where it has no queue, was ever enqueued before, or its queue is closed (this
@@ -125,10 +130,11 @@ pub fn deliver_batch<R: Wait, A: Allocator + Copy>(
     }
 }
 
-/// Hands on all that is pending of the worker, as `deliver_one` does one after the other, until there is `Nothing`.
+/// Hands on all that is pending of the worker, as `deliver_batch` does as many as go at once, until it answers `None`.
+/// The batch, which is empty, comes back empty but with a fault.
 ///
-/// Turns, lists and faults are as those of `deliver_one`; with the first fault it ends, and what is pending then stays
-/// so. The seats make no other call.
+/// Turns, lists and faults are as those of `deliver_batch`; with the first fault it ends, and what is pending then
+/// stays so. The batch then holds what `deliver_batch` says. The seats make no other call.
 pub fn deliver_all<R: Wait, A: Allocator + Copy>(
     rt: &R,
     heap: &SharedHeap<A>,
@@ -136,20 +142,37 @@ pub fn deliver_all<R: Wait, A: Allocator + Copy>(
     queues: &[SharedQueue<A>],
     queue_seats: &mut [QueueSeat<A>],
     worker: WorkerNo,
-) -> Result<(), ShareFault>
-    requires { IsHeapSeat heap.now heap_seat.old × AreSeats queues.now queue_seats.old }
+    mut batch: Batch<Notice, A>,
+) -> (Result<(), ShareFault>, Batch<Notice, A>)
+    requires seats { IsHeapSeat heap.now heap_seat.old × AreSeats queues.now queue_seats.old }
+    requires empty { batch ≡ [] }
     ensures seats { IsHeapSeat heap.now heap_seat.new × AreSeats queues.now queue_seats.new }
-    ensures calls { DeliversAll worker queues.now (heap_view heap_seat.old) queue_seats.old result
+    ensures calls { DeliversAll worker queues.now (heap_view heap_seat.old) queue_seats.old result.0 result.1
         (heap_view heap_seat.new) queue_seats.new }
+    ensures empty { IfOk result.0 (λ _. result.1 ≡ []) }
 {
     for _ in rt.forever() {
-        match deliver_one(rt, heap, heap_seat, queues, queue_seats, worker) {
-            Ok(Delivery::Nothing) => break,
-            Ok(_) => {}
-            Err(fault) => return Err(fault),
+        let (answer, left) = deliver_batch(
+            rt,
+            heap,
+            heap_seat,
+            queues,
+            queue_seats,
+            worker,
+            MOST,
+            batch,
+        );
+        batch = left;
+        match answer {
+            Ok(given) => {
+                if given.is_none() {
+                    break;
+                }
+            }
+            Err(fault) => return (Err(fault), batch),
         }
     }
-    Ok(())
+    (Ok(()), batch)
 }
 
 // What the heap has given goes into its queue.

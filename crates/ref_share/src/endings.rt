@@ -1,6 +1,6 @@
 //! The ends of queues and of cleaners' tables, once their threads have ended: what is left in them is given up.
 
-ghost use Rattle.std.specs.Prelude.{◌≡◌, ℕ, [], Some};
+ghost use Rattle.std.specs.Prelude.{◌≡◌, ℕ, [], Some, length};
 ghost use Rattle.ref_base.specs.declared.heap_step.HoldName.{HoldName};
 ghost use Rattle.ref_queue.specs.CleanTables.{job_of};
 ghost use Rattle.ref_share.specs.Answers.{found, count_standing, job_left_in};
@@ -9,6 +9,7 @@ ghost use Rattle.ref_share.specs.CleanedHeaps.{AreEnded};
 ghost use Rattle.ref_share.specs.QueueSeats.{IsQueueSeat};
 
 use crate::{CleanSeat, QueueSeat, SharedCleaner, SharedQueue};
+use ref_base::Batch;
 use ref_clear::Notice;
 use ref_objects::Hold;
 use ref_queue::{CleanTable, Job, Queue};
@@ -31,6 +32,20 @@ pub fn end_queue<A: Allocator + Copy>(
         notice.into_hold().leak();
     }
     standing.destroy_empty();
+    count
+}
+
+/// Ends a batch, as one that a fault of `cycle` left. The hold of each notice in it is given up, as by `end_queue`. How
+/// many these were. Takes no memory.
+pub fn end_batch<A: Allocator>(batch: Batch<Notice, A>) -> usize
+    ensures { result ≡ length batch }
+{
+    let mut batch = batch;
+    let count = batch.len();
+    while let Some(notice) = batch.take_first() {
+        notice.into_hold().leak();
+    }
+    batch.end();
     count
 }
 

@@ -50,7 +50,7 @@ ghost use Rattle.ref_base.specs.Told.{named_by};
 ghost use Rattle.ref_share.specs.QueueHistories.{KeepsLists, added_by_call, all_put_in, is_closed_after};
 ghost use Rattle.ref_share.specs.QueueSeats.{QueueEntry, QueueSeat, QueueView, SharedQueue, IsQueueRun, queue_view};
 ghost use Rattle.ref_share.specs.QueueStates.{NoticeLists};
-ghost use Rattle.ref_share.specs.WorkerCalls.{KeepsPace, Works, had_turn, notices_put, references_of};
+ghost use Rattle.ref_share.specs.WorkerCalls.{KeepsPace, Works, batch_had_turn, notices_put, references_of};
 ghost use Rattle.ref_base.specs.declared.urgency.Urgency.{Urgency};
 ghost use Rattle.ref_share.specs.declared.answers.Cleanable.{Cleanable};
 ghost use Rattle.ref_share.specs.declared.answers.ShareFault.{ShareFault};
@@ -219,17 +219,18 @@ pub fn each_queue_gets_what_a_worker_hands_on<A>()
 /// A delivery of all that is pending is such work, while turns are left, whichever worker's it is.
 pub fn a_delivery_of_all_is_a_workers_work<A>()
     ensures { (k worker : ℕ) (queues : List (SharedQueue A)) (v w : HeapView) (seats after : List QueueSeat)
-        (result : Result (Unit {0}) ShareFault) → DeliversAll worker queues v seats result w after
-        → had_turn result ≡ true → (count : ℕ) × Works k queues count v seats w after }
+        (result : Result (Unit {0}) ShareFault) (left : List HeldNotice)
+        → DeliversAll worker queues v seats result left w after
+        → batch_had_turn result left ≡ true → (count : ℕ) × Works k queues count v seats w after }
 {}
 
 // promise: cycle: so that law holds of it, wherever it stops
 /// And a whole cycle is, wherever it stops: it hands on nothing but by its deliveries, and puts nothing else in.
 pub fn a_cycle_is_a_workers_work<A>()
     ensures { (k worker now : ℕ) (urgency : Urgency) (queues : List (SharedQueue A)) (v w : HeapView)
-        (seats after : List QueueSeat) (result : Result (Unit {0}) ShareFault)
-        → Cycles queues worker now urgency v seats result w after
-        → had_turn result ≡ true → (count : ℕ) × Works k queues count v seats w after }
+        (seats after : List QueueSeat) (result : Result (Unit {0}) ShareFault) (left : List HeldNotice)
+        → Cycles queues worker now urgency v seats result left w after
+        → batch_had_turn result left ≡ true → (count : ℕ) × Works k queues count v seats w after }
 {}
 
 // promise: deliver_one, deliver_batch, deliver_all: in the worker's clearing order

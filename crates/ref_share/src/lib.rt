@@ -34,7 +34,7 @@ pub use clean_machine::{CleanMachine, CleanReply, CleanStep};
 pub use cleaned_heap::CleanedHeap;
 pub use cycles::cycle;
 pub use delivery::{deliver_all, deliver_batch, deliver_one, enqueue};
-pub use endings::{end_queue, run_jobs_left};
+pub use endings::{end_batch, end_queue, run_jobs_left};
 pub use heap_machine::HeapMachine;
 pub use queue_machine::{QueueAnswer, QueueCall, QueueMachine, QueueReply, QueueStep};
 pub use queued_cleaner::{QueuedCleaner, QueuedSeat};

@@ -19,7 +19,8 @@ use crate::{
     CleanMachine, Cleanable, Cleaned, Gate, HeapSeat, QueueSeat, SeatFor, ShareFault, Shared,
     SharedCleaner, SharedHeap, SharedQueue, cycle, deliver_all, end_queue,
 };
-use ref_base::{Fault, MutNo, QueueNo, SlotNo, Urgency, WorkerNo};
+use ref_base::{Batch, Fault, MutNo, QueueNo, SlotNo, Urgency, WorkerNo};
+use ref_clear::Notice;
 use ref_objects::Hold;
 use ref_queue::Job;
 use std::alloc::Global;
@@ -220,7 +221,9 @@ impl QueuedCleaner<Job> {
     }
 
     /// One whole cycle, as `cycle`: what it finds dead is cleared, told to the queue, and freed. The heap has no other
-    /// queue, by the caller: with the notice of another queue's reference the cycle stops, as `cycle` tells.
+    /// queue, by the caller: with the notice of another queue's reference the cycle stops, as `cycle` tells. The batch
+    /// goes and comes back as there. Notices that it holds with a fault can't be put in any more: `end_batch` gives
+    /// them up, and their jobs run at `end`.
     pub fn cycle<R: Wait>(
         &self,
         rt: &R,
@@ -230,20 +233,25 @@ impl QueuedCleaner<Job> {
         worker: WorkerNo,
         now: u64,
         urgency: Urgency,
-    ) -> Result<(), ShareFault>
-        requires { IsQueuedSeat self.now seat.old × IsHeapSeat heap.now heap_seat.old }
+        batch: Batch<Notice>,
+    ) -> (Result<(), ShareFault>, Batch<Notice>)
+        requires seats { IsQueuedSeat self.now seat.old × IsHeapSeat heap.now heap_seat.old }
+        requires empty { batch ≡ [] }
         ensures seats { IsQueuedSeat self.now seat.new × IsHeapSeat heap.now heap_seat.new }
         ensures cycles { Cycles (self.now.queue ∷ []) worker now urgency (heap_view heap_seat.old)
-            (seat.old.queue ∷ []) result (heap_view heap_seat.new) (seat.new.queue ∷ []) }
+            (seat.old.queue ∷ []) result.0 result.1 (heap_view heap_seat.new) (seat.new.queue ∷ []) }
+        ensures empty { IfOk result.0 (λ _. result.1 ≡ []) }
         ensures others { seat.new ≡ record seat.old { queue = seat.new.queue } }
     {
         let queues = slice::from_ref(&self.queue);
         let seats = slice::from_mut(&mut seat.queue);
-        cycle(rt, heap, heap_seat, queues, seats, worker, now, urgency)
+        cycle(
+            rt, heap, heap_seat, queues, seats, worker, now, urgency, batch,
+        )
     }
 
     /// Hands on all that is pending of the worker, as `deliver_all`: each notice goes into the queue. The heap has no
-    /// other queue, by the caller.
+    /// other queue, by the caller. The batch goes and comes back as from `cycle`.
     pub fn deliver_all<R: Wait>(
         &self,
         rt: &R,
@@ -251,16 +259,19 @@ impl QueuedCleaner<Job> {
         heap: &SharedHeap,
         heap_seat: &mut HeapSeat,
         worker: WorkerNo,
-    ) -> Result<(), ShareFault>
-        requires { IsQueuedSeat self.now seat.old × IsHeapSeat heap.now heap_seat.old }
+        batch: Batch<Notice>,
+    ) -> (Result<(), ShareFault>, Batch<Notice>)
+        requires seats { IsQueuedSeat self.now seat.old × IsHeapSeat heap.now heap_seat.old }
+        requires empty { batch ≡ [] }
         ensures seats { IsQueuedSeat self.now seat.new × IsHeapSeat heap.now heap_seat.new }
         ensures delivers { DeliversAll worker (self.now.queue ∷ []) (heap_view heap_seat.old) (seat.old.queue ∷ [])
-            result (heap_view heap_seat.new) (seat.new.queue ∷ []) }
+            result.0 result.1 (heap_view heap_seat.new) (seat.new.queue ∷ []) }
+        ensures empty { IfOk result.0 (λ _. result.1 ≡ []) }
         ensures others { seat.new ≡ record seat.old { queue = seat.new.queue } }
     {
         let queues = slice::from_ref(&self.queue);
         let seats = slice::from_mut(&mut seat.queue);
-        deliver_all(rt, heap, heap_seat, queues, seats, worker)
+        deliver_all(rt, heap, heap_seat, queues, seats, worker, batch)
     }
 
     /// Closes the queue: each `clean_loop` returns once nothing stands in it. True where it was open. As

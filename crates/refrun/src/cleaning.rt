@@ -4,10 +4,12 @@ ghost use Rattle.std.specs.Prelude.{All, IfOk};
 ghost use Rattle.refrun.specs.CleaningSeats.{IsCleanSeated, IsOfCleaning, StaysCleanSeated};
 
 use crate::outcomes::{JobFate, Outcomes};
-use ref_base::{Config, Fault, MutNo, PlainStep, SlotNo, SpanRule, Urgency, WorkerNo};
+use ref_base::{Batch, Config, Fault, MutNo, PlainStep, SlotNo, SpanRule, Urgency, WorkerNo};
 use ref_objects::Hold;
 use ref_queue::Job;
-use ref_share::{Cleanable, Cleaned, Gate, HeapSeat, QueuedCleaner, QueuedSeat, SharedHeap};
+use ref_share::{
+    Cleanable, Cleaned, Gate, HeapSeat, QueuedCleaner, QueuedSeat, SharedHeap, end_batch,
+};
 use std::alloc::{AllocError, Global};
 use std::sync::Wait;
 
@@ -39,6 +41,7 @@ pub(crate) struct CleaningSeats {
 /// What one thread works with: what all share, its own seats, and the jobs that it has not registered.
 #[derive(Drop)]
 pub(crate) struct CleaningStation<'a> {
+    alloc: Global,
     cleaning: &'a Cleaning,
     seats: CleaningSeats,
     jobs: Vec<Job>,
@@ -67,18 +70,24 @@ impl Cleaning {
     {
         let mut stations = Vec::new(alloc);
         for jobs in lists {
-            stations.push(self.station(seats, jobs))?;
+            stations.push(self.station(alloc, seats, jobs))?;
         }
         Ok(stations)
     }
 
     /// What one thread works with, with these jobs.
-    fn station(&self, seats: &mut CleaningSeats, jobs: Vec<Job>) -> CleaningStation<'_>
+    fn station(
+        &self,
+        alloc: Global,
+        seats: &mut CleaningSeats,
+        jobs: Vec<Job>,
+    ) -> CleaningStation<'_>
         requires { IsOfCleaning self.now seats.old }
         ensures seats { IsOfCleaning self.now seats.new }
         ensures seated { IsCleanSeated result }
     {
         CleaningStation {
+            alloc,
             cleaning: self,
             seats: CleaningSeats {
                 heap: self.heap.split(&mut seats.heap),
@@ -329,7 +338,8 @@ impl CleaningStation<'_> {
         if is_due { self.cycle(rt) } else { Ok(()) }
     }
 
-    /// One whole cycle, each fourth of them urgent: what died before it is told to the cleaner.
+    /// One whole cycle, each fourth of them urgent: what died before it is told to the cleaner. A notice for which the
+    /// queue finds no memory is given up.
     fn cycle<R: Wait>(&mut self, rt: &R) -> Result<(), Fault>
         requires { IsCleanSeated self.old }
         ensures { StaysCleanSeated self.old self.new }
@@ -345,8 +355,20 @@ impl CleaningStation<'_> {
             heap: heap_seat,
             clean,
         } = &mut self.seats;
+        let batch = Batch::new(self.alloc)?;
         let now = self.cycles;
-        match cleaner.cycle(rt, clean, heap, heap_seat, WorkerNo(0), now, urgency) {
+        let (answer, left) = cleaner.cycle(
+            rt,
+            clean,
+            heap,
+            heap_seat,
+            WorkerNo(0),
+            now,
+            urgency,
+            batch,
+        );
+        end_batch(left);
+        match answer {
             Ok(()) => Ok(()),
             Err(fault) => Err(fault.into_fault()),
         }

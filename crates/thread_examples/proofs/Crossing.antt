@@ -3,6 +3,7 @@ use denote.Ref.{NamedLft}
 use denote.Param.Send.{IsSend, sendable}
 use Rattle.std.proofs.Crossing.{crosses}
 use Rattle.std.proofs.MapsCrossing as maps
+use Rattle.std.proofs.alloc.Global.TheSendSync.{the_send as global_send}
 use Rattle.ref_share.proofs.Crossing.{shared}
 use Rattle.thread_examples.specs.contracts.runtime.heap_user.HeapUser.{the_row as user_row}
 use Rattle.thread_examples.specs.contracts.runtime.collector.Collector.{the_row as collector_row}
@@ -13,7 +14,7 @@ pub user_send : (κ : NamedLft) → IsSend (user_row κ)
 user_send κ = search (shared, crosses, sendable) depth 60 fits 20000
 
 pub collector_send : (κ : NamedLft) → IsSend (collector_row κ)
-collector_send κ = search (user_send, shared, crosses, sendable) depth 60 fits 20000
+collector_send κ = search (user_send, global_send, shared, crosses, sendable) depth 60 fits 20000
 
 pub cleaner_send : (κ : NamedLft) → IsSend (cleaner_row κ)
 cleaner_send κ = search (user_send, shared, maps.crosses, crosses, sendable) depth 60 fits 20000

@@ -130,7 +130,7 @@ fn run<R: Threads + Wait + Sync>(
     let (telling, other) = queues.split();
     let (told, queue_seat) = queues.split();
     let all = &queues.all;
-    let collector = Collector::new(user.split(), all, [telling, other]);
+    let collector = Collector::new(queues.alloc, user.split(), all, [telling, other]);
     let worker = Worker {
         user: user.split(),
         queue: &all[1],

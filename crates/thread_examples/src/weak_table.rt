@@ -81,7 +81,7 @@ fn clean_and_fill<R: Threads + Wait + Sync>(
     let (telling, other) = queues.split();
     let (first, second) = queues.split();
     let all = &queues.all;
-    let collector = Collector::new(user.split(), all, [telling, other]);
+    let collector = Collector::new(queues.alloc, user.split(), all, [telling, other]);
     let left = Cleaner::new(user.split(), &all[0], first, table);
     let right = Cleaner::new(user.split(), &all[1], second, table);
     let program = Program { user, table };

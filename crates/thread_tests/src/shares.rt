@@ -1,12 +1,13 @@
 //! A shared heap, its queue and a cleaner: stories of calls, each with its answer.
 
+ghost use Rattle.std.specs.Prelude.{◌≡◌, []};
 ghost use Rattle.ref_share.specs.HeapSeats.{IsHeapSeat};
 ghost use Rattle.ref_share.specs.QueueSeats.{IsQueueSeat};
 ghost use Rattle.std.specs.Mem.{FitsInMemory};
 ghost use Rattle.thread_tests.specs.QueueRows.{queue_row};
 
 use calls::{Call, Do, Seats, Told, answer, expect};
-use ref_base::{Config, Fault, MutNo, ObjNo, QueueNo, Reply, SpanRule, WorkerNo};
+use ref_base::{Batch, Config, Fault, MutNo, ObjNo, QueueNo, Reply, SpanRule, WorkerNo};
 use ref_clear::Notice;
 use ref_queue::Queue;
 use ref_share::{SharedHeap, SharedQueue, end_queue};
@@ -42,6 +43,16 @@ pub const M: MutNo = MutNo(0);
 pub const W: WorkerNo = WorkerNo(0);
 
 pub const Q: QueueNo = QueueNo(0);
+
+/// A batch of no notices.
+pub fn new_batch<A: Allocator>(rt: &impl Abort, alloc: A) -> Batch<Notice, A>
+    ensures { result ≡ [] }
+{
+    match Batch::new(alloc) {
+        Ok(batch) => batch,
+        Err(fault) => panic!(rt; "no batch: {fault}"),
+    }
+}
 
 pub const fn new(slot: u32, no: u32) -> (Call, Told) {
     heap(Do::New(slot), Reply::Object(ObjNo(no)))

@@ -176,19 +176,22 @@ impl Station<'_> {
         Ok(())
     }
 
-    /// Hands on what is pending of the worker.
+    /// Hands on what is pending of the worker. What no queue takes is released.
     fn deliver_all<R: Wait>(&mut self, rt: &R, worker: WorkerNo) -> Result<(), Fault>
         requires { IsSeated self.old }
         ensures { StaysSeated self.old self.new }
     {
-        let answer = deliver_all(
+        let batch = Batch::new(self.alloc)?;
+        let (answer, left) = deliver_all(
             rt,
             &self.shared.heap,
             &mut self.heap_seat,
             slice::from_ref(&self.shared.queue),
             slice::from_mut(&mut self.queue_seat),
             worker,
+            batch,
         );
+        self.release_batch(rt, left);
         match answer {
             Ok(()) => Ok(()),
             Err(fault) => Err(self.settle(rt, fault)),

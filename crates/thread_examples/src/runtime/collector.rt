@@ -5,8 +5,9 @@ ghost use Rattle.thread_examples.specs.Users.{IsUser, IsCollector};
 
 use super::heap_user::HeapUser;
 use super::queue_end::close_all;
-use ref_base::{Fault, Urgency, WorkerNo};
-use ref_share::{QueueSeat, SharedQueue, cycle};
+use ref_base::{Batch, Fault, Urgency, WorkerNo};
+use ref_share::{QueueSeat, SharedQueue, cycle, end_batch};
+use std::alloc::Global;
 use std::sync::Wait;
 use std::sync::atomic::{AtomicU64, Ordering};
 use std::thread;
@@ -17,6 +18,7 @@ const WORKER: WorkerNo = WorkerNo(0);
 /// The collector's one worker, with the queues that it tells.
 #[derive(Drop)]
 pub struct Collector<'a> {
+    alloc: Global,
     user: HeapUser<'a>,
     queues: &'a [SharedQueue],
     seats: [QueueSeat; 2],
@@ -24,11 +26,17 @@ pub struct Collector<'a> {
 
 impl<'a> Collector<'a> {
     /// The queues are those of the heap's configuration, in order, each with its seat.
-    pub fn new(user: HeapUser<'a>, queues: &'a [SharedQueue], seats: [QueueSeat; 2]) -> Self
+    pub fn new(
+        alloc: Global,
+        user: HeapUser<'a>,
+        queues: &'a [SharedQueue],
+        seats: [QueueSeat; 2],
+    ) -> Self
         requires { IsUser user × AreSeats queues.now seats }
         ensures { IsCollector result }
     {
         Collector {
+            alloc,
             user,
             queues,
             seats,
@@ -92,14 +100,16 @@ impl<'a> Collector<'a> {
         }
         Ok(())
     }
-    // One whole cycle.
+
+    // One whole cycle. A notice for which a queue finds no memory is given up.
     fn cycle<R: Wait>(&mut self, rt: &R, now: u64) -> Result<(), Fault>
         requires { IsCollector self.old }
         ensures { IsCollector self.new }
     {
+        let batch = Batch::new(self.alloc)?;
         let normal = Urgency::Normal;
         let HeapUser { heap, seat } = &mut self.user;
-        match cycle(
+        let (answer, left) = cycle(
             rt,
             heap,
             seat,
@@ -108,7 +118,10 @@ impl<'a> Collector<'a> {
             WORKER,
             now,
             normal,
-        ) {
+            batch,
+        );
+        end_batch(left);
+        match answer {
             Ok(()) => Ok(()),
             Err(fault) => Err(fault.into_fault()),
         }

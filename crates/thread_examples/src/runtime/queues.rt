@@ -10,6 +10,8 @@ use std::alloc::Global;
 
 /// Queue 0 and queue 1 in a list, as a delivery takes them, with a seat of each. They must be ended by `end`.
 pub struct Queues {
+    /// What they were made with.
+    pub alloc: Global,
     pub all: Vec<SharedQueue>,
     first: QueueSeat,
     second: QueueSeat,
@@ -32,7 +34,12 @@ impl Queues {
             Ok(mut all) => {
                 all.push_reserved(zero);
                 all.push_reserved(one);
-                Ok(Queues { all, first, second })
+                Ok(Queues {
+                    alloc,
+                    all,
+                    first,
+                    second,
+                })
             }
             Err(_) => {
                 end_queue(zero.finish(first));
@@ -59,6 +66,7 @@ impl Queues {
         requires { AreTwo self }
     {
         let Queues {
+            alloc: _alloc,
             mut all,
             first,
             second,

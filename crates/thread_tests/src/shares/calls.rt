@@ -1,5 +1,6 @@
 //! The calls of a shared heap and its queue, with what they answer as plain data.
 
+ghost use Rattle.std.specs.Prelude.{◌≡◌, []};
 ghost use Rattle.ref_share.specs.HeapSeats.{IsHeapSeat};
 ghost use Rattle.ref_share.specs.QueueSeats.{IsQueueSeat};
 ghost use Rattle.std.specs.Mem.{FitsInMemory};
@@ -14,7 +15,7 @@ use ref_objects::Hold;
 use ref_queue::Put;
 use ref_share::{
     Delivery, HeapSeat, Polled, QueueSeat, ShareFault, SharedHeap, SharedQueue, deliver_all,
-    deliver_one, enqueue,
+    deliver_one, end_batch, enqueue,
 };
 use ref_turn::TurnFault;
 use ref_world::{HeapAnswer, HeapCall, HeapReply};
@@ -247,7 +248,7 @@ pub fn replied<A: Allocator>(answer: Result<HeapAnswer<A>, TurnFault<HeapCall<A>
         }
         Ok(HeapReply::Back(fault, hold)) => held(hold, fault),
         Ok(HeapReply::Handed(_, batch)) => {
-            given_up(batch);
+            end_batch(batch);
             Told::Else
         }
         Err(TurnFault::Busy(step)) => {
@@ -261,19 +262,13 @@ pub fn replied<A: Allocator>(answer: Result<HeapAnswer<A>, TurnFault<HeapCall<A>
     }
 }
 
-/// Gives up a batch and its notices.
-pub fn given_up<A: Allocator>(mut batch: Batch<Notice, A>) {
-    while let Some(notice) = batch.take_first() {
-        notice.into_hold().leak();
-    }
-    batch.end();
-}
-
 /// Gives up a step that was not made.
 fn spend<A: Allocator>(step: HeapCall<A>) {
     match step {
         HeapStep::Adopt { hold, .. } | HeapStep::Release { hold } => hold.leak(),
-        HeapStep::Hands { batch, .. } => given_up(batch),
+        HeapStep::Hands { batch, .. } => {
+            end_batch(batch);
+        }
         _ => {}
     }
 }
@@ -462,22 +457,25 @@ fn delivered<R: Wait, A: Allocator + Copy>(
     }
 }
 
-/// A delivery of all that is pending of worker 0. Why it is refused.
+/// A delivery of all that is pending of worker 0. Why it is refused, and the batch.
 pub fn all_delivered<R: Wait, A: Allocator + Copy>(
     rt: &R,
     heap: &SharedHeap<A>,
     queue: &SharedQueue<A>,
     seats: &mut Seats<A>,
-) -> Option<Told>
+    batch: Batch<Notice, A>,
+) -> (Option<Told>, Batch<Notice, A>)
     requires seats { IsHeapSeat heap.now seats.old.heap × IsQueueSeat queue.now seats.old.queue }
     requires fits { FitsInMemory (queue_row A.row A.Allocator A.Clone) }
+    requires empty { batch ≡ [] }
     ensures { IsHeapSeat heap.now seats.new.heap × IsQueueSeat queue.now seats.new.queue }
 {
     let queues = slice::from_ref(queue);
     let own = slice::from_mut(&mut seats.queue);
-    match deliver_all(rt, heap, &mut seats.heap, queues, own, W) {
-        Ok(()) => None,
-        Err(fault) => Some(refused(rt, heap, &mut seats.heap, fault)),
+    let (answer, left) = deliver_all(rt, heap, &mut seats.heap, queues, own, W, batch);
+    match answer {
+        Ok(()) => (None, left),
+        Err(fault) => (Some(refused(rt, heap, &mut seats.heap, fault)), left),
     }
 }
 

@@ -6,9 +6,12 @@ ghost use Rattle.thread_tests.specs.QueueLists.{AreSeated};
 
 use super::calls::{Do, step_of};
 use super::many_queues::{Lists, make_references, with};
-use ref_base::{Config, Fault, Reply, Urgency, WorkerNo};
+use super::new_batch;
+use ref_base::{Batch, Config, Fault, Urgency, WorkerNo};
+use ref_clear::Notice;
 use ref_share::{
-    HeapSeat, QueueSeat, ShareFault, SharedHeap, SharedQueue, cycle, deliver_all, make_or_collect,
+    HeapSeat, QueueSeat, ShareFault, SharedHeap, SharedQueue, cycle, deliver_all, end_batch,
+    make_or_collect,
 };
 use std::alloc::Global;
 use std::process::Abort;
@@ -61,8 +64,9 @@ fn quiet<'a>() -> Story<'a> {
 }
 
 /// Makes a call, and tells why it is refused.
-fn refusal<R: Wait>(
+fn refusal<R: Wait + Abort>(
     rt: &R,
+    alloc: Global,
     heap: &SharedHeap,
     seat: &mut HeapSeat,
     lists: &mut Lists,
@@ -75,11 +79,30 @@ fn refusal<R: Wait>(
     let mut no_seats: [QueueSeat; 0] = [];
     let (normal, urgent) = (Urgency::Normal, Urgency::Urgent);
     let Lists { queues, seats } = lists;
+    let batch = new_batch(rt, alloc);
     match call {
-        Call::Cycle(now, w) => told(cycle(rt, heap, seat, queues, seats, WorkerNo(w), now, normal)),
-        Call::Urgent(now, w) => {
-            told(cycle(rt, heap, seat, queues, seats, WorkerNo(w), now, urgent))
-        }
+        Call::Cycle(now, w) => told(cycle(
+            rt,
+            heap,
+            seat,
+            queues,
+            seats,
+            WorkerNo(w),
+            now,
+            normal,
+            batch,
+        )),
+        Call::Urgent(now, w) => told(cycle(
+            rt,
+            heap,
+            seat,
+            queues,
+            seats,
+            WorkerNo(w),
+            now,
+            urgent,
+            batch,
+        )),
         Call::CycleNowhere(now, w) => told(cycle(
             rt,
             heap,
@@ -89,8 +112,9 @@ fn refusal<R: Wait>(
             WorkerNo(w),
             now,
             normal,
+            batch,
         )),
-        Call::DeliverAll(w) => told(deliver_all(rt, heap, seat, queues, seats, WorkerNo(w))),
+        Call::DeliverAll(w) => told(deliver_all(rt, heap, seat, queues, seats, WorkerNo(w), batch)),
         Call::DeliverNowhere(w) => told(deliver_all(
             rt,
             heap,
@@ -98,28 +122,32 @@ fn refusal<R: Wait>(
             &no_queues,
             &mut no_seats,
             WorkerNo(w),
+            batch,
         )),
-        Call::Step(step) => match heap.perform(rt, seat, step_of(step)) {
-            Ok(_) => None,
-            Err(fault) => Some(fault),
-        },
-        Call::MakeOrCollect(step, now) => {
-            let step = step_of(step);
-            made(make_or_collect(rt, heap, seat, queues, seats, WorkerNo(0), now, step))
+        Call::Step(step) => {
+            batch.end();
+            heap.perform(rt, seat, step_of(step)).err()
         }
+        Call::MakeOrCollect(step, now) => told(make_or_collect(
+            rt,
+            heap,
+            seat,
+            queues,
+            seats,
+            WorkerNo(0),
+            now,
+            step_of(step),
+            batch,
+        )),
     }
 }
 
-fn made(answer: Result<Reply, ShareFault>) -> Option<Fault> {
+/// Why the answer is a refusal. What is left in the batch is given up.
+fn told<T: Drop>(answer: (Result<T, ShareFault>, Batch<Notice>)) -> Option<Fault> {
+    let (answer, left) = answer;
+    end_batch(left);
     match answer {
         Ok(_) => None,
-        Err(fault) => Some(fault.into_fault()),
-    }
-}
-
-fn told(answer: Result<(), ShareFault>) -> Option<Fault> {
-    match answer {
-        Ok(()) => None,
         Err(fault) => Some(fault.into_fault()),
     }
 }
@@ -135,7 +163,7 @@ fn agree<R: Wait + Abort>(rt: &R, alloc: Global, story: &Story) -> Result<(), Fa
     make_references(rt, &heap, &mut seat, 2);
     for (row, &(call, want)) in story.calls.iter().enumerate() {
         assert!(rt;
-            refusal(rt, &heap, &mut seat, &mut lists, call) == want,
+            refusal(rt, alloc, &heap, &mut seat, &mut lists, call) == want,
             "row {row}"
         );
     }

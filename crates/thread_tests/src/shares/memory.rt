@@ -6,11 +6,13 @@ ghost use Rattle.ref_share.specs.QueueSeats.{IsQueueSeat};
 ghost use Rattle.std.specs.Prelude.{◌≡◌, ◌<◌, ◌^◌};
 
 use super::calls::{Ask, Call, Do, Seats, Told, all_delivered, answer, refused, step_of};
-use super::{CONFIG, M, Q, death, heap, make_calls, new, weak};
+use super::{CONFIG, M, Q, death, heap, make_calls, new, new_batch, weak};
 use rationed::Rationed;
 use ref_base::{Fault, ObjNo, Reply, SlotNo};
 use ref_queue::{Action, Job};
-use ref_share::{Delivery, SharedCleaner, SharedHeap, SharedQueue, end_queue, run_jobs_left};
+use ref_share::{
+    Delivery, SharedCleaner, SharedHeap, SharedQueue, end_batch, end_queue, run_jobs_left,
+};
 use std::alloc::{AllocError, Allocator, Global};
 use std::process::Abort;
 use std::sync::Wait;
@@ -352,13 +354,13 @@ fn death_of_five() -> [(Call, Told); 21] {
     ]
 }
 
-/// Why handing on the notices of the five is refused with so many requests for memory met, on a new heap and queue, and
-/// how many of them stand then.
+/// Hands on the notices of the five with so many requests for memory met, on a new heap and queue. Why that is refused,
+/// how many of them are left in the batch, and how many stand then.
 fn handed_on_with<R: Wait + Abort>(
     rt: &R,
     memory: &Rationed<Global>,
     met: u64,
-) -> Result<(Option<Told>, usize), Fail> {
+) -> Result<(Option<Told>, usize, usize), Fail> {
     let (heap, heap_seat) = SharedHeap::new(memory, CONFIG, 0)?;
     let (queue, queue_seat) = SharedQueue::new(memory, Q)?;
     let mut seats = Seats {
@@ -366,24 +368,28 @@ fn handed_on_with<R: Wait + Abort>(
         queue: queue_seat,
     };
     make_calls(rt, &heap, &queue, &mut seats, &death_of_five());
+    let batch = new_batch(rt, memory);
     memory.ration(met);
-    let refusal = all_delivered(rt, &heap, &queue, &mut seats);
+    let (refusal, left) = all_delivered(rt, &heap, &queue, &mut seats, batch);
     memory.lift();
-    Ok((refusal, end_queue(queue.finish(seats.queue))))
+    let left = end_batch(left);
+    Ok((refusal, left, end_queue(queue.finish(seats.queue))))
 }
 
-/// Hands on the notices of the five with so many requests for memory met. How many stand where it is refused: the first
-/// that doesn't stand came back then.
+/// Hands on the notices of the five with so many requests for memory met. How many stand where that is refused: the
+/// others are left in the batch.
 fn refused_behind<R: Wait + Abort>(
     rt: &R,
     memory: &Rationed<Global>,
     met: u64,
 ) -> Result<Option<usize>, Fail> {
-    let (refusal, standing) = handed_on_with(rt, memory, met)?;
+    let (refusal, left, standing) = handed_on_with(rt, memory, met)?;
     match refusal {
         Some(told) => {
-            let want = Told::NotPut(2 + (standing % 5) as u32, Fault::NoMemory);
+            let want = Told::Refused(Fault::NoMemory);
             assert!(rt; told.is(&want), "{told:?} with {met} requests met");
+            let all = left.checked_add(standing);
+            assert!(rt; all == Some(5), "{left} are left, {standing} stand");
             Ok(Some(standing))
         }
         None => {

@@ -13,14 +13,15 @@ ghost use Rattle.ref_turn.specs.Seats.{entry};
 ghost use Rattle.thread_tests.specs.QueueLists.{AreSeated};
 ghost use Rattle.thread_tests.specs.QueueRows.{queue_row};
 
-use crate::shares::calls::{Ask, Call, Seats, Told, given_up};
+use crate::shares::calls::{Ask, Call, Seats, Told};
 use crate::shares::many_queues::{Lists, find_dead, make_references, with};
 use crate::shares::{CONFIG, M, Q, W, death, make_calls};
 use rationed::Rationed;
 use ref_base::{Batch, Fault, Parcel, SlotNo};
 use ref_clear::Notice;
 use ref_share::{
-    HeapSeat, ShareFault, SharedHeap, SharedQueue, deliver_batch, deliver_one, end_queue, enqueue,
+    HeapSeat, ShareFault, SharedHeap, SharedQueue, deliver_batch, deliver_one, end_batch,
+    end_queue, enqueue,
 };
 use std::alloc::{Allocator, Global};
 use std::process::Abort;
@@ -74,7 +75,7 @@ fn keeps_what_found_no_memory<R: Wait, A: Allocator + Copy>(
     let own = slice::from_mut(&mut seats.queue);
     let (answer, batch) = deliver_batch(rt, heap, &mut seats.heap, queues, own, W, 32, batch);
     let is_left = !batch.is_empty();
-    given_up(batch);
+    end_batch(batch);
     match answer {
         Err(ShareFault::Refused(Fault::NoMemory)) => Some(is_left),
         Ok(_) => None,

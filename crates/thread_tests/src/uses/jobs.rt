@@ -18,12 +18,12 @@ ghost use Rattle.ref_share.specs.declared.clean_machine.CleanStep.TheVariants.{T
 use crate::shares::calls::{Call, Do, Seats, Told, step_of};
 use crate::shares::cleaners::hearing::Hearing;
 use crate::shares::cleaners::left_in;
-use crate::shares::{CONFIG, M, Q, make_calls, new};
+use crate::shares::{CONFIG, M, Q, make_calls, new, new_batch};
 use ref_base::{Fault, ObjNo, PlainStep, Reply, SlotNo, Urgency};
 use ref_queue::{Action, Job};
 use ref_share::{
     CleanSeat, Cleanable, CleanedHeap, Gate, HeapSeat, ShareFault, SharedCleaner, SharedHeap,
-    SharedQueue, end_queue,
+    SharedQueue, end_batch, end_queue,
 };
 use std::alloc::{AllocError, Global};
 use std::process::Abort;
@@ -255,8 +255,9 @@ fn a_loop_without_a_turn_of_its_queue_takes_no_job(rt: HostRuntime) -> Result<()
 }
 
 /// An object with a job is let go, a cycle finds it dead, and one step more is made. How many jobs are run then.
-fn run_behind_a_step<R: Wait>(
+fn run_behind_a_step<R: Wait + Abort>(
     rt: &R,
+    alloc: Global,
     heap: &mut CleanedHeap,
     job: Job,
 ) -> Result<(bool, bool, u64), ShareFault>
@@ -268,7 +269,9 @@ fn run_behind_a_step<R: Wait>(
         return Err(fault);
     }
     let first = leaves_the_queue(rt, heap);
-    heap.cycle(rt, 5, Urgency::Normal)?;
+    let (cycled, left) = heap.cycle(rt, 5, Urgency::Normal, new_batch(rt, alloc));
+    end_batch(left);
+    cycled?;
     let second = leaves_the_queue(rt, heap);
     let count = heap.clean_some(rt, &Hearing::new(false))?;
     Ok((first, second, count))
@@ -278,7 +281,7 @@ fn run_behind_a_step<R: Wait>(
 fn a_step_takes_no_notice(rt: HostRuntime) -> Result<(), Fail> {
     let job = adding(rt.alloc(), 1)?;
     let mut heap = CleanedHeap::new(rt.alloc(), CONFIG)?;
-    let told = match run_behind_a_step(&rt, &mut heap, job) {
+    let told = match run_behind_a_step(&rt, rt.alloc(), &mut heap, job) {
         Ok(told) => Some(told),
         Err(fault) => {
             let _ = fault.give_up();

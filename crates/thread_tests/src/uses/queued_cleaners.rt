@@ -5,10 +5,10 @@ ghost use Rattle.ref_share.specs.HeapSeats.{IsHeapSeat};
 ghost use Rattle.ref_share.specs.QueuedCleaners.{IsQueuedSeat};
 
 use crate::shares::cleaners::hearing::Hearing;
-use crate::shares::{CONFIG, M, W};
+use crate::shares::{CONFIG, M, W, new_batch};
 use ref_base::{Fault, PlainStep, SlotNo, Urgency};
 use ref_queue::{Action, Job};
-use ref_share::{HeapSeat, QueuedCleaner, QueuedSeat, ShareFault, SharedHeap};
+use ref_share::{HeapSeat, QueuedCleaner, QueuedSeat, ShareFault, SharedHeap, end_batch};
 use std::alloc::Global;
 use std::process::Abort;
 use std::sync::Wait;
@@ -38,10 +38,30 @@ fn registers_in_three_turns<R: Wait>(
     }
 }
 
+/// A whole cycle.
+fn cycled<R: Wait + Abort>(
+    rt: &R,
+    alloc: Global,
+    cleaner: &QueuedCleaner,
+    seat: &mut QueuedSeat,
+    heap: &SharedHeap,
+    heap_seat: &mut HeapSeat,
+) -> Result<(), ShareFault>
+    requires { IsQueuedSeat cleaner.now seat.old × IsHeapSeat heap.now heap_seat.old }
+    ensures { IsQueuedSeat cleaner.now seat.new × IsHeapSeat heap.now heap_seat.new }
+{
+    let batch = new_batch(rt, alloc);
+    let normal = Urgency::Normal;
+    let (answer, left) = cleaner.cycle(rt, seat, heap, heap_seat, W, 5, normal, batch);
+    end_batch(left);
+    answer
+}
+
 /// An object is made, gets the job, and is let go; a cycle finds it dead, and its job is run. Whether the register made
 /// its turns, how many jobs were run before the object was let go and after that, and whether the queue was open.
-fn lives_and_dies<R: Wait>(
+fn lives_and_dies<R: Wait + Abort>(
     rt: &R,
+    alloc: Global,
     cleaner: &QueuedCleaner,
     seat: &mut QueuedSeat,
     heap: &SharedHeap,
@@ -59,16 +79,18 @@ fn lives_and_dies<R: Wait>(
     };
     heap.perform(rt, heap_seat, make)?;
     let three = registers_in_three_turns(rt, cleaner, seat, heap, heap_seat, job);
-    cleaner.cycle(rt, seat, heap, heap_seat, W, 5, Urgency::Normal)?;
+    cycled(rt, alloc, cleaner, seat, heap, heap_seat)?;
     let living = cleaner.clean_some(rt, seat, heap, heap_seat, hearing)?;
     let drop = PlainStep::Drop {
         mutator: M,
         slot: SlotNo(0),
     };
     heap.perform(rt, heap_seat, drop)?;
-    cleaner.cycle(rt, seat, heap, heap_seat, W, 5, Urgency::Normal)?;
+    cycled(rt, alloc, cleaner, seat, heap, heap_seat)?;
     let dead = cleaner.clean_some(rt, seat, heap, heap_seat, hearing)?;
-    cleaner.deliver_all(rt, seat, heap, heap_seat, W)?;
+    let (delivered, left) = cleaner.deliver_all(rt, seat, heap, heap_seat, W, new_batch(rt, alloc));
+    end_batch(left);
+    delivered?;
     let is_open = cleaner.close(rt, seat)?;
     Ok((three, living, dead, is_open))
 }
@@ -85,6 +107,7 @@ fn anew<R: Wait + Abort>(
     let mut other = cleaner.split(&mut seat);
     let told = lives_and_dies(
         rt,
+        alloc,
         &cleaner,
         &mut other,
         &heap,

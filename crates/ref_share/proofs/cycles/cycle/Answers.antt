@@ -1,83 +1,35 @@
-use Rattle.ref_share.proofs.Common.{refl, inl, inr, heap_view}
-use Rattle.std.proofs.lemmas.Result.{err_from_is_err_and}
+use Rattle.ref_share.proofs.Common.{[], Result, ShareFault, refl, inl, inr, subst, heap_view}
+use Rattle.ref_share.specs.Deliveries.{DeliversAll}
 use Rattle.ref_share.proofs.cycles.cycle.Goals as goal
 
-pub returns-in_err-perform-clause-cycles : goal.returns-in_err-perform-clause-cycles
-returns-in_err-perform-clause-cycles g c =
-    let p = err_from_is_err_and c.from_residual.result c.from_residual.ensures.1 in
-    rw (p.1, p.2) (inr (_, refl, (inr (_, refl, c.in_err-perform.ensures.performs), refl)))
-
-pub returns-in_err-phase-clause-cycles : goal.returns-in_err-phase-clause-cycles
-returns-in_err-phase-clause-cycles g c =
-    let p = err_from_is_err_and c.from_residual-in_err-phase.result c.from_residual-in_err-phase.ensures.1 in
-    let begun = c.in_ok-perform.ensures.performs in
-    rw (p.1, p.2)
-    (inr (
-      _,
-      refl,
-      (
-        inl (
-          heap_view c.perform.new.seat,
-          (c.in_ok-perform.field-0, begun.0, begun.1),
-          inr (_, refl, c.in_err-phase.ensures.goes),
-        ),
-        refl,
-      ),
-    ))
-
-pub returns-in_err-phase-2-clause-cycles : goal.returns-in_err-phase-2-clause-cycles
-returns-in_err-phase-2-clause-cycles g c =
-    let p = err_from_is_err_and c.from_residual-in_err-phase-2.result c.from_residual-in_err-phase-2.ensures.1 in
-    let begun = c.in_ok-perform.ensures.performs in
-    rw (p.1, p.2)
-    (inr (
-      _,
-      refl,
-      (
-        inl (
-          heap_view c.perform.new.seat,
-          (c.in_ok-perform.field-0, begun.0, begun.1),
-          inl (heap_view c.phase.new.seat, c.in_ok-phase.ensures.goes, c.in_err-phase-2.ensures.goes),
-        ),
-        refl,
-      ),
-    ))
-
-pub returns-in_err-deliver_all-clause-cycles : goal.returns-in_err-deliver_all-clause-cycles
-returns-in_err-deliver_all-clause-cycles g c =
-    let p = err_from_is_err_and c.from_residual-in_err-deliver_all.result c.from_residual-in_err-deliver_all.ensures.1
-    in
-    let begun = c.in_ok-perform.ensures.performs in
-    rw (p.1, p.2)
-    (inl (
-      (heap_view c.phase-2.new.seat, c.args.queue_seats.now),
-      (
-        inl (
-          heap_view c.perform.new.seat,
-          (c.in_ok-perform.field-0, begun.0, begun.1),
-          inl (heap_view c.phase.new.seat, c.in_ok-phase.ensures.goes, c.in_ok-phase-2.ensures.goes),
-        ),
-        refl,
-      ),
-      inr (_, refl, c.in_err-deliver_all.ensures.calls),
-    ))
-
-pub returns-clause-cycles : goal.returns-clause-cycles
-returns-clause-cycles g c =
-    let begun = c.in_ok-perform.ensures.performs in
+pub returns-in-Ok-clause-cycles : goal.returns-in-Ok-clause-cycles
+returns-in-Ok-clause-cycles g c =
+    let d = c.deliver_all-delivered in
+    let delivers = subst
+    (λ (r : Result (Unit {0}) ShareFault). DeliversAll c.args.worker c.args.queues.now
+    (heap_view c.mark_and_clear.new.seat) c.args.queue_seats.now r d.result.1 (heap_view d.new.heap_seat)
+    d.new.queue_seats)
+    c.in-Ok.is d.ensures.calls in
     inl (
-      (heap_view c.phase-2.new.seat, c.args.queue_seats.now),
-      (
-        inl (
-          heap_view c.perform.new.seat,
-          (c.in_ok-perform.field-0, begun.0, begun.1),
-          inl (heap_view c.phase.new.seat, c.in_ok-phase.ensures.goes, c.in_ok-phase-2.ensures.goes),
-        ),
-        refl,
-      ),
+      (heap_view c.mark_and_clear.new.seat, (c.args.queue_seats.now, [])),
+      (c.in_default.ensures.goes, refl),
       inl (
-        (heap_view c.deliver_all.new.heap_seat, c.deliver_all.new.queue_seats),
-        c.in_ok-deliver_all.ensures.calls,
-        (c.phase-3.ensures.goes, refl),
+        (heap_view d.new.heap_seat, (d.new.queue_seats, d.result.1)),
+        delivers,
+        (c.phase.ensures.goes, refl),
       ),
+    )
+
+pub returns-in-Err-delivered-clause-cycles : goal.returns-in-Err-delivered-clause-cycles
+returns-in-Err-delivered-clause-cycles g c =
+    let d = c.deliver_all-delivered in
+    let delivers = subst
+    (λ (r : Result (Unit {0}) ShareFault). DeliversAll c.args.worker c.args.queues.now
+    (heap_view c.mark_and_clear.new.seat) c.args.queue_seats.now r d.result.1 (heap_view d.new.heap_seat)
+    d.new.queue_seats)
+    c.in-Err-delivered.is d.ensures.calls in
+    inl (
+      (heap_view c.mark_and_clear.new.seat, (c.args.queue_seats.now, [])),
+      (c.in_default.ensures.goes, refl),
+      inr (c.in-Err-delivered.fault, refl, delivers),
     )

@@ -5,10 +5,10 @@ ghost use Rattle.ref_share.specs.CleanedHeaps.{HasSeats};
 use super::counting_jobs;
 use super::hearing::Hearing;
 use crate::shares::calls::{Do, step_of};
-use crate::shares::{CONFIG, M, Q};
+use crate::shares::{CONFIG, M, Q, new_batch};
 use ref_base::{Config, Fault, ObjNo, PlainStep, Reply, SlotNo, Strength, Urgency};
 use ref_queue::Job;
-use ref_share::{Cleanable, Cleaned, CleanedHeap, ShareFault};
+use ref_share::{Cleanable, Cleaned, CleanedHeap, ShareFault, end_batch};
 use std::alloc::Global;
 use std::collections::VecDeque;
 use std::process::Abort;
@@ -130,7 +130,7 @@ fn unregistered<R: Wait>(rt: &R, heap: &mut CleanedHeap, no: u32) -> Told
 }
 
 /// Makes a call of the heap alone, and tells what was answered.
-fn shared<R: Wait>(rt: &R, heap: &mut CleanedHeap, call: OfHeap) -> Told
+fn shared<R: Wait + Abort>(rt: &R, alloc: Global, heap: &mut CleanedHeap, call: OfHeap) -> Told
     requires { HasSeats heap.old }
     ensures { HasSeats heap.new }
 {
@@ -146,21 +146,29 @@ fn shared<R: Wait>(rt: &R, heap: &mut CleanedHeap, call: OfHeap) -> Told
         }
         OfHeap::IsNull(slot) => replied(heap.refers_to(rt, SlotNo(slot), EMPTY)),
         OfHeap::MakeOrCollect(slot, now) => {
-            match heap.make_or_collect(rt, SlotNo(slot), 0, now) {
+            let batch = new_batch(rt, alloc);
+            let (made, left) = heap.make_or_collect(rt, SlotNo(slot), 0, now, batch);
+            end_batch(left);
+            match made {
                 Ok(reply) => replied(Ok(reply)),
                 Err(fault) => refused(fault),
             }
         }
-        OfHeap::Cycle(now, urgency) => match heap.cycle(rt, now, urgency) {
-            Ok(()) => Told::Done,
-            Err(fault) => refused(fault),
-        },
+        OfHeap::Cycle(now, urgency) => {
+            let (cycled, left) = heap.cycle(rt, now, urgency, new_batch(rt, alloc));
+            end_batch(left);
+            match cycled {
+                Ok(()) => Told::Done,
+                Err(fault) => refused(fault),
+            }
+        }
     }
 }
 
 /// Makes a call, and tells what was answered.
-fn answered<R: Wait>(
+fn answered<R: Wait + Abort>(
     rt: &R,
+    alloc: Global,
     heap: &mut CleanedHeap,
     jobs: &mut VecDeque<Job>,
     hearing: &Hearing,
@@ -170,7 +178,7 @@ fn answered<R: Wait>(
     ensures { HasSeats heap.new }
 {
     match call {
-        Call::Heap(call) => shared(rt, heap, call),
+        Call::Heap(call) => shared(rt, alloc, heap, call),
         Call::Register(slot) => registered(rt, heap, jobs, slot),
         Call::Clean(no) => cleaned(rt, heap, no),
         Call::Unregister(no) => unregistered(rt, heap, no),
@@ -210,7 +218,7 @@ fn use_all<R: Wait + Abort>(
     let mut jobs = jobs;
     let mut heap = CleanedHeap::new(alloc, CONFIG)?;
     for (row, &(call, want)) in calls.iter().enumerate() {
-        let told = answered(rt, &mut heap, &mut jobs, hearing, call);
+        let told = answered(rt, alloc, &mut heap, &mut jobs, hearing, call);
         assert!(rt; told == want, "row {row}: {told:?}");
     }
     Ok(heap.end())

@@ -7,12 +7,12 @@ pub returns-clause-seats : goal.returns-clause-seats
 returns-clause-seats g c =
     let seats = c.deliver_all.ensures.seats in
     let own = only_seat _ _ _ seats.1 c.from_ref-queues.ensures.value (omega (arith, c.from_mut-seats.ensures.len)) in
-    ((c.requires.0.0, own), seats.0)
+    ((c.requires.seats.0.0, own), seats.0)
 
 pub returns-clause-delivers : goal.returns-clause-delivers
 returns-clause-delivers g c =
     of_one_queue
     (λ queues seats after. DeliversAll c.args.worker queues (heap_view c.args.heap_seat.now) seats
-    c.deliver_all.result (heap_view c.deliver_all.new.heap_seat) after)
+    c.deliver_all.result.0 c.deliver_all.result.1 (heap_view c.deliver_all.new.heap_seat) after)
     _ c.args.self.now.queue c.args.seat.now.queue c.from_ref-queues.ensures.value c.from_mut-seats.ensures.value
     (omega (arith, c.from_mut-seats.ensures.len)) c.deliver_all.ensures.calls

@@ -61,6 +61,7 @@ module _ (e r : RattleType) (d : Ghosts e r) where
       search (
         cleaning_sync,
         seats_send,
+        global_send,
         dyn_box_send (Vt (slots e r) d.0) (ghosts_of (slots e r) d.0 d.1) d.2,
         dyn_box_send_over (Vt (slots e r) d.0) (ghosts_of (slots e r) d.0 d.1) d.2,
         crosses,

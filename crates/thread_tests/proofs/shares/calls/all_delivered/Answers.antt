@@ -4,14 +4,14 @@ use Rattle.thread_tests.proofs.shares.calls.all_delivered.Goals as goal
 
 pub returns-in-Ok : goal.returns-in-Ok
 returns-in-Ok g c = (
-  c.deliver_all.ensures.seats.0,
-  only_seat _ _ _ c.deliver_all.ensures.seats.1 c.from_ref-queues.ensures.value
+  c.deliver_all-answer.ensures.seats.0,
+  only_seat _ _ _ c.deliver_all-answer.ensures.seats.1 c.from_ref-queues.ensures.value
       (omega (arith, c.from_mut-own.ensures.len)),
 )
 
 pub returns-in-Err : goal.returns-in-Err
 returns-in-Err g c = (
   c.refused.ensures,
-  only_seat _ _ _ c.deliver_all.ensures.seats.1 c.from_ref-queues.ensures.value
+  only_seat _ _ _ c.deliver_all-answer.ensures.seats.1 c.from_ref-queues.ensures.value
       (omega (arith, c.from_mut-own.ensures.len)),
 )
