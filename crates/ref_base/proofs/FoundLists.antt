@@ -78,7 +78,7 @@ references_among-append : (os : List Object) (ms ns : List ℕ)
 references_among-append os [] ns = refl
 references_among-append os (m ∷ ms) ns = grind (arith, references_among-append os ms ns)
 
-references_among-has : (os : List Object) (ns : List ℕ) (n : ℕ) → has (references_among os ns) n ≡ true
+pub references_among-has : (os : List Object) (ns : List ℕ) (n : ℕ) → has (references_among os ns) n ≡ true
     → has ns n ≡ true
 references_among-has os [] n h = h
 references_among-has os (m ∷ ms) n h = grind (arith, references_among-has os ms n)

@@ -76,6 +76,24 @@ pub mod ClearingShifts
 pub mod ClearingOrders
 pub mod ClearingTraces
 pub mod ClearedOnwards
+pub mod Bases
+pub mod FreeRows
+pub mod PlainRows
+pub mod Fitting
+pub mod EverRows
+pub mod DoomExact
+pub mod FoundFits
+pub mod FoundStates
+pub mod FoundRows
+pub mod MarkEndRows
+pub mod MarkFacts
+pub mod EverWorlds
+pub mod GotPaths
+pub mod LeftCounts
+pub mod LegalMarks
+pub mod MarkAnswers
+pub mod NamedThere
+pub mod LegalEver
 mod ReplayExamples
 mod OrderExamples
 mod LegalExamples

@@ -1,8 +1,8 @@
 -- What a mark's end shows of each reference that it clears, in the world of the replay; and what stands after it.
-use Rattle.ref_base.proofs.Common.{arith, ◌≡◌, ℕ, true, false, List, [], ◌∷◌, ◌++◌, Some, refl, sym, ap, ◌∙◌, subst}
-use Rattle.ref_base.proofs.Common.{append_assoc, has, Object, is_there, IsKept, is_kept, MayDoom, new_clears}
-use Rattle.ref_base.proofs.Common.{reference_at, World, graph_of, replayed, State, joined, without, referent_of}
-use Rattle.ref_base.proofs.Common.{doomed_at, IsDead, MarkEnded, WasDoomed, Config, Marking, Row}
+use Rattle.ref_base.proofs.Common.{any_referent, arith, ◌≡◌, ℕ, true, false, List, [], ◌∷◌, ◌++◌, Some, refl, sym, ap}
+use Rattle.ref_base.proofs.Common.{◌∙◌, subst, append_assoc, has, Object, is_there, IsKept, is_kept, MayDoom}
+use Rattle.ref_base.proofs.Common.{new_clears, reference_at, World, graph_of, replayed, State, joined, without}
+use Rattle.ref_base.proofs.Common.{referent_of, doomed_at, IsDead, MarkEnded, WasDoomed, Config, Marking, Row}
 use Rattle.ref_base.proofs.NewClears.{has-new_clears}
 use Rattle.ref_base.proofs.SeenObjects.{object_at-without, rising-without}
 use Rattle.ref_base.proofs.AgreeHeaps.{Agreeing, there-without, unscanned-there}
@@ -19,7 +19,7 @@ RefersToDead w n = (referent : ℕ) × (referent_of (reference_at w.heap n) ≡ 
 
 -- what a mark's end says, in the world of the replay
 module _ (gone : List ℕ) (w : World) (a : State) (is : Agreeing gone w a) (marking : a.world.phase ≡ Marking)
-    (closed : IsClosed (λ n. has gone n ≡ false) a.world)
+    (closed : IsClosed any_referent (λ n. has gone n ≡ false) a.world)
     (may : MayDoom a.world.policy (graph_of a.world) a.moments (doomed_at a)) where
   there : a.world ≡ world_but gone w
   there = as_there gone w a Marking is.agrees marking refl
@@ -39,7 +39,7 @@ module _ (gone : List ℕ) (w : World) (a : State) (is : Agreeing gone w a) (mar
         may.none_kept n doomed
         (subst (λ (v : World). IsKept v.policy (graph_of v) n) (sym there)
         (path_but (λ k. has gone k ≡ false) gone w (is_kept w.policy) (λ k out. out)
-        (subst (λ (v : World). IsClosed (λ k. has gone k ≡ false) v) there closed) n kept).1);
+        (subst (λ (v : World). IsClosed any_referent (λ k. has gone k ≡ false) v) there closed) n kept).1);
   }
 
   -- a reference that it clears has one of these as its referent

@@ -1,14 +1,16 @@
 -- What a load or a get finds is what the object refers to.
-use Rattle.ref_base.proofs.Common.{arith, ◌≡◌, ℕ, zero, suc, true, Option, Some, None, false≢true, has, Object}
+use Rattle.ref_base.proofs.Common.{arith, ◌≡◌, ℕ, zero, suc, true, Option, Some, None, false≢true, has, Object, Allowed}
 use Rattle.ref_base.proofs.Common.{any_referent, present, allowed_referent, targets_of, reference_in, nulls, field_of}
 use Rattle.ref_base.proofs.Common.{referent_got}
 use Rattle.ref_base.proofs.HasLaws.{has-left, has-right}
 use Rattle.ref_base.proofs.Lookups.{has-present_at}
 
-pub field_target : (o : Option Object) (i n : ℕ) → field_of o i ≡ Some n → has (targets_of any_referent o) n ≡ true
-field_target None i n is = absurd cc
-field_target (Some o) i n is =
-    has-left (present o.fields) (allowed_referent any_referent o.reference) n (has-present_at o.fields i n is)
+-- whatever paths may go through
+pub field_target : (allow : Allowed) (o : Option Object) (i n : ℕ) → field_of o i ≡ Some n
+    → has (targets_of allow o) n ≡ true
+field_target allow None i n is = absurd cc
+field_target allow (Some o) i n is =
+    has-left (present o.fields) (allowed_referent allow o.reference) n (has-present_at o.fields i n is)
 
 pub got_target : (o : Option Object) (n : ℕ) → referent_got (reference_in o) ≡ Some n
     → has (targets_of any_referent o) n ≡ true

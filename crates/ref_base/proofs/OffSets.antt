@@ -20,7 +20,7 @@ world_but gone w = with_heap w (record w.heap { objects = without gone w.heap.ob
 
 -- where whatever a root names isn't gone, nor whatever that refers to, a path leads to the same without what is gone
 pub path_but : (V : ℕ → Type 0) (gone : List ℕ) (w : World) (allow : Allowed)
-    → ((n : ℕ) → V n → has gone n ≡ false) → IsClosed V (world_but gone w) → (n : ℕ)
+    → ((n : ℕ) → V n → has gone n ≡ false) → IsClosed any_referent V (world_but gone w) → (n : ℕ)
     → EndsPath allow (graph_of w) n → V n × EndsPath allow (graph_of (world_but gone w)) n
 path_but V gone w allow kept closed n ends =
     let os : List Object = w.heap.objects in
@@ -29,7 +29,7 @@ path_but V gone w allow kept closed n ends =
     λ m is there. ap is_some (object_at-without gone os m (kept m is)) ∙ there in
     path_within allow (graph_of w) (λ m. V m × EndsPath allow part m)
     (λ m there root.
-    let is : V m = closed_roots V (world_but gone w) m closed root in
+    let is : V m = closed_roots any_referent V (world_but gone w) m closed root in
     (is, root_ends allow part m (there_still m is there) root))
     (λ m k before target there.
     let same : has (targets_at allow (without gone os) m) k ≡ true =
@@ -63,7 +63,7 @@ all_own : (ps : List Pending) → AllByRecursion (λ p. has (map (λ p. p.object
 all_own [] = tt
 all_own (p ∷ ps) = grind (arith, all_more, all_own ps)
 
-pending_roots : (lists : List (List Pending)) (k : ℕ)
+pub pending_roots : (lists : List (List Pending)) (k : ℕ)
     → AllByRecursion (λ p. has (pending_numbers lists) p.object ≡ true) (slice_index_or lists k [])
 pending_roots [] k = tt
 pending_roots (ps ∷ lists) zero = search (all_more, has-left, all_own ps)
@@ -78,7 +78,7 @@ all_both P Q R (p ∷ ps) both all also = (both p all.0 also.0, all_both P Q R p
 module _ (gone d : List ℕ) (w : World) (moments : List Graph)
     (may : MayDoom w.policy (graph_of w) moments d)
     (there : (n : ℕ) → has d n ≡ true → is_there w.heap.objects n ≡ true)
-    (closed : IsClosed (λ n. has gone n ≡ false) w) where
+    (closed : IsClosed any_referent (λ n. has gone n ≡ false) w) where
   abbrev IsOut : ℕ → Type 0
   IsOut n = has (gone ++ d) n ≡ false
 
@@ -97,7 +97,7 @@ module _ (gone d : List ℕ) (w : World) (moments : List Graph)
   fields_kept : (r : Reference) → no_referents r ≡ true → is_kept w.policy r ≡ true
   fields_kept r none = absurd (false≢true none)
 
-  pub ended_closed : IsClosed IsOut
+  pub ended_closed : IsClosed any_referent IsOut
       (with_heap w (record w.heap { objects = map (λ o. shown d o) w.heap.objects }))
   ended_closed =
       let os : List Object = w.heap.objects in

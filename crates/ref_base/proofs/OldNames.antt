@@ -1,8 +1,8 @@
 -- In every legal trace each number is given once: whatever is named has a number below the next.
 use Rattle.ref_base.proofs.Common.{◌≡◌, ℕ, ◌+◌, ◌*◌, ◌<◌, ◌≤◌, true, List, [], ◌∷◌, map, Option, Some, None, refl, sym}
-use Rattle.ref_base.proofs.Common.{ap, subst, arith, inl, inr, false≢true, Object, object_at, is_there, numbers}
-use Rattle.ref_base.proofs.Common.{IsRising, World, NamedStep, replayed, State, first_state, heap_refusal, HeapAccepts}
-use Rattle.ref_base.proofs.Common.{shown, mark_ended, doomed_at, IsRun, Config, Reply, Row, heap_step}
+use Rattle.ref_base.proofs.Common.{ap, subst, arith, inl, inr, false≢true, any_referent, Object, object_at, is_there}
+use Rattle.ref_base.proofs.Common.{numbers, IsRising, World, NamedStep, replayed, State, first_state, heap_refusal}
+use Rattle.ref_base.proofs.Common.{HeapAccepts, shown, mark_ended, doomed_at, IsRun, Config, Reply, Row, heap_step}
 use Rattle.ref_base.specs.OldNumbers.{HasOldNumbers}
 use Rattle.ref_base.proofs.CarryRows.{all_more, nothing_pending}
 use Rattle.ref_base.proofs.CountedTraces.{legal_counted}
@@ -25,12 +25,12 @@ use Rattle.ref_base.specs.declared.plain_step.PlainStep.TheVariants as plain
 
 -- an object refers to no more once the mark has ended
 shown_refers : (V : ℕ → Type 0) (d : List ℕ) (os : List Object) (m : ℕ)
-    → Refers V (object_at os m) (object_at (map (λ o. shown d o) os) m)
+    → Refers any_referent V (object_at os m) (object_at (map (λ o. shown d o) os) m)
 shown_refers V d [] m = λ n target. inl target
-shown_refers V d (o ∷ os) m = grind (arith, shown_refers V d os m, refers_cleared V o)
+shown_refers V d (o ∷ os) m = grind (arith, shown_refers V d os m, refers_cleared any_referent V o)
 
-ended_old : (V : ℕ → Type 0) (a : State) (found : List (List ℕ)) → IsClosed V a.world
-    → IsClosed V (mark_ended a (doomed_at a) found).world
+pub ended_old : (V : ℕ → Type 0) (a : State) (found : List (List ℕ)) → IsClosed any_referent V a.world
+    → IsClosed any_referent V (mark_ended a (doomed_at a) found).world
 ended_old V a found closed = grind (arith, shown_refers V)
 
 -- ---- rows
@@ -48,7 +48,7 @@ old_objects gone w a is n there =
 
 -- what is below the next is below a greater one
 old_more : (a : State) (next : ℕ) → ((n : ℕ) → is_there a.world.heap.objects n ≡ true → n < a.next) → a.next ≤ next
-    → IsClosed (λ n. n < a.next) a.world → IsClosed (λ n. n < next) a.world
+    → IsClosed any_referent (λ n. n < a.next) a.world → IsClosed any_referent (λ n. n < next) a.world
 old_more a next objects grows closed = grind (arith, all_more)
 
 -- what is made has the next number, and then comes one more
@@ -59,8 +59,8 @@ made_next a (heap.Plain (plain.Refer m strength d s q k)) reply made = refl
 made_next a step reply made = absurd cc
 
 plain_old : (gone : List ℕ) (w : World) (a c : State) (step : NamedStep) (reply : Reply) → Agreeing gone w a
-    → IsNoEnd step → heap_refusal a step ≡ None → HeapAccepts a step reply c → IsClosed (λ n. n < a.next) a.world
-    → IsClosed (λ n. n < c.next) c.world
+    → IsNoEnd step → heap_refusal a step ≡ None → HeapAccepts a step reply c
+    → IsClosed any_referent (λ n. n < a.next) a.world → IsClosed any_referent (λ n. n < c.next) c.world
 plain_old gone w a c step reply is no_end none row closed =
     let grows : a.next ≤ c.next = next_heap a c step reply row in
     let leads : c.next ≡ (outcome a step reply).next =
@@ -70,25 +70,26 @@ plain_old gone w a c step reply is no_end none row closed =
     (λ clearing n cleared. let less = is.cleared_below n cleared in omega (arith, less, grows)) row
 
 heap_old : (gone : List ℕ) (w : World) (a c : State) (step : NamedStep) (reply : Reply) → Agreeing gone w a
-    → heap_refusal a step ≡ None → HeapAccepts a step reply c → IsClosed (λ n. n < a.next) a.world
-    → IsClosed (λ n. n < c.next) c.world
+    → heap_refusal a step ≡ None → HeapAccepts a step reply c → IsClosed any_referent (λ n. n < a.next) a.world
+    → IsClosed any_referent (λ n. n < c.next) c.world
 heap_old gone w a c (heap.Plain plain.EndMark) reply is none row closed =
-    subst (λ (s : State). IsClosed (λ n. n < s.next) s.world) (sym row.after)
+    subst (λ (s : State). IsClosed any_referent (λ n. n < s.next) s.world) (sym row.after)
     (ended_old (λ n. n < a.next) a row.found closed)
 heap_old gone w a c step reply is none row closed = plain_old gone w a c step reply is tt none row closed
 
 -- other hands and queues
-same_old : (a b : State) → at_rest b ≡ at_rest a → IsClosed (λ n. n < a.next) a.world
-    → IsClosed (λ n. n < b.next) b.world
+same_old : (a b : State) → at_rest b ≡ at_rest a → IsClosed any_referent (λ n. n < a.next) a.world
+    → IsClosed any_referent (λ n. n < b.next) b.world
 same_old a b same closed =
     let others : but_hands b.world ≡ but_hands a.world = ap (λ (s : State). s.world) same in
-    subst (λ (k : ℕ). IsClosed (λ n. n < k) b.world) (sym (ap (λ (s : State). s.next) same))
-    (closed_same (λ n. n < a.next) a.world b.world (ap (λ (w : World). w.heap.slots) others)
+    subst (λ (k : ℕ). IsClosed any_referent (λ n. n < k) b.world) (sym (ap (λ (s : State). s.next) same))
+    (closed_same any_referent (λ n. n < a.next) a.world b.world (ap (λ (w : World). w.heap.slots) others)
     (ap (λ (w : World). w.heap.holds) others) (ap (λ (w : World). w.pending) others)
     (ap (λ (w : World). w.heap.objects) others) closed)
 
 turn_old : (gone : List ℕ) (w : World) (a b : State) (asked : Option NamedStep) (reply : Reply) → Agreeing gone w a
-    → IsTurn a asked reply b → IsClosed (λ n. n < a.next) a.world → IsClosed (λ n. n < b.next) b.world
+    → IsTurn a asked reply b → IsClosed any_referent (λ n. n < a.next) a.world
+    → IsClosed any_referent (λ n. n < b.next) b.world
 turn_old gone w a b asked reply is (inl of) closed = same_old a b of.after closed
 turn_old gone w a b asked reply is (inr of) closed =
     same_old of.left b of.after (heap_old gone w a of.left of.step reply is of.passes of.accepts closed)
@@ -96,9 +97,9 @@ turn_old gone w a b asked reply is (inr of) closed =
 -- ---- after every legal trace
 
 legal_old : (config : Config) (rows : List Row) (b : State) → IsRun (first_state config) rows b
-    → IsClosed (λ n. n < b.next) b.world
+    → IsClosed any_referent (λ n. n < b.next) b.world
 legal_old config rows b run =
-    legal_holds config (λ past a. IsClosed (λ n. n < a.next) a.world)
+    legal_holds config (λ past a. IsClosed any_referent (λ n. n < a.next) a.world)
     (λ past a row c run closed h.
     let known = legal_out config past a run in
     turn_old known.0 (replayed config past) a c (heap_step a.world row.step) row.reply known.1

@@ -1,10 +1,10 @@
 -- Each row of a heap keeps that what is gone or doomed is out of reach, and that a mark's end has shown what it
 -- cleared.
-use Rattle.ref_base.proofs.Common.{arith, ◌≡◌, ℕ, true, false, List, [], ◌++◌, take, drop, None, refl, sym, ap, ◌∙◌}
-use Rattle.ref_base.proofs.Common.{subst, inl, inr, or_from, append-nil, append_assoc, take-append-drop, has, World}
-use Rattle.ref_base.proofs.Common.{NamedStep, State, joined, heap_refusal, HeapAccepts, EndsMark, doomed_at, IsDead}
-use Rattle.ref_base.proofs.Common.{MarkEnded, WasDoomed, Config, Phase, Idle, Marking, Clearing, Sweeping, Moving}
-use Rattle.ref_base.proofs.Common.{Reply, Row}
+use Rattle.ref_base.proofs.Common.{any_referent, arith, ◌≡◌, ℕ, true, false, List, [], ◌++◌, take, drop, None, refl}
+use Rattle.ref_base.proofs.Common.{sym, ap, ◌∙◌, subst, inl, inr, or_from, append-nil, append_assoc, take-append-drop}
+use Rattle.ref_base.proofs.Common.{has, World, NamedStep, State, joined, heap_refusal, HeapAccepts, EndsMark, doomed_at}
+use Rattle.ref_base.proofs.Common.{IsDead, MarkEnded, WasDoomed, Config, Phase, Idle, Marking, Clearing, Sweeping}
+use Rattle.ref_base.proofs.Common.{Moving, Reply, Row}
 use Rattle.ref_base.proofs.HasLaws.{has-append, has-cases}
 use Rattle.ref_base.proofs.Outcomes.{heap_outcome, outcome, IsNoEnd}
 use Rattle.ref_base.proofs.OutcomeParts.{outcome_phase}
@@ -35,7 +35,7 @@ off gone a = gone ++ doomed_in a.world.phase a.doomed
 -- until the sweep has ended; and while references are cleared, each that the mark's end cleared isn't among these, and
 -- the mark's end has shown of it, in this cycle, what it shows.
 pub record AreOutBy (Dead : ℕ → Type 0) (Shown : ℕ → ℕ → Type 0) (gone : List ℕ) (a : State) : Type 0 where
-  pub closed : IsClosed (λ n. has (off gone a) n ≡ false) a.world
+  pub closed : IsClosed any_referent (λ n. has (off gone a) n ≡ false) a.world
   pub dead : (n : ℕ) → has (off gone a) n ≡ true → Dead n
   pub whole : doomed_in a.world.phase a.doomed ≡ a.doomed
   pub spared : a.world.phase ≡ Clearing → (n : ℕ) → has a.cleared n ≡ true → has (off gone a) n ≡ false
@@ -100,7 +100,7 @@ module _ (Dead : ℕ → Type 0) (Shown : ℕ → ℕ → Type 0) (gone : List �
       let now : List ℕ = gone_after a gone step reply in
       let same : off now c ≡ off gone a = off_same gone a c step reply no_end none row in
       record {
-        closed = subst (λ ns. IsClosed (λ n. has ns n ≡ false) c.world) (sym same)
+        closed = subst (λ ns. IsClosed any_referent (λ n. has ns n ≡ false) c.world) (sym same)
             (heap_closed (λ n. has (off gone a) n ≡ false) a c out.closed step reply no_end none
             (λ made. next_out gone w a is) out.spared row);
         dead = λ n is_off. out.dead n (ap (λ ns. has ns n) (sym same) ∙ is_off);
@@ -121,12 +121,12 @@ module _ (Dead : ℕ → Type 0) (Shown : ℕ → ℕ → Type 0) (gone : List �
   end_out Later Shows reply later found shows marking row =
       let d : List ℕ = doomed_at a in
       let none : off gone a ≡ gone = off_is gone a.doomed a Marking marking refl ∙ append-nil gone in
-      let closed : IsClosed (λ n. has gone n ≡ false) a.world =
-      subst (λ ns. IsClosed (λ n. has ns n ≡ false) a.world) none out.closed in
+      let closed : IsClosed any_referent (λ n. has gone n ≡ false) a.world =
+      subst (λ ns. IsClosed any_referent (λ n. has ns n ≡ false) a.world) none out.closed in
       let told = mark_shows gone w a is marking closed row.may_doom in
       let dead = doomed_dead gone w a is marking closed row.may_doom in
       subst (λ (s : State). AreOutBy Later Shows gone s) (sym row.after) (record {
-        closed = closed_same (λ n. has (gone ++ d) n ≡ false) _ _ refl refl refl refl
+        closed = closed_same any_referent (λ n. has (gone ++ d) n ≡ false) _ _ refl refl refl refl
             (ended_closed gone d a.world a.moments row.may_doom
             (λ n doomed. unscanned-there a.world.heap.objects a.born (joined a.scanned) n doomed) closed);
         dead = λ n is_off. elim (has-cases gone d n is_off) [

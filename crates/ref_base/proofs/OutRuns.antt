@@ -1,13 +1,13 @@
 -- Each row keeps that what is gone or doomed is out of reach, and that a mark's end has shown what it cleared.
-use Rattle.ref_base.proofs.Common.{arith, ◌≡◌, ℕ, ◌+◌, false, List, [], ◌∷◌, ◌++◌, length, Option, Some, None, refl}
-use Rattle.ref_base.proofs.Common.{sym, ap, ◌∙◌, subst, inl, inr, has, World, Notice, hand_of, NamedStep, heap_step}
-use Rattle.ref_base.proofs.Common.{spending, replayed, State, heap_refusal, HeapAccepts, Selects, EndsMove, IsRow}
-use Rattle.ref_base.proofs.Common.{doomed_at, AreCounted, MarkEnded, WasDoomed, Config, Mutator, Phase, Idle, Marking}
-use Rattle.ref_base.proofs.Common.{Clearing, Sweeping, Moving, HoldName, Step, Reply, Row, IsDead, hold_of}
+use Rattle.ref_base.proofs.Common.{any_referent, arith, ◌≡◌, ℕ, ◌+◌, false, List, [], ◌∷◌, ◌++◌, length, Option, Some}
+use Rattle.ref_base.proofs.Common.{None, refl, sym, ap, ◌∙◌, subst, inl, inr, has, World, Notice, hand_of, NamedStep}
+use Rattle.ref_base.proofs.Common.{heap_step, spending, replayed, State, heap_refusal, HeapAccepts, Selects, EndsMove}
+use Rattle.ref_base.proofs.Common.{IsRow, doomed_at, AreCounted, MarkEnded, WasDoomed, Config, Mutator, Phase, Idle}
+use Rattle.ref_base.proofs.Common.{Marking, Clearing, Sweeping, Moving, HoldName, Step, Reply, Row, IsDead, hold_of}
 use Rattle.ref_base.proofs.Outcomes.{settled, outcome, heap_outcome, IsNoEnd}
 use Rattle.ref_base.proofs.PhaseLaws.{of_phase}
 use Rattle.ref_base.proofs.HeapTurns.{at_rest, IsIdle, IsTurn, row_turn}
-use Rattle.ref_base.proofs.ReplayKeeps.{EndsNoPhase, but_hands}
+use Rattle.ref_base.proofs.ReplayKeeps.{EndsNoPhase, but_hands, FreesNone}
 use Rattle.ref_base.proofs.AgreeHeaps.{Agreeing, gone_after, not_in}
 use Rattle.ref_base.proofs.AgreeRuns.{gone_next}
 use Rattle.ref_base.proofs.ApartWorlds.{IsClosed}
@@ -15,7 +15,6 @@ use Rattle.ref_base.proofs.ClosedRows.{closed_same}
 use Rattle.ref_base.proofs.MarkShows.{RefersToDead, mark_ended, was_doomed, ended_more, doomed_more}
 use Rattle.ref_base.proofs.OutHeaps.{AreOutBy, AreOut, off, doomed_in, plain_out, end_out}
 use Rattle.ref_base.proofs.OutcomeParts.{outcome_phase, outcome_cycle, outcome_cleared}
-use Rattle.ref_base.proofs.ReplayKeeps.{FreesNone}
 use Rattle.ref_base.specs.declared.heap_step.HeapStep.TheVariants as heap
 use Rattle.ref_base.specs.declared.plain_step.PlainStep.TheVariants as plain
 use Rattle.ref_base.specs.declared.step.Step.TheVariants as steps
@@ -39,8 +38,9 @@ same_out Dead Shown gone a b out same =
     let offs : off gone b ≡ off gone a =
     ap (λ (p : Phase). gone ++ doomed_in p b.doomed) phase ∙ ap (λ ds. gone ++ doomed_in a.world.phase ds) doomed in
     record {
-      closed = subst (λ ns. IsClosed (λ n. has ns n ≡ false) b.world) (sym offs)
-          (closed_same (λ n. has (off gone a) n ≡ false) a.world b.world (ap (λ (w : World). w.heap.slots) others)
+      closed = subst (λ ns. IsClosed any_referent (λ n. has ns n ≡ false) b.world) (sym offs)
+          (closed_same any_referent (λ n. has (off gone a) n ≡ false) a.world b.world
+          (ap (λ (w : World). w.heap.slots) others)
           (ap (λ (w : World). w.heap.holds) others) (ap (λ (w : World). w.pending) others)
           (ap (λ (w : World). w.heap.objects) others) out.closed);
       dead = λ n is_off. out.dead n (ap (λ ns. has ns n) (sym offs) ∙ is_off);

@@ -34,8 +34,8 @@ pub unread_renewed : (h : Heap) (n : ℕ) (value : Option ℕ) → is_some value
 unread_renewed h n None none = refl
 unread_renewed h n (Some value) none = absurd (false≢true (sym none))
 
--- nor is another reference
-pub unstamped_renewed : (h : Heap) (n : ℕ) (r : Reference) (value : Option ℕ) → reference_at h n ≡ Some r
+-- nor is another reference, so that the slot alone changes
+unstamped_renewed : (h : Heap) (n : ℕ) (r : Reference) (value : Option ℕ) → reference_at h n ≡ Some r
     → is_soft r.strength ≡ false → h ≡ renewed h n value
 unstamped_renewed h n r None found other = refl
 unstamped_renewed h n r (Some value) found other = grind (arith, changed_same)
@@ -45,6 +45,11 @@ pub got_renewed : (h : Heap) (m d s n : ℕ) (value : Option ℕ) → slot_at h 
     → with_slot (renewed h n value) m d value ≡ got h m d s value
 got_renewed h m d s n None held = refl
 got_renewed h m d s n (Some value) held = grind arith
+
+pub got_unstamped : (h : Heap) (m d s n : ℕ) (r : Reference) (value : Option ℕ) → slot_at h m s ≡ Some n
+    → reference_at h n ≡ Some r → is_soft r.strength ≡ false → with_slot h m d value ≡ got h m d s value
+got_unstamped h m d s n r value held found other =
+    ap (λ k. with_slot k m d value) (unstamped_renewed h n r value found other) ∙ got_renewed h m d s n value held
 
 -- it refers to what it did
 changed_referent : (os : List Object) (n : ℕ) (f : Reference → Reference)
@@ -72,12 +77,14 @@ got_referent : (g : Ground) (hide : Bool) (r : Reference) (n : ℕ)
     → read_as g hide (referent_got (Some r)) ≡ Some n → r.referent ≡ Some n
 got_referent g hide r n is = grind (arith, read_some g hide (referent_got (Some r)) n is)
 
--- so after a get the slot that was read still holds a reference to it
-pub still_refers : (g : Ground) (hide : Bool) (r : Reference) (k n place : ℕ) (value : Option ℕ)
-    → slice_index_or g.heap.slots place None ≡ Some k → reference_at g.heap k ≡ Some r
-    → value ≡ read_as g hide (referent_got (Some r)) → value ≡ Some n
-    → referent_of (reference_of (renewed g.heap k value) (slice_index_or (renewed g.heap k value).slots place None))
-    ≡ Some n
-still_refers g hide r k n place value held reads answers is =
-    rw (renewed_slots g.heap k value, held)
-    (renewed_referent g.heap k value ∙ ap referent_of reads ∙ got_referent g hide r n (sym answers ∙ is))
+pub got_refers : (g : Ground) (hide : Bool) (r : Reference) (k n : ℕ) (value : Option ℕ)
+    → reference_at g.heap k ≡ Some r → value ≡ read_as g hide (referent_got (Some r)) → value ≡ Some n
+    → referent_of (reference_at g.heap k) ≡ Some n
+got_refers g hide r k n value reads answers is = ap referent_of reads ∙ got_referent g hide r n (sym answers ∙ is)
+
+-- so once it is renewed the slot that was read still holds a reference to it
+pub still_refers : (h : Heap) (k n place : ℕ) (value : Option ℕ) → slice_index_or h.slots place None ≡ Some k
+    → referent_of (reference_at h k) ≡ Some n
+    → referent_of (reference_of (renewed h k value) (slice_index_or (renewed h k value).slots place None)) ≡ Some n
+still_refers h k n place value held refers =
+    rw (renewed_slots h k value, held) (renewed_referent h k value ∙ refers)

@@ -15,7 +15,7 @@ use Rattle.ref_base.specs.CollectorRows.{Moves, EndsMove, field_in, referent_got
 use Rattle.ref_base.specs.CollectorRows.{one_handed, all_handed, looked_at}
 use Rattle.ref_base.specs.Graphs.{object_at}
 use Rattle.ref_base.specs.Heaps.{slot_at, registered_in}
-use Rattle.ref_base.specs.Paths.{if_any}
+use Rattle.ref_base.specs.Paths.{any_referent, if_any}
 use Rattle.ref_base.specs.Refusals.{is_in, batch_of}
 use Rattle.ref_base.specs.Replay.{after_heap}
 use Rattle.ref_base.specs.Told.{told_object}
@@ -72,7 +72,7 @@ module _ (n : ℕ) (x y : State) (none : InNoObject n x.world) (old : n < x.next
   field_other : (held : Option ℕ) (i : ℕ) → field_in x.world.heap held i ≢ Some n
   field_other None i = λ is. absurd cc
   field_other (Some m) i = λ is.
-      false≢true (sym (none.each m) ∙ field_target (object_at x.world.heap.objects m) i n is)
+      false≢true (sym (none.each m) ∙ field_target any_referent (object_at x.world.heap.objects m) i n is)
 
   got_other : (held : Option ℕ) → referent_got (reference_of x.world.heap held) ≢ Some n
   got_other None = λ is. absurd cc

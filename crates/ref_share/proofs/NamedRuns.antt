@@ -9,6 +9,7 @@ use Rattle.std.proofs.lemmas.Bool.{eqb-true}
 use Rattle.ref_base.proofs.AgreeHeaps.{Agreeing}
 use Rattle.ref_base.proofs.ApartWorlds.{IsClosed}
 use Rattle.ref_base.proofs.HeapTurns.{IsRefusedOrAccepted}
+use Rattle.ref_base.specs.Paths.{any_referent}
 use Rattle.ref_base.specs.Told.{named_by}
 use Rattle.ref_base.proofs.AgreeHeaps.{gone_after}
 use Rattle.ref_base.proofs.ClosedRows.{named_is}
@@ -83,7 +84,7 @@ holds_of V (m ∷ ns) n all there =
 
 -- nothing that a call names is off
 names_on : (gone : List ℕ) (w : World) (c e : State) (step : NamedStep) (reply : Reply) → Agreeing gone w c
-    → IsClosed (λ m. has (off gone c) m ≡ false) c.world → IsRefusedOrAccepted c step reply e
+    → IsClosed any_referent (λ m. has (off gone c) m ≡ false) c.world → IsRefusedOrAccepted c step reply e
     → AllByRecursion (λ m. has (off gone c) m ≡ false) (named_by reply)
 names_on gone w c e step reply agrees closed (inl of) =
     subst (λ (r : Reply). AllByRecursion (λ m. has (off gone c) m ≡ false) (named_by r)) (sym of.1) tt

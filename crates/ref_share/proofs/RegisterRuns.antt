@@ -14,6 +14,7 @@ use Rattle.std.proofs.lemmas.Bool.{and_parts, ltb-true}
 use Rattle.ref_base.specs.CollectorRows.{shown}
 use Rattle.ref_base.specs.Graphs.{Object, object_at}
 use Rattle.ref_base.specs.Heaps.{Heap}
+use Rattle.ref_base.specs.Paths.{any_referent}
 use Rattle.ref_base.specs.Refusals.{has_slot, has_slots, is_mutator}
 use Rattle.ref_base.specs.Replay.{after_heap}
 use Rattle.ref_base.specs.Told.{told_object, named_by}
@@ -53,15 +54,16 @@ use Rattle.ref_world.specs.declared.heap_machine.HeapReply.TheVariants as replie
 
 -- an object refers to no more once the mark has ended
 shown_refers : (V : ℕ → Type 0) (d : List ℕ) (os : List Object) (m : ℕ)
-    → Refers V (object_at os m) (object_at (map (λ o. shown d o) os) m)
+    → Refers any_referent V (object_at os m) (object_at (map (λ o. shown d o) os) m)
 shown_refers V d [] m = λ n target. inl target
-shown_refers V d (o ∷ os) m = grind (arith, shown_refers V d os m, refers_cleared V o)
+shown_refers V d (o ∷ os) m = grind (arith, shown_refers V d os m, refers_cleared any_referent V o)
 
-ended : (V : ℕ → Type 0) (a b : State) (reply : Reply) → EndsMark a reply b → IsClosed V a.world → IsClosed V b.world
+ended : (V : ℕ → Type 0) (a b : State) (reply : Reply) → EndsMark a reply b → IsClosed any_referent V a.world
+    → IsClosed any_referent V b.world
 ended V a b reply row closed =
-    subst (λ (s : State). IsClosed V s.world) (sym row.after)
-    (closed_same V _ _ refl refl refl refl
-    (closed_objects V a.world (map (λ o. shown (doomed_at a) o) a.world.heap.objects)
+    subst (λ (s : State). IsClosed any_referent V s.world) (sym row.after)
+    (closed_same any_referent V _ _ refl refl refl refl
+    (closed_objects any_referent V a.world (map (λ o. shown (doomed_at a) o) a.world.heap.objects)
     (λ m is. shown_refers V (doomed_at a) a.world.heap.objects m) closed))
 
 -- what is made takes the next number
@@ -104,13 +106,13 @@ given_named n step reply all = refl
 module _ (config : Config) (number n : ℕ) where
   -- nothing names n: no slot, hold or pending reference, and no object
   record IsFresh (past : List HeapEntry) (x : State) : Type 0 where
-    pub closed : IsClosed (λ k. k ≢ n) x.world
+    pub closed : IsClosed any_referent (λ k. k ≢ n) x.world
     pub free : IsFree n None (heap_replayed config number past)
 
   closed_next : (gone : List ℕ) (past : List HeapEntry) (x y : State) (step : NamedStep) (reply : Reply)
-      → ((k : ℕ) → has x.cleared k ≡ true → k < x.next) → IsClosed (λ k. k ≢ n) x.world → x.next ≤ n
+      → ((k : ℕ) → has x.cleared k ≡ true → k < x.next) → IsClosed any_referent (λ k. k ≢ n) x.world → x.next ≤ n
       → (made_number step reply ≡ Some x.next → x.next ≢ n) → heap_refusal x step ≡ None → HeapAccepts x step reply y
-      → IsClosed (λ k. k ≢ n) y.world
+      → IsClosed any_referent (λ k. k ≢ n) y.world
   closed_next gone past x y (heap.Plain plain.EndMark) reply below closed small other passes row =
       ended (λ k. k ≢ n) x y reply row closed
   closed_next gone past x y step reply below closed small other passes row =
@@ -128,7 +130,7 @@ module _ (config : Config) (number n : ℕ) where
       elim (heap_kind x y call.step (told_reply call.reply) turn.row) [
         | inl of ↦ (
           record {
-            closed = subst (λ (s : State). IsClosed (λ k. k ≢ n) s.world) (sym of.2) fresh.closed;
+            closed = subst (λ (s : State). IsClosed any_referent (λ k. k ≢ n) s.world) (sym of.2) fresh.closed;
             free = subst (IsFree n None)
                 (sym (replayed_last _ past call ∙ ap (λ (r : Reply). after_heap w call.step r) of.1
                 ∙ heap_refused w call.step of.0)) fresh.free;

@@ -59,7 +59,10 @@ module _ (n : ℕ) where
   lacks_cleared : (o : Object) → Lacks (Some o) → Lacks (Some (with_reference cleared o))
   lacks_cleared o lacks =
       false_from_ne_true (has (targets_of any_referent (Some (with_reference cleared o))) n) (λ there.
-      elim (refers_cleared (λ k. k ≢ n) o n there) [ inl old ↦ false≢true (sym lacks ∙ old) | inr other ↦ other refl ])
+      elim (refers_cleared any_referent (λ k. k ≢ n) o n there) [
+        | inl old ↦ false≢true (sym lacks ∙ old)
+        | inr other ↦ other refl
+      ])
 
   same_referent : (clock : ℕ) (r : Option Reference)
       → allowed_referent any_referent (changed_reference (got_at clock) r) ≡ allowed_referent any_referent r

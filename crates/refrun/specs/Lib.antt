@@ -19,6 +19,7 @@ pub mod JobViews
 pub mod ScriptRuns
 pub mod ScriptStanding
 pub mod Traces
+pub mod DrawnScripts
 pub mod Listings
 pub mod StressChecks
 pub mod StressEvidence

@@ -15,6 +15,7 @@ mod numerals;
 mod operands;
 mod outcomes;
 mod printed;
+mod random;
 mod reading;
 mod script;
 mod script_step;
@@ -31,6 +32,7 @@ pub use evidence::{Evidence, WrongRun, evidence_of};
 pub use listing::strength_text;
 pub use lists::{Check, check_lists};
 pub use outcomes::JobFate;
+pub use random::{Parts, random_script};
 pub use ref_text::{
     FromReader, LineFault, ReadError, TextFault, TextSink, TextSource, ToWriter, WriteFailed,
 };

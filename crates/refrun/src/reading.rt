@@ -9,7 +9,7 @@ use ref_text::{TextFault, TextSource};
 use std::alloc::Allocator;
 
 /// The greatest length of a text, in bytes.
-const MAX_TEXT: usize = 4_194_304;
+pub const MAX_TEXT: usize = 4_194_304;
 
 /// How many bytes are asked for at a time.
 const CHUNK: usize = 65_536;

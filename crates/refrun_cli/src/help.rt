@@ -31,6 +31,24 @@ docs/FORMATS.md has every line of a graph and every fault.
 Exit status: 0 done; 2 a wrong command line; 3 a fault of the graph, or reading
 or writing failed; 5 no memory.";
 
+pub const RANDOM: &str = "\
+An example, at the top of the repository:
+
+  refrun random 7 400 | refrun run
+
+The same words print the same script on every machine. Its steps are those that
+a world mostly does, with some that it refuses. --with says what it has besides
+the plain ones:
+
+  moves    select, move, endmove
+  batches  hands, puts, polls
+  jobs     job, run
+  soft     soft references, a clock that changes, urgent cycles, version 2
+  hide     steps in a row that hide what lives behind what was scanned, let go
+           the last root in a mark, tell a death twice, or fill the heap
+
+Exit status: 0 done; 2 a wrong command line; 3 writing failed; 5 no memory.";
+
 pub const STRESS: &str = "\
 An example:
 

@@ -1,10 +1,12 @@
 //! The program `refrun`. Its `refrun run` reads a script on standard input and prints its trace on standard output.
-//! `refrun strength` reads a graph text and prints how strongly each of its objects is reachable. `refrun stress` runs
-//! threads over one heap and one queue, and checks the queue's lists. What it says on standard error begins with
-//! `refrun: `, but for what `clap` says of a wrong command line. Exit statuses: 0 done, 2 a wrong command line, 3 a
-//! fault of the text or of reading and writing, 4 a check of stress that failed, 5 no memory.
+//! `refrun strength` reads a graph text and prints how strongly each of its objects is reachable. `refrun random`
+//! prints a script that is drawn. `refrun stress` runs threads over one heap and one queue, and checks the queue's
+//! lists. What it says on standard error begins with `refrun: `, but for what `clap` says of a wrong command line. Exit
+//! statuses: 0 done, 2 a wrong command line, 3 a fault of the text or of reading and writing, 4 a check of stress that
+//! failed, 5 no memory.
 #![tactic(auto)]
 
+mod drawing;
 mod help;
 mod stressing;
 
@@ -39,6 +41,7 @@ fn main(rt: HostRuntime) -> ExitCode {
     match command_of(rt.alloc(), words.as_slice()) {
         Ok(matches) => match matches.subcommand() {
             Some(("strength", _)) => strength(&rt),
+            Some(("random", options)) => drawing::run(&rt, options),
             Some(("stress", options)) => stressing::run(&rt, options, rt.stderr().is_terminal()),
             _ => run(&rt),
         },
@@ -46,7 +49,7 @@ fn main(rt: HostRuntime) -> ExitCode {
     }
 }
 
-/// What the words ask for: `run`, `strength` or `stress`.
+/// What the words ask for: `run`, `strength`, `random` or `stress`.
 fn command_of<'a>(alloc: Global, words: &'a [String]) -> Result<ArgMatches<'a>, Error> {
     let run = Command::new(alloc, "run")
         .about("Reads a script on standard input and prints its trace")
@@ -66,6 +69,7 @@ fn command_of<'a>(alloc: Global, words: &'a [String]) -> Result<ArgMatches<'a>, 
         .subcommand_required(true)
         .subcommand(run)?
         .subcommand(strength)?
+        .subcommand(drawing::command(alloc)?)?
         .subcommand(stressing::command(alloc)?)?
         .try_get_matches_from(words)
 }

@@ -9,6 +9,8 @@
 #[cfg(test)]
 mod cases;
 #[cfg(test)]
+mod drawn;
+#[cfg(test)]
 mod failing;
 #[cfg(test)]
 mod fakes;

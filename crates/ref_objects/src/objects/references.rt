@@ -10,6 +10,7 @@ ghost use Rattle.ref_objects.specs.Grounds.{IsRefused, if_done, ground_with_heap
 ghost use Rattle.ref_objects.specs.Grounds.{renewed, is_spared, ground_brought};
 ghost use Rattle.ref_objects.specs.Grounds.{IsSparedIfAny};
 ghost use Rattle.ref_objects.specs.GroundViews.{with_slot_at, written};
+ghost use Rattle.ref_base.specs.Graphs.{Reference};
 
 use super::{Objects, known};
 use ref_base::{Fault, MutNo, ObjNo, SlotNo, Strength};
@@ -82,9 +83,11 @@ impl<A: Allocator + Copy> Objects<A> {
         let value = self.gets(read, reference, hide_unmarked);
         // The prover takes an Option that is passed on by value as spent.
         let (renewing, putting, answer) = (value, value, value);
-        // First, since the slot that is written may be the one that is read.
-        self.renew(read, no, reference, renewing);
-        self.put_got(place, read, putting);
+        if is_soft(reference.strength) {
+            self.put_soft(place, read, no, renewing);
+        } else {
+            self.put_got(place, read, putting);
+        }
         Ok(answer)
     }
 
@@ -148,19 +151,38 @@ impl<A: Allocator + Copy> Objects<A> {
         self.table.refers_to_unmarked_in(place)
     }
 
-    // Stamps the reference `no`, which the slot at this place holds, with the clock, if it is soft and a get of it
-    // answers an object: that is `value`.
+    // Stamps the soft reference `no`, which the slot at this place holds, with the clock, if a get of it answers an
+    // object: that is `value`.
     #[inline(always)]
-    fn renew(&mut self, place: usize, no: ObjNo, reference: Reference, value: Option<ObjNo>)
+    fn renew(&mut self, place: usize, no: ObjNo, value: Option<ObjNo>)
         requires place { place < length self.old.heap.slots }
         requires own { slice_index_or self.old.heap.slots place None ≡ Some no }
-        requires read { reference_at self.old.heap no ≡ Some reference }
+        requires soft { (r : Reference) × (reference_at self.old.heap no ≡ Some r) × (is_soft r.strength ≡ true) }
         ensures { self.new ≡ ground_with_heap self.old (renewed self.old.heap no value) }
     {
-        if is_soft(reference.strength) && value.is_some() {
+        if value.is_some() {
             let clock = self.clock;
             self.write_in(place, no, Change::Stamp(clock));
         }
+    }
+
+    // What a get of the soft reference `no`, which the slot at place `from` holds, changes where it answers this: the
+    // reference is stamped, and the slot at place `into` holds the answer. A function of its own, so that the code of
+    // other gets, which is compiled into their callers, stays short.
+    #[inline(never)]
+    fn put_soft(&mut self, into: usize, from: usize, no: ObjNo, value: Option<ObjNo>)
+        requires into { into < length self.old.heap.slots }
+        requires from { from < length self.old.heap.slots }
+        requires own { slice_index_or self.old.heap.slots from None ≡ Some no }
+        requires soft { (r : Reference) × (reference_at self.old.heap no ≡ Some r) × (is_soft r.strength ≡ true) }
+        requires read { (n : ℕ) → value ≡ Some n → referent_of (reference_at self.old.heap no) ≡ Some n }
+        ensures { self.new ≡ with_slot_at (ground_brought (ground_with_heap self.old
+            (renewed self.old.heap no value)) value) into value }
+    {
+        let putting = value;
+        // First, since the slot that is written may be the one that is read.
+        self.renew(from, no, value);
+        self.put_got(into, from, putting);
     }
 
     // The slot at place `into` holds what a get of the reference in that at place `from` answers: its referent, which

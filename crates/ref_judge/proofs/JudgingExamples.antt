@@ -1,0 +1,103 @@
+-- A trace that leaves idle rows out, and a verdict.
+use Rattle.ref_base.proofs.Common.{false, true, List, [], ◌∷◌, inl, inr, refl, false≢true, take}
+use Rattle.std.specs.Prelude.{Some}
+use Rattle.std.proofs.lemmas.Bool.{ltb-true as below}
+use Rattle.ref_base.proofs.LegalSteps.{none_left}
+use Rattle.ref_base.proofs.WorkedTraces.{row, config_of}
+use Rattle.ref_base.specs.declared.fault.Fault.TheVariants.{WrongPhase}
+use Rattle.ref_base.specs.declared.urgency.Urgency.TheVariants.{Normal}
+use Rattle.ref_base.specs.declared.row.Row.{Row}
+use Rattle.ref_base.specs.declared.plain_step.PlainStep.TheVariants as plain
+use Rattle.ref_base.specs.declared.step.Step.TheVariants as steps
+use Rattle.ref_base.specs.declared.reply.Reply.TheVariants as replies
+use Rattle.ref_judge.specs.IdleRows.{LeavesOut}
+use Rattle.ref_judge.specs.ProfiledRows.{strict, IsLegalAs}
+use Rattle.ref_judge.specs.Verdicts.{Judges}
+use Rattle.ref_judge.proofs.ProfiledSteps.{legal_as, stop, ◌⨾◌}
+use Rattle.ref_judge.proofs.Examples.{keeps_more, takes_the_last, the_strict_may_not_take_the_last}
+use Rattle.ref_judge.proofs.IdleRows.{kept_rows_are_legal}
+
+-- ---- idle rows
+
+abbrev logs_idle_rows : List Row
+logs_idle_rows =
+    row (steps.Plain (plain.New 0 0 0)) (replies.Object 1) ∷
+    row (steps.Plain (plain.Scan 0)) (replies.Refused WrongPhase) ∷
+    row (steps.Plain (plain.Begin 1 Normal)) (replies.Cycle 1) ∷
+    row (steps.Plain (plain.Scan 0)) (replies.Scanned 1) ∷
+    row (steps.Plain (plain.Scan 0)) replies.Nothing ∷
+    row (steps.Hand 0) replies.Nothing ∷
+    row (steps.Plain plain.EndMark) (replies.Doomed 0) ∷
+    row (steps.Plain (plain.ClearNext 0)) replies.Nothing ∷ []
+
+abbrev logs_no_idle_rows : List Row
+logs_no_idle_rows =
+    row (steps.Plain (plain.New 0 0 0)) (replies.Object 1) ∷
+    row (steps.Plain (plain.Begin 1 Normal)) (replies.Cycle 1) ∷
+    row (steps.Plain (plain.Scan 0)) (replies.Scanned 1) ∷
+    row (steps.Plain plain.EndMark) (replies.Doomed 0) ∷ []
+
+it_leaves_them_out : LeavesOut logs_idle_rows logs_no_idle_rows
+it_leaves_them_out =
+    inl (refl, inr (refl, inl (refl, inl (refl, inr (refl, inr (refl, inl (refl, (refl, tt))))))))
+
+it_is_legal : IsLegalAs keeps_more (config_of 1) logs_idle_rows
+it_is_legal = legal_as keeps_more (config_of 1) logs_idle_rows (
+    (_, (refl, refl), refl)
+    ⨾ (refl, refl)
+    ⨾ (
+      _,
+      (_, (refl, (false, refl, none_left)), (true, refl, λ _. (1, (inr (refl, refl), below _ _ refl, refl)))),
+      refl,
+    )
+    ⨾ (_, (refl, (inr (refl, refl), below _ _ refl, refl), (false, refl, none_left)), refl)
+    ⨾ (_, (refl, (refl, refl)), refl)
+    ⨾ (_, (refl, refl), refl)
+    ⨾ (
+      _,
+      record {
+        answer = refl;
+        may_doom = record {
+          none_kept = λ n h. absurd (false≢true h);
+          never_kept = λ n there never. absurd (never (inr (refl, there)));
+          closed = λ m n there outside target. refl;
+        };
+        found = [] ∷ [];
+        are_found = (refl, tt);
+        all_found = λ n h. h;
+        after = refl;
+      },
+      refl,
+    )
+    ⨾ (_, (refl, refl), refl)
+    ⨾ stop)
+
+it_is_legal_without_them : IsLegalAs keeps_more (config_of 1) logs_no_idle_rows
+it_is_legal_without_them =
+    kept_rows_are_legal keeps_more (config_of 1) logs_idle_rows logs_no_idle_rows it_leaves_them_out it_is_legal
+
+-- an unhook that answers `none` cleared its reference
+an_unhook_is_not_idle : ¬ (LeavesOut (row (steps.Unhook 0 0) replies.Nothing ∷ []) [])
+an_unhook_is_not_idle out = false≢true out.0
+
+-- ---- a verdict
+
+-- seven rows stand in front of the one that takes the last
+the_strict_verdict : Judges strict (config_of 1) takes_the_last (Some 7)
+the_strict_verdict = (
+  take 7 takes_the_last,
+  row (steps.Poll 0 0) (replies.Took 3),
+  [],
+  refl,
+  refl,
+  legal_as strict (config_of 1) (take 7 takes_the_last) (
+      (_, (refl, refl), refl)
+      ⨾ (_, (refl, refl), refl)
+      ⨾ (_, (refl, refl), refl)
+      ⨾ (_, (refl, refl), refl)
+      ⨾ inl (refl, refl)
+      ⨾ (_, (refl, refl), refl)
+      ⨾ inl (refl, refl)
+      ⨾ stop),
+  the_strict_may_not_take_the_last,
+)

@@ -1,0 +1,4 @@
+pub mod KeptBounds
+pub mod ProfiledRows
+pub mod IdleRows
+pub mod Verdicts
