@@ -35,6 +35,7 @@ use Rattle.ref_objects.proofs.Common.{made_entry, with_slot_at, with_tabled}
 use Rattle.ref_objects.proofs.MoveLemmas.{seen_brought}
 use Rattle.ref_objects.specs.Grounds.{ground_brought}
 use Rattle.ref_space.specs.Tables.{brought as table_brought, left_of, with_read, without_if_any}
+use Rattle.ref_space.specs.Tables.{referent_held, table_got, word_name}
 use Rattle.ref_space.specs.declared.word_name.WordName.{WordName}
 
 -- the table as a load leaves it, and as a store does
@@ -174,18 +175,12 @@ module _ {s : Stored} (sound : IsSoundObjects s) where
     seen_unloaded past = simp past view
 
   -- the slot holds the referent of a reference that another holds
-  module _ (word : Option WordName) (into from : ℕ)
-      (left : left_of (slotted (table_brought (with_read s.table word)
-      (referent_of (tabled_reference (tabled_held s.table from)))) into
-      (referent_of (tabled_reference (tabled_held s.table from))))
-      ≡ without_if_any (left_of s.table) (referent_of (tabled_reference (tabled_held s.table from)))) where
-    pub got_sound : IsSoundObjects (record s {
-      table = slotted (table_brought (with_read s.table word)
-          (referent_of (tabled_reference (tabled_held s.table from)))) into
-          (referent_of (tabled_reference (tabled_held s.table from)));
-    })
+  module _ (into from : ℕ)
+      (left : left_of (table_got s.table into from)
+      ≡ without_if_any (left_of s.table) (referent_held s.table from)) where
+    pub got_sound : IsSoundObjects (record s { table = table_got s.table into from })
     got_sound =
-        put_sound word into (referent_of (tabled_reference (tabled_held s.table from)))
+        put_sound (word_name (held_at s.table from) None) into (referent_held s.table from)
         (spared_held (held_at s.table from)) left
       where
         spared_held : (value : Option ℕ)
@@ -193,25 +188,19 @@ module _ {s : Stored} (sound : IsSoundObjects s) where
         spared_held None = tt
         spared_held (Some n) = spared_referent was sound.closed n _ (ap referent_of (sym (reference-held (Some n))))
 
-    pub seen_got : {g : Ground} → was ≡ g → (value : Option ℕ)
-        → referent_of (tabled_reference (tabled_held s.table from)) ≡ value
-        → seen_ground (record s {
-          table = slotted (table_brought (with_read s.table word)
-              (referent_of (tabled_reference (tabled_held s.table from)))) into
-              (referent_of (tabled_reference (tabled_held s.table from)));
-        })
+    pub seen_got : {g : Ground} → was ≡ g → (value : Option ℕ) → referent_held s.table from ≡ value
+        → seen_ground (record s { table = table_got s.table into from })
         ≡ with_slot_at (ground_brought g value) into value
     seen_got {g} view value is =
-        seen_put word into (referent_of (tabled_reference (tabled_held s.table from))) left
-        ∙ ap (λ (h : Ground). with_slot_at (ground_brought h (referent_of (tabled_reference
-        (tabled_held s.table from))))
-        into (referent_of (tabled_reference (tabled_held s.table from)))) view
+        seen_put (word_name (held_at s.table from) None) into (referent_held s.table from) left
+        ∙ ap (λ (h : Ground). with_slot_at (ground_brought h (referent_held s.table from)) into
+        (referent_held s.table from)) view
         ∙ ap (λ w. with_slot_at (ground_brought g w) into w) is
 
   -- what a get is told to answer is that referent
   pub got_value : {g : Ground} → was ≡ g → (from : ℕ) (value : Option ℕ) → is_some value ≡ true
       → ((n : ℕ) → value ≡ Some n → referent_of (reference_of g.heap (slice_index_or g.heap.slots from None)) ≡ Some n)
-      → referent_of (tabled_reference (tabled_held s.table from)) ≡ value
+      → referent_held s.table from ≡ value
   got_value view from None some read = absurd (false≢true some)
   got_value view from (Some n) some read =
       ap referent_of (reference-held (held_at s.table from))

@@ -31,7 +31,8 @@ use Rattle.ref_space.proofs.WayLemmas.{there_way}
 use Rattle.ref_space.specs.Tables.{field_in_cell, field_held, has_field, on_object, tabled_if, tabled_reference}
 use Rattle.ref_base.specs.CollectorRows.{referent_of}
 use Rattle.ref_base.specs.Heaps.{with_field, with_reference}
-use Rattle.ref_space.specs.Naming.{tabled_of, changed_of, with_referent}
+use Rattle.ref_space.specs.Naming.{tabled_of, changed_of, with_referent, IsReferentRead}
+use Rattle.ref_space.specs.Tables.{held_at, word_name}
 use Rattle.ref_space.proofs.CellChanges.{field_again, referent_again, few_places, nothing_left}
 use Rattle.ref_space.proofs.HealLemmas.{healed_held, recoloured-healed}
 use Rattle.ref_space.proofs.MoveLemmas.{none_chosen}
@@ -457,6 +458,35 @@ read_changed_if : (t : Table) (n : Option ℕ) (f : Tabled → Tabled) (word : O
     → changed_if (with_read t word) n f ≡ with_read (changed_if t n f) word
 read_changed_if t None f word = refl
 read_changed_if t (Some n) f word = refl
+
+-- a word that was read stays so once it is read again
+pub read_again : (t : Table) (name : Option WordName) (v : Option ℕ) {s : Table}
+    → s ≡ with_read t (read_if_good t.round name (Some v)) → s ≡ with_read s (read_if_good s.round name (Some v))
+read_again t name v {s} read =
+    subst (λ (r : Table). r ≡ with_read r (read_if_good r.round name (Some v))) (sym read)
+    (by (is_in_colour t.round.good v))
+  where
+    by : (b : Bool) → with_read t (if b then name else t.round.read)
+        ≡ with_read t (if b then name else if b then name else t.round.read)
+    by true = refl
+    by false = refl
+
+-- what was read of the reference that a slot holds
+pub referent_is_read : (t : Table) (place : ℕ) (object v : Option ℕ) → target_of t object ≡ held_at t place
+    → {s : Table} → s ≡ with_read t (read_if_good t.round (word_name (target_of t object) None) (Some v))
+    → HasTarget s v → target_of s v ≡ referent_of (tabled_reference (tabled_of s object)) → IsReferentRead s place v
+referent_is_read t place object v named {s} read led held = record {
+  led = led;
+  held = held ∙ ap (λ d. referent_of (tabled_reference (tabled_if s.tabled d))) here;
+  read = read_again t (word_name (target_of t object) None) v read
+      ∙ ap (λ d. with_read s (read_if_good s.round (word_name d None) (Some v))) (named ∙ there_too);
+}
+  where
+    here : target_of s object ≡ held_at s place
+    here = subst (λ (r : Table). target_of r object ≡ held_at r place) (sym read) named
+
+    there_too : held_at t place ≡ held_at s place
+    there_too = subst (λ (r : Table). held_at t place ≡ held_at r place) (sym read) refl
 
 -- a field is loaded: its word is the one that was read last, and nothing changes where there is no such field
 abbrev pub field_loaded : Table → Option WordName → Option Tabled → ℕ → Table

@@ -205,15 +205,6 @@ pub reference-named : (name : Option ℕ → Option ℕ) (c : Option Tabled)
 reference-named name None = refl
 reference-named name (Some k) = refl
 
-pub referent-named_in : (name : Option ℕ → Option ℕ) → name None ≡ None → (c : Option Tabled)
-    → name (referent_of (tabled_reference c)) ≡ referent_of (tabled_reference (option_map (by_number name) c))
-referent-named_in name null None = null
-referent-named_in name null (Some k) = by k.object.reference
-  where
-    by : (r : Option Reference) → name (referent_of r) ≡ referent_of (option_map (reference_by_number name) r)
-    by None = null
-    by (Some r) = refl
-
 pub some_reference : (name : Option ℕ → Option ℕ) (c : Option Tabled)
     → is_some (tabled_reference (option_map (by_number name) c)) ≡ is_some (tabled_reference c)
 some_reference name None = refl
@@ -700,12 +691,6 @@ module _ {round : RoundView} {cells : List (Option Tabled)} {es : List Entry} {w
         field_led_read i held =
             subst (λ r. IfSome r (HasTarget t)) (sym held)
             (field_of_each (leads_by t.round.good t.ways t.occupants false) refl c i each_read)
-
-        pub referent_named_read : {w : Option ℕ} → w ≡ referent_of (tabled_reference c)
-            → target_of t w ≡ referent_of (tabled_reference (tabled_of t v))
-        referent_named_read held =
-            ap (target_of t) held ∙ referent-named_in (target_of t) refl c
-            ∙ ap (λ k. referent_of (tabled_reference k)) object_read
 
         pub referent_led_read : {w : Option ℕ} → w ≡ referent_of (tabled_reference c) → HasTarget t w
         referent_led_read held =

@@ -11,6 +11,7 @@ use Rattle.ref_space.specs.declared.colour.Colour.{Colour}
 use Rattle.ref_space.specs.Pages.{Use, use_of, is_chosen_place}
 use Rattle.ref_space.specs.Moves.{Ways, forward_of}
 use Rattle.ref_space.specs.Tables.{Tabled, Table, is_healed, on_object, values_in, tabled_if, changed_if}
+use Rattle.ref_space.specs.Tables.{referent_held, held_at, with_read, word_name, read_if_good}
 
 -- ---- cells
 
@@ -102,6 +103,13 @@ HasTarget t value = leads_by t.round.good t.ways t.occupants false value ≡ tru
 -- the value is null, or leads to an object, and then has the good colour where the table is tuned
 abbrev pub IsHealed : Table → Option ℕ → Type 0
 IsHealed t value = leads_by t.round.good t.ways t.occupants true value ≡ true
+
+-- a word was read of the reference in the slot at this place: it leads to the referent, or is null where that is none.
+-- It is the one that was read last, where it is null or has the good colour
+pub record IsReferentRead (t : Table) (place : ℕ) (word : Option ℕ) : Type 0 where
+  pub led : HasTarget t word
+  pub held : target_of t word ≡ referent_held t place
+  pub read : t ≡ with_read t (read_if_good t.round (word_name (held_at t place) None) (Some word))
 
 -- the value is null, or has this colour
 abbrev pub IsInColour : Colour → Option ℕ → Type 0

@@ -509,6 +509,15 @@ abbrev pub read_if_good : RoundView → Option WordName → Option (Option ℕ) 
 read_if_good round name None = round.read
 read_if_good round name (Some value) = if is_in_colour round.good value then name else round.read
 
+-- the referent of the reference that the slot at this place holds: null where it is cleared, or there is no reference
+abbrev pub referent_held : Table → ℕ → Option ℕ
+referent_held t place = referent_of (tabled_reference (tabled_held t place))
+
+-- the table once another slot holds that: its object has moved, and its word is the one that was read last
+abbrev pub table_got : Table → ℕ → ℕ → Table
+table_got t into from =
+    slotted (brought (with_read t (word_name (held_at t from) None)) (referent_held t from)) into (referent_held t from)
+
 -- a new reference, by what slots hold
 abbrev pub made_of : List (Option ℕ) → NewReference → Reference
 made_of slots r =

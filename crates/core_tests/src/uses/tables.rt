@@ -1,10 +1,11 @@
 //! What a caller of a table can prove of the words that it reads.
 
 ghost use Rattle.std.specs.Prelude.{◌≡◌, ◌<◌, length, true};
+ghost use Rattle.ref_space.specs.Naming.{IsReferentRead};
 ghost use Rattle.ref_space.specs.Tables.{empty_table, left_of};
 
 use ref_base::{ObjNo, Strength};
-use ref_space::{Colour, NewReference, Table, has_colour};
+use ref_space::{Colour, NewReference, Table, Word, has_colour};
 use std::alloc::Global;
 use std::process::Abort;
 
@@ -28,16 +29,18 @@ fn a_loaded_word_is_good(table: &mut Table, from: usize, field: usize, good: Col
 }
 
 // promise: Table::get_referent, Table::word_of_referent: a referent that was got is null or has the good colour
-/// Once the referent of what a slot holds is got, its word is null or has the good colour.
-fn a_got_word_is_good(table: &mut Table, from: usize, good: Colour) -> bool
+/// Once the referent of what a slot holds is got, by the word that was read of it, its word is null or has the good
+/// colour.
+fn a_got_word_is_good(table: &mut Table, from: usize, word: Word, good: Colour) -> bool
     requires from { from < length table.old.slots }
+    requires word { IsReferentRead table.old from word }
     requires good { table.old.round.good ≡ good }
     ensures { result ≡ true }
 {
     let Some(no) = table.slot(from) else {
         return true;
     };
-    table.get_referent(from, from);
+    table.get_referent(from, from, word);
     match table.word_of_referent(no) {
         Some(bits) => bits == 0 || has_colour(bits, good),
         None => true,
@@ -74,8 +77,11 @@ fn what_callers_of_tables_see(rt: HostRuntime) {
         "a loaded word is good"
     );
     let mut got = begun(&rt, rt.alloc());
+    let Some((_reference, word)) = got.read_reference(1) else {
+        panic!(rt; "no reference");
+    };
     assert!(rt;
-        a_got_word_is_good(&mut got, 1, Colour::B),
+        a_got_word_is_good(&mut got, 1, word, Colour::B),
         "a got word is good"
     );
 }

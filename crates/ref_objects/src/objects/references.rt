@@ -7,14 +7,15 @@ ghost use Rattle.ref_base.specs.Heaps.{slot_at, reference_at, got};
 ghost use Rattle.ref_base.specs.Paths.{is_soft};
 ghost use Rattle.ref_base.specs.Refusals.{clear_refusal, get_refusal};
 ghost use Rattle.ref_objects.specs.Grounds.{IsRefused, if_done, ground_with_heap, is_unmarked, read_as, cut_but};
-ghost use Rattle.ref_objects.specs.Grounds.{renewed, is_spared, ground_brought};
-ghost use Rattle.ref_objects.specs.Grounds.{IsSparedIfAny};
-ghost use Rattle.ref_objects.specs.GroundViews.{with_slot_at, written};
-ghost use Rattle.ref_base.specs.Graphs.{Reference};
+ghost use Rattle.ref_objects.specs.Grounds.{is_spared, ground_brought, IsSparedIfAny};
+ghost use Rattle.ref_objects.specs.GroundViews.{written};
+ghost use Rattle.ref_space.specs.Naming.{IsReferentRead};
+ghost use Rattle.ref_space.specs.Tables.{change_of, changed_held, left_of, without_if_any, referent_held, table_got};
+ghost use Rattle.ref_space.specs.declared.cell.Change.TheVariants.{Stamp};
 
 use super::{Objects, known};
 use ref_base::{Fault, MutNo, ObjNo, SlotNo, Strength};
-use ref_space::{Change, Reference};
+use ref_space::{Change, Reference, Table, Word};
 use std::alloc::Allocator;
 
 impl<A: Allocator + Copy> Objects<A> {
@@ -78,15 +79,23 @@ impl<A: Allocator + Copy> Objects<A> {
             (referent_got (reference_of self.old.heap (slot_at self.old.heap mutator from)))))) self.old }
     {
         let place = self.place(mutator, into)?;
-        let (no, reference) = self.reference_in(mutator, from)?;
-        let read = self.place(mutator, from)?;
-        let value = self.gets(read, reference, hide_unmarked);
+        let held = self.place(mutator, from)?;
+        if self.table.slot(held).is_none() {
+            return Err(Fault::EmptySlot);
+        }
+        let Some((reference, word)) = self.table.read_reference(held) else {
+            return Err(Fault::NotAReference);
+        };
+        let value = self.gets(held, reference, hide_unmarked);
         // The prover takes an Option that is passed on by value as spent.
-        let (renewing, putting, answer) = (value, value, value);
-        if is_soft(reference.strength) {
-            self.put_soft(place, read, no, renewing);
+        let answer = value;
+        if value.is_none() {
+            self.table.empty_slot(place);
+        } else if is_soft(reference.strength) {
+            let clock = self.clock;
+            put_soft(&mut self.table, place, held, word, clock);
         } else {
-            self.put_got(place, read, putting);
+            self.table.get_referent(place, held, word);
         }
         Ok(answer)
     }
@@ -151,57 +160,6 @@ impl<A: Allocator + Copy> Objects<A> {
         self.table.refers_to_unmarked_in(place)
     }
 
-    // Stamps the soft reference `no`, which the slot at this place holds, with the clock, if a get of it answers an
-    // object: that is `value`.
-    #[inline(always)]
-    fn renew(&mut self, place: usize, no: ObjNo, value: Option<ObjNo>)
-        requires place { place < length self.old.heap.slots }
-        requires own { slice_index_or self.old.heap.slots place None ≡ Some no }
-        requires soft { (r : Reference) × (reference_at self.old.heap no ≡ Some r) × (is_soft r.strength ≡ true) }
-        ensures { self.new ≡ ground_with_heap self.old (renewed self.old.heap no value) }
-    {
-        if value.is_some() {
-            let clock = self.clock;
-            self.write_in(place, no, Change::Stamp(clock));
-        }
-    }
-
-    // What a get of the soft reference `no`, which the slot at place `from` holds, changes where it answers this: the
-    // reference is stamped, and the slot at place `into` holds the answer. A function of its own, so that the code of
-    // other gets, which is compiled into their callers, stays short.
-    #[inline(never)]
-    fn put_soft(&mut self, into: usize, from: usize, no: ObjNo, value: Option<ObjNo>)
-        requires into { into < length self.old.heap.slots }
-        requires from { from < length self.old.heap.slots }
-        requires own { slice_index_or self.old.heap.slots from None ≡ Some no }
-        requires soft { (r : Reference) × (reference_at self.old.heap no ≡ Some r) × (is_soft r.strength ≡ true) }
-        requires read { (n : ℕ) → value ≡ Some n → referent_of (reference_at self.old.heap no) ≡ Some n }
-        ensures { self.new ≡ with_slot_at (ground_brought (ground_with_heap self.old
-            (renewed self.old.heap no value)) value) into value }
-    {
-        let putting = value;
-        // First, since the slot that is written may be the one that is read.
-        self.renew(from, no, value);
-        self.put_got(into, from, putting);
-    }
-
-    // The slot at place `into` holds what a get of the reference in that at place `from` answers: its referent, which
-    // moves first where it is still to move, or null.
-    #[inline(always)]
-    fn put_got(&mut self, into: usize, from: usize, value: Option<ObjNo>)
-        requires into { into < length self.old.heap.slots }
-        requires from { from < length self.old.heap.slots }
-        requires read { (n : ℕ) → value ≡ Some n
-            → referent_of (reference_of self.old.heap (slice_index_or self.old.heap.slots from None)) ≡ Some n }
-        ensures { self.new ≡ with_slot_at (ground_brought self.old value) into value }
-    {
-        if value.is_some() {
-            self.table.get_referent(into, from);
-        } else {
-            self.table.empty_slot(into);
-        }
-    }
-
     // Writes this change into the object of this number, which the slot at this place holds.
     #[inline(always)]
     fn write_in(&mut self, place: usize, no: ObjNo, change: Change)
@@ -211,6 +169,30 @@ impl<A: Allocator + Copy> Objects<A> {
     {
         self.table.change_in(place, change);
     }
+}
+
+// What a get changes of the soft reference in the slot at place `from`, by the word that was read there: it is stamped
+// with the clock, and the slot at place `into` holds its referent. A function of its own, so that the code of other
+// gets, which is compiled into their callers, stays short.
+#[inline(never)]
+fn put_soft<A: Allocator + Copy>(
+    table: &mut Table<A>,
+    into: usize,
+    from: usize,
+    word: Word,
+    clock: u64,
+)
+    requires into { into < length table.old.slots }
+    requires from { from < length table.old.slots }
+    requires word { IsReferentRead table.old from word }
+    ensures after { table.new ≡ table_got (changed_held table.old from (change_of (Stamp clock))) into from }
+    ensures left { left_of table.new
+        ≡ without_if_any (left_of (changed_held table.old from (change_of (Stamp clock))))
+        (referent_held (changed_held table.old from (change_of (Stamp clock))) from) }
+{
+    // First, since the slot that is written may be the one that is read.
+    table.change_in(from, Change::Stamp(clock));
+    table.get_referent(into, from, word);
 }
 
 fn is_soft(strength: Strength) -> bool

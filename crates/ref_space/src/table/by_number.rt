@@ -238,13 +238,21 @@ impl<A: Allocator + Copy> Table<A> {
         ensures { result ≡ option_map (reference_by_number (target_of self.now)) kept }
     {
         match kept {
-            Some(kept) => Some(Reference {
-                strength: kept.strength,
-                referent: self.name(kept.referent),
-                stamp: kept.stamp,
-                queue: kept.queue,
-            }),
+            Some(kept) => Some(self.reference_by_number(kept)),
             None => None,
+        }
+    }
+
+    /// A reference with its referent's number.
+    #[inline(always)]
+    pub(super) fn reference_by_number(&self, kept: Kept) -> Reference
+        ensures { result ≡ reference_by_number (target_of self.now) kept }
+    {
+        Reference {
+            strength: kept.strength,
+            referent: self.name(kept.referent),
+            stamp: kept.stamp,
+            queue: kept.queue,
         }
     }
 

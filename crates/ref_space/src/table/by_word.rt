@@ -63,11 +63,15 @@ impl<A: Allocator + Copy> Table<A> {
         Some(healed)
     }
 
-    /// The referent of the reference that a word leads to, in the good colour: null where it is cleared, or there is no
-    /// such reference. It is healed as the word of a field is, and its object moves first as that of a field does.
+    /// The referent of the reference that a word leads to, in the good colour, by the word `value` that was read of it:
+    /// null where that is. It is healed as the word of a field is, and its object moves first as that of a field does.
     #[inline(always)]
-    pub(super) fn load_referent(&mut self, object: Word) -> Word
-        requires { HasTarget self.old object }
+    pub(super) fn load_referent(&mut self, object: Word, value: Word) -> Word
+        requires object { HasTarget self.old object }
+        requires led { HasTarget self.old value }
+        requires held { target_of self.old value ≡ referent_of (tabled_reference (tabled_of self.old object)) }
+        requires read { self.old ≡ with_read self.old
+            (read_if_good self.old.round (word_name (target_of self.old object) None) (Some value)) }
         ensures named { target_of self.new result ≡ referent_of (tabled_reference (tabled_of self.old object)) }
         ensures healed { IsHealed self.new result }
         ensures good { IsInColour self.new.round.good result }
@@ -76,7 +80,6 @@ impl<A: Allocator + Copy> Table<A> {
         ensures left { left_of self.new
             ≡ without_if_any (left_of self.old) (referent_of (tabled_reference (tabled_of self.old object))) }
     {
-        let value = self.referent(object);
         if self.is_good(value) {
             return value;
         }
@@ -141,26 +144,25 @@ impl<A: Allocator + Copy> Table<A> {
         }
     }
 
-    // The referent of the reference that a word leads to: null where it is cleared, or there is no such reference. It
-    // is the word that was read last then, where it is null or has the good colour.
+    /// What `kept` answers. The word of the referent is the one that was read last then, where it is null or has the
+    /// good colour.
     #[inline(always)]
-    fn referent(&mut self, object: Word) -> Word
-        ensures named { target_of self.new result ≡ referent_of (tabled_reference (tabled_of self.new object)) }
-        ensures led { HasTarget self.new result }
+    pub(super) fn read_kept(&mut self, object: Word) -> Option<Kept>
+        ensures held { option_map (reference_by_number (target_of self.new)) result
+            ≡ tabled_reference (tabled_of self.new object) }
+        ensures led { HasTarget self.new (referent_of result) }
         ensures after { self.new ≡ with_read self.old
-            (read_if_good self.old.round (word_name (target_of self.old object) None) (Some result)) }
+            (read_if_good self.old.round (word_name (target_of self.old object) None)
+            (option_map (λ r. r.referent) result)) }
     {
         let name = self.word_name(object, None);
-        let Some(cell) = cell_by(&self.cells, &self.forwards, object) else {
-            self.read = nothing_read();
-            return Word::null();
-        };
-        let value = cell.referent();
-        if !value.is_in_colour(self.round.good) {
-            return value;
+        let cell = cell_by(&self.cells, &self.forwards, object)?;
+        let kept = cell.kept()?;
+        if !kept.referent.is_in_colour(self.round.good) {
+            return Some(kept);
         }
         self.read = Snapshot::of(&name);
-        value
+        Some(kept)
     }
 
     /// Whether a word leads to an object that isn't marked.

@@ -2,14 +2,14 @@
 //! that which puts an object into a slot by its number.
 
 ghost use Rattle.std.specs.Prelude.{◌≡◌, ◌<◌, if◌then◌else◌, true, None, Some, length, map, is_some};
-ghost use Rattle.std.specs.Option.{IfSome};
-ghost use Rattle.ref_base.specs.CollectorRows.{referent_of};
+ghost use Rattle.std.specs.Option.{option_map, IfSome};
 ghost use Rattle.ref_base.specs.DoomedSets.{refers_into};
 ghost use Rattle.ref_base.specs.Heaps.{with_field};
 ghost use Rattle.ref_space.specs.Tables.{held_at, slotted, tabled_held, changed_held, tabled_at, field_in_cell};
 ghost use Rattle.ref_space.specs.Tables.{field_held, has_field, on_object, change_of, tabled_reference};
 ghost use Rattle.ref_space.specs.Tables.{is_unmarked_at, marked_if, anew_if, brought, left_of, without_if_any};
-ghost use Rattle.ref_space.specs.Tables.{with_none_read, with_read, word_name};
+ghost use Rattle.ref_space.specs.Naming.{IsReferentRead};
+ghost use Rattle.ref_space.specs.Tables.{with_none_read, with_read, word_name, read_if_good, referent_held, table_got};
 ghost use Rattle.ref_space.specs.Worklists.{entry_number};
 
 use super::Table;
@@ -120,22 +120,35 @@ impl<A: Allocator + Copy> Table<A> {
         self.refers_to_unmarked(self.kept(self.slots[place]))
     }
 
-    /// The slot at place `into` holds the referent of the reference in that at place `from`: nothing where it is
-    /// cleared, or there is no such reference. An object that is still to move moves first. The word of the referent is
-    /// the one that was read last then, so that it is null or has the good colour.
+    /// What `reference_in` answers, with the word of the referent. That is the one that was read last then, where it is
+    /// null or has the good colour.
     #[inline(always)]
-    pub fn get_referent(&mut self, into: usize, from: usize)
+    pub fn read_reference(&mut self, place: usize) -> Option<(Reference, Word)>
+        requires { place < length self.old.slots }
+        ensures answer { option_map (λ read. read.0) result ≡ tabled_reference (tabled_held self.old place) }
+        ensures word { IfSome result (λ read. IsReferentRead self.new place read.1) }
+        ensures after { self.new ≡ with_read self.old
+            (read_if_good self.old.round (word_name (held_at self.old place) None)
+            (option_map (λ read. read.1) result)) }
+    {
+        let object = self.slots[place];
+        let kept = self.read_kept(object)?;
+        Some((self.reference_by_number(kept), kept.referent))
+    }
+
+    /// The slot at place `into` holds the referent of the reference in that at place `from`, by the word that was read
+    /// there: nothing where that is null. An object that is still to move moves first. The word of the referent is the
+    /// one that was read last then, so that it is null or has the good colour.
+    #[inline(always)]
+    pub fn get_referent(&mut self, into: usize, from: usize, word: Word)
         requires into { into < length self.old.slots }
         requires from { from < length self.old.slots }
-        ensures after { self.new
-            ≡ slotted (brought (with_read self.old (word_name (held_at self.old from) None))
-            (referent_of (tabled_reference (tabled_held self.old from)))) into
-            (referent_of (tabled_reference (tabled_held self.old from))) }
-        ensures left { left_of self.new
-            ≡ without_if_any (left_of self.old) (referent_of (tabled_reference (tabled_held self.old from))) }
+        requires word { IsReferentRead self.old from word }
+        ensures after { self.new ≡ table_got self.old into from }
+        ensures left { left_of self.new ≡ without_if_any (left_of self.old) (referent_held self.old from) }
     {
         let object = self.slots[from];
-        let referent = self.load_referent(object);
+        let referent = self.load_referent(object, word);
         self.slots[into] = referent;
     }
 

@@ -1,15 +1,30 @@
-use Rattle.ref_space.proofs.Common.{◌<◌, ◌∙◌, ap, sym, subst, arith, length, None, Table, target_of}
+use Rattle.ref_space.proofs.Common.{◌<◌, ◌∙◌, ap, sym, subst, arith, length, None, Some, Table, target_of}
 use Rattle.ref_space.specs.Naming.{tabled_of}
 use Rattle.ref_space.specs.Tables.{brought, left_of, slotted, tabled_if, tabled_reference, without_if_any, with_read}
-use Rattle.ref_space.specs.Tables.{word_name}
+use Rattle.ref_space.specs.Tables.{word_name, read_if_good}
 use Rattle.ref_base.specs.CollectorRows.{referent_of}
 use Rattle.ref_space.proofs.BroughtLemmas.{slots_brought}
 use Rattle.ref_space.proofs.TableSlots.{slot_there, slot_led, slot_named, slot_sound, slot_seen}
 use Rattle.ref_space.proofs.table.Table.get_referent.Goals as goal
 
-pub load_referent-referent-requires : goal.load_referent-referent-requires
-load_referent-referent-requires g c = slot_led c.self.invariant c.self.view_is c.args.from c.requires.from
-    c.index-object.ensures
+pub load_referent-referent-requires-clause-object : goal.load_referent-referent-requires-clause-object
+load_referent-referent-requires-clause-object g c =
+    slot_led c.self.invariant c.self.view_is c.args.from c.requires.from c.index-object.ensures
+
+pub load_referent-referent-requires-clause-led : goal.load_referent-referent-requires-clause-led
+load_referent-referent-requires-clause-led g c = c.requires.word.led
+
+pub load_referent-referent-requires-clause-held : goal.load_referent-referent-requires-clause-held
+load_referent-referent-requires-clause-held g c =
+    c.requires.word.held
+    ∙ ap (λ d. referent_of (tabled_reference (tabled_if c.args.self.now.tabled d)))
+    (sym (slot_named c.self.invariant c.self.view_is c.args.from c.requires.from c.index-object.ensures))
+
+pub load_referent-referent-requires-clause-read : goal.load_referent-referent-requires-clause-read
+load_referent-referent-requires-clause-read g c =
+    c.requires.word.read
+    ∙ ap (λ d. with_read c.args.self.now (read_if_good c.args.self.now.round (word_name d None) (Some c.args.word)))
+    (sym (slot_named c.self.invariant c.self.view_is c.args.from c.requires.from c.index-object.ensures))
 
 pub index_mut-requires : goal.index_mut-requires
 index_mut-requires g c =
