@@ -4,9 +4,9 @@
 # the repository, and teller, the word that its messages begin with; and it has a function `prove`, for `prove_all`.
 root=${root:?} teller=${teller:?}
 
-# How many seconds the proof of a crate takes from nothing on four cores, one crate with another: the thirteen crates of
+# How many seconds the proof of a crate takes from nothing on four cores, one crate with another: the fourteen crates of
 # the program take about half an hour.
-seconds_a_crate=140
+seconds_a_crate=130
 
 # Asks the toolchain what it is. Where it can't be asked the answer is empty, and what is built counts as built by it.
 ask_version() {

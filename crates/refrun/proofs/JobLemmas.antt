@@ -16,8 +16,8 @@ use Rattle.ref_mark.proofs.MarkLaws.{on_own_heap}
 use Rattle.ref_base.specs.declared.heap_step.HeapStep.TheVariants as heap
 use Rattle.ref_base.specs.declared.plain_step.PlainStep.TheVariants as plain
 use Rattle.ref_base.specs.declared.step.Step.TheVariants as steps
-use Rattle.refrun.specs.declared.script_step.ScriptReply.TheVariants as replies
-use Rattle.refrun.specs.declared.script_step.ScriptStep.TheVariants as scripts
+use Rattle.ref_script.specs.declared.script_step.ScriptReply.TheVariants as replies
+use Rattle.ref_script.specs.declared.script_step.ScriptStep.TheVariants as scripts
 
 module _ (c : Core) (a : State) (stands : Stands c a) (m s : ℕ) where
   -- what refuses a clear, and what its slot holds, is as the heap has it

@@ -1,25 +1,7 @@
 pub mod Common
-mod Examples
-mod IllegalTexts
-pub mod Cuts
-pub mod FirstBytes
-pub mod Digits
-pub mod Fields
-pub mod StepForms
-pub mod OperandReads
-pub mod Spelt
-pub mod LineLemmas
-pub mod DeclaredSpelt
-pub mod GraphLines
-pub mod ScriptLines
-pub mod OneReading
-pub mod OneGraph
-pub mod FaultLaws
+mod IllegalRows
 pub mod JobLemmas
-pub mod Printing
 pub mod TraceLemmas
-pub mod ListingLemmas
-pub mod ReadLemmas
 pub mod ListChecks
 pub mod NoEvidence
 pub mod Reports

@@ -15,7 +15,7 @@ use Rattle.refrun.specs.StressEvidence.{ShowsReports}
 use Rattle.refrun.proofs.NoEvidence.{contained}
 use Rattle.ref_queue.proofs.TableLemmas.{first_out}
 use Rattle.ref_base.specs.declared.step.Step.TheVariants as world
-use Rattle.refrun.specs.declared.script_step.ScriptReply.TheVariants as replies
+use Rattle.ref_script.specs.declared.script_step.ScriptReply.TheVariants as replies
 
 -- ---- jobs: 3 and 4, of which 3 is registered for object 2
 

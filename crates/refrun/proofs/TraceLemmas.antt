@@ -10,22 +10,23 @@ use Rattle.ref_base.specs.declared.span_rule.SpanRule.{SpanRule}
 use Rattle.std.specs.Option.{IfSome}
 use Rattle.refrun.proofs.Common.{Err, Ok}
 use Rattle.std.specs.Io.KnownBytes.{Appends}
-use Rattle.refrun.specs.Answers.{AnswersText}
+use Rattle.ref_script.specs.Answers.{AnswersText}
 use Rattle.ref_text.specs.Streams.{AppendsPrefix}
 use Rattle.ref_text.specs.declared.fault.TextFault.{TextFault}
 use Rattle.ref_text.specs.declared.fault.TextFault.TheVariants.{CannotWrite}
-use Rattle.refrun.specs.Scripts.{AreScript}
-use Rattle.refrun.specs.Versions.{trace_title}
-use Rattle.refrun.specs.Traces.{PrintsTrace, numbered, script_steps_of, TellsRow, TellsTrace}
+use Rattle.ref_script.specs.Scripts.{AreScript}
+use Rattle.ref_script.specs.Versions.{trace_title}
+use Rattle.refrun.specs.Traces.{PrintsTrace, script_steps_of, TellsRow, TellsTrace}
+use Rattle.ref_script.specs.TraceTexts.{numbered}
 use Rattle.ref_base.specs.CollectorRows.{IsRow, IsRun}
 use Rattle.ref_base.specs.declared.reply.Reply.{Reply}
 use Rattle.ref_base.specs.declared.step.Step.{Step}
 use Rattle.ref_world.specs.Standing.{IsRowOf}
 use Rattle.ref_base.specs.declared.row.Row.{Row}
 use Rattle.refrun.specs.ScriptRuns.{world_row, world_rows, RunsIn, IsScriptRow}
-use Rattle.refrun.specs.ScriptSteps.{script_row_text}
-use Rattle.refrun.specs.declared.script_step.ScriptReply.TheVariants as replies
-use Rattle.refrun.specs.declared.script_step.ScriptStep.TheVariants as scripts
+use Rattle.ref_script.specs.ScriptSteps.{script_row_text}
+use Rattle.ref_script.specs.declared.script_step.ScriptReply.TheVariants as replies
+use Rattle.ref_script.specs.declared.script_step.ScriptStep.TheVariants as scripts
 
 -- one line of a trace
 line_of_row : ℕ → ScriptRow → List ℕ

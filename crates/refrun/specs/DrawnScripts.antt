@@ -5,8 +5,8 @@ use Rattle.ref_base.specs.declared.config.Config.{Config}
 use Rattle.ref_text.specs.Streams.{AppendsPrefix}
 use Rattle.ref_text.specs.declared.fault.TextFault.{TextFault}
 use Rattle.ref_text.specs.declared.fault.TextFault.TheVariants.{Line, TooLong, CannotRead, CannotWrite, NoMemory}
-use Rattle.refrun.specs.Scripts.{IsScript}
-use Rattle.refrun.specs.declared.script_step.ScriptStep.{ScriptStep}
+use Rattle.ref_script.specs.Scripts.{IsScript}
+use Rattle.ref_script.specs.declared.script_step.ScriptStep.{ScriptStep}
 
 -- the text is a script of so many steps
 pub record IsDrawnScript (count : ℕ) (text : List ℕ) : Type 0 where

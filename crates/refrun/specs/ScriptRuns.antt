@@ -14,11 +14,11 @@ use Rattle.ref_base.specs.declared.reply.Reply.TheVariants.{Done, Refused}
 use Rattle.ref_base.specs.declared.row.Row.{Row}
 use Rattle.ref_base.specs.declared.step.Step.TheVariants.{Plain}
 use Rattle.ref_queue.specs.CleanTables.{Registry, new_registry, Registers, Takes}
-use Rattle.refrun.specs.declared.script_step.ScriptReply.{ScriptReply}
-use Rattle.refrun.specs.declared.script_step.ScriptReply.TheVariants as replies
-use Rattle.refrun.specs.declared.script_step.ScriptRow.{ScriptRow}
-use Rattle.refrun.specs.declared.script_step.ScriptStep.{ScriptStep}
-use Rattle.refrun.specs.declared.script_step.ScriptStep.TheVariants as steps
+use Rattle.ref_script.specs.declared.script_step.ScriptReply.{ScriptReply}
+use Rattle.ref_script.specs.declared.script_step.ScriptReply.TheVariants as replies
+use Rattle.ref_script.specs.declared.script_step.ScriptRow.{ScriptRow}
+use Rattle.ref_script.specs.declared.script_step.ScriptStep.{ScriptStep}
+use Rattle.ref_script.specs.declared.script_step.ScriptStep.TheVariants as steps
 
 -- ---- the rows of the world
 

@@ -6,9 +6,9 @@ use Rattle.ref_queue.specs.CleanTables.{Registry}
 use Rattle.ref_world.specs.Cores.{Core}
 use Rattle.ref_world.specs.Standing.{Stands}
 use Rattle.refrun.specs.ScriptRuns.{StageJobs, IsScriptRow, IsScriptRun}
-use Rattle.refrun.specs.declared.script_step.ScriptReply.{ScriptReply}
-use Rattle.refrun.specs.declared.script_step.ScriptRow.{ScriptRow}
-use Rattle.refrun.specs.declared.script_step.ScriptStep.{ScriptStep}
+use Rattle.ref_script.specs.declared.script_step.ScriptReply.{ScriptReply}
+use Rattle.ref_script.specs.declared.script_step.ScriptRow.{ScriptRow}
+use Rattle.ref_script.specs.declared.script_step.ScriptStep.{ScriptStep}
 
 abbrev pub jobs : {J : Type 0} → Registry (Unit {0}) J → List J → StageJobs J
 jobs table left = record { table = table; left = left }

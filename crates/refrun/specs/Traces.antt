@@ -4,26 +4,17 @@ use Rattle.ref_base.specs.LegalTraces.{IsLegal}
 use Rattle.ref_base.specs.declared.config.Config.{Config}
 use Rattle.ref_base.specs.declared.span_rule.SpanRule.{SpanRule}
 use Rattle.ref_world.specs.Cores.{Core}
-use Rattle.refrun.specs.Answers.{AnswersText}
+use Rattle.ref_script.specs.Answers.{AnswersText}
 use Rattle.refrun.specs.ScriptRuns.{StageJobs, world_rows, IsScriptTrace}
 use Rattle.refrun.specs.ScriptStanding.{IsScriptRowOf, RunsScriptFrom}
-use Rattle.refrun.specs.ScriptSteps.{script_row_text}
-use Rattle.refrun.specs.Scripts.{IsScript}
-use Rattle.refrun.specs.TextFaults.{script_fault}
-use Rattle.refrun.specs.Versions.{trace_title}
+use Rattle.ref_script.specs.ScriptSteps.{script_row_text}
+use Rattle.ref_script.specs.Scripts.{IsScript}
+use Rattle.ref_script.specs.TextFaults.{script_fault}
+use Rattle.ref_script.specs.TraceTexts.{trace_text}
 use Rattle.ref_text.specs.declared.fault.TextFault.{TextFault}
-use Rattle.refrun.specs.declared.script_step.ScriptReply.{ScriptReply}
-use Rattle.refrun.specs.declared.script_step.ScriptRow.{ScriptRow}
-use Rattle.refrun.specs.declared.script_step.ScriptStep.{ScriptStep}
-
--- a line for each row, the first of which has number k
-abbrev pub numbered : ℕ → List ScriptRow → List ℕ
-numbered k [] = []
-numbered k (row ∷ rows) = decimal k ++ 32 ∷ script_row_text row ++ 10 ∷ numbered (k + 1) rows
-
--- the text of a trace: its header, which is of the script's version, then its rows, numbered from 1
-abbrev pub trace_text : SpanRule → List ScriptRow → List ℕ
-trace_text rule rows = trace_title rule ++ 10 ∷ numbered 1 rows
+use Rattle.ref_script.specs.declared.script_step.ScriptReply.{ScriptReply}
+use Rattle.ref_script.specs.declared.script_step.ScriptRow.{ScriptRow}
+use Rattle.ref_script.specs.declared.script_step.ScriptStep.{ScriptStep}
 
 abbrev pub script_steps_of : List ScriptRow → List ScriptStep
 script_steps_of rows = map (λ row. row.step) rows

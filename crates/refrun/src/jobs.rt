@@ -8,9 +8,9 @@ ghost use Rattle.refrun.specs.ScriptRuns.{RegistersStageJob};
 ghost use Rattle.refrun.specs.ScriptStanding.{IsScriptRowOf, jobs};
 ghost use Rattle.ref_world.specs.WorldHeaps.{model_heap};
 
-use crate::script_step::{ScriptReply, ScriptStep};
 use ref_base::{MutNo, ObjNo, PlainStep, Reply, SlotNo, Step};
 use ref_queue::{CleanTable, Job};
+use ref_script::{ScriptReply, ScriptStep};
 use ref_world::World;
 use std::alloc::Allocator;
 

@@ -1,35 +1,20 @@
-//! Scripts and graph texts in, traces and strengths out: what `refrun` reads and prints.
+//! Scripts run, and drawn at random; threads that stress a shared heap, and what is checked behind them.
 #![tactic(auto)]
 
 mod cleaning;
-mod declarations;
 mod evidence;
 mod gate;
-mod graph_text;
 mod jobs;
-pub mod laws;
-mod lines;
-mod listing;
 mod lists;
-mod numerals;
-mod operands;
 mod outcomes;
-mod printed;
 mod random;
-mod reading;
-mod script;
-mod script_step;
 mod station;
-mod steps;
 mod stress_options;
 mod tally;
 mod threads;
-mod told;
 mod trace;
-mod version;
 
 pub use evidence::{Evidence, WrongRun, evidence_of};
-pub use listing::strength_text;
 pub use lists::{Check, check_lists};
 pub use outcomes::JobFate;
 pub use random::{Parts, random_script};

@@ -2,7 +2,7 @@
 
 ghost use Rattle.std.specs.Prelude.{◌≡◌, ◌||◌, ◌⊎◌, Err, IfOk, OnOk, OnErr};
 ghost use Rattle.ref_text.specs.declared.fault.TextFault.TheVariants.{TooLong, NoMemory};
-ghost use Rattle.refrun.specs.Answers.{KeepsUnlessDone, is_cannot_write};
+ghost use Rattle.ref_script.specs.Answers.{KeepsUnlessDone, is_cannot_write};
 ghost use Rattle.refrun.specs.DrawnScripts.{AnswersDrawn, IsDrawnScript};
 
 mod author;
@@ -13,14 +13,11 @@ mod patterns;
 mod plan;
 mod rehearsal;
 
-use crate::printed::Printed;
-use crate::reading::MAX_TEXT;
-use crate::script::script_of;
-use crate::script_step::ScriptStep;
 use author::{Author, drawn_config};
 use dice::Dice;
 pub use parts::Parts;
 use ref_base::{Config, SpanRule};
+use ref_script::{MAX_TEXT, Printed, ScriptStep, script_of};
 use ref_text::{TextFault, TextSink, WriteFailed};
 use rehearsal::Rehearsal;
 use std::alloc::{AllocError, Allocator};

@@ -4,22 +4,20 @@ ghost use Rattle.std.specs.Prelude.{◌≡◌, ◌≤◌, ◌||◌, ◌++◌, �
 ghost use Rattle.std.specs.Prelude.{IfOk, IfErr, OnOk, OnErr, IfSome, Some};
 ghost use Rattle.std.specs.Fmt.{DisplaysOnOk, IsPlainFormatter, formatter_writer};
 ghost use Rattle.refrun.specs.JobViews.{job_number, note_of};
-ghost use Rattle.refrun.specs.LineReading.{FailsFor};
-ghost use Rattle.refrun.specs.Lines.{lines_of, most_bytes};
+ghost use Rattle.ref_script.specs.LineReading.{FailsFor};
+ghost use Rattle.ref_script.specs.Lines.{lines_of, most_bytes};
 ghost use Rattle.refrun.specs.ScriptStanding.{jobs};
-ghost use Rattle.refrun.specs.ScriptSteps.{script_row_text};
-ghost use Rattle.refrun.specs.TextFaults.{ScriptHeader, first_fault, script_fault};
+ghost use Rattle.ref_script.specs.ScriptSteps.{script_row_text};
+ghost use Rattle.ref_script.specs.TextFaults.{ScriptHeader, first_fault, script_fault};
 ghost use Rattle.refrun.specs.Traces.{AnswersRun, PrintsTrace, TellsRow, TellsRun, TellsTrace};
-ghost use Rattle.refrun.specs.Answers.{KeepsUnlessDone, TellsFault, is_cannot_read, is_cannot_write};
+ghost use Rattle.ref_script.specs.Answers.{KeepsUnlessDone, TellsFault, is_cannot_read, is_cannot_write};
 
 use crate::jobs::Stage;
-use crate::printed::Printed;
-use crate::reading::text_of;
-use crate::script::{Script, script_of};
-use crate::script_step::{ScriptReply, ScriptStep, say_row};
-use crate::version::trace_title;
 use ref_base::{SpanRule, say_number};
 use ref_queue::{CleanTable, Job};
+use ref_script::{
+    Printed, Script, ScriptReply, ScriptStep, say_row, script_of, text_of, trace_title,
+};
 use ref_text::{TextFault, TextSink, TextSource, WriteFailed};
 use ref_world::World;
 use std::alloc::{AllocError, Allocator};

@@ -3,7 +3,8 @@
 ghost use Rattle.std.specs.Prelude.{◌≡◌, ◌<◌, ◌+◌};
 
 use ref_queue::{Action, Job};
-use refrun::{FromReader, TextFault, ToWriter, run_script, strength_text};
+use ref_script::strength_text;
+use refrun::{FromReader, TextFault, ToWriter, run_script};
 use std::alloc::{AllocError, Global};
 
 /// How many jobs a script has.

@@ -2,9 +2,8 @@
 
 use crate::cases::{CASES, Case, Task};
 use crate::jobs::script_jobs;
-use refrun::{
-    FromReader, LineFault, TextFault, TextSink, TextSource, ToWriter, run_script, strength_text,
-};
+use ref_script::strength_text;
+use refrun::{FromReader, LineFault, TextFault, TextSink, TextSource, ToWriter, run_script};
 use std::alloc::{AllocError, Allocator, Global};
 use std::process::Abort;
 use std::test::Fail;

@@ -2,15 +2,16 @@
 
 ghost use Rattle.std.specs.Prelude.{◌≡◌, true, [], Some};
 ghost use Rattle.std.specs.Io.KnownBytes.{Keeps};
-ghost use Rattle.refrun.specs.Answers.{TellsFault};
+ghost use Rattle.ref_script.specs.Answers.{TellsFault};
 ghost use Rattle.ref_text.specs.declared.fault.TextFault.TheVariants.{Line};
 ghost use Rattle.ref_text.specs.declared.fault.LineFault.TheVariants.{ExtraWord, NotAscii, MissingWord};
 
 use crate::fakes::ReadsThenFails;
 use ref_base::ObjNo;
+use ref_script::strength_text;
 use refrun::{
     Check, FromReader, LineFault, ReadError, TextFault, TextSink, TextSource, ToWriter,
-    evidence_of, run_script, strength_text,
+    evidence_of, run_script,
 };
 use std::alloc::Global;
 use std::io::{self, ErrorKind, Read, Write};

@@ -5,8 +5,8 @@ use super::known::Known;
 use super::parts::Parts;
 use super::patterns::{IN_A_ROW, OF_COLLECTOR, OF_MUTATORS, Pattern};
 use super::plan::{Plan, work_in};
-use crate::script_step::ScriptStep;
 use ref_base::{Config, Fault, Reply, SpanRule, Step, WorkerNo};
+use ref_script::ScriptStep;
 use std::alloc::{AllocError, Allocator};
 
 /// Sizes of heaps: most are soon full. Only the last ones have pages enough for moves.

@@ -3,8 +3,8 @@
 use super::dice::Dice;
 use super::known::{Known, Want};
 use super::patterns::{ALL_ROLES, Act, Clock, Pattern, ROLES, Role, Times};
-use crate::script_step::ScriptStep;
 use ref_base::{Actor, MutNo, Phase, PlainStep, QueueNo, Reply, SLOTS, SlotNo, Step, WorkerNo};
+use ref_script::ScriptStep;
 use std::alloc::Allocator;
 
 /// A heap with more cells isn't filled.

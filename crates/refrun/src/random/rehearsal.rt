@@ -1,7 +1,7 @@
 //! The world in which a script is played while it is drawn.
 
-use crate::script_step::ScriptStep;
 use ref_base::{Config, Fault, MutNo, ObjNo, PlainStep, Reply, SlotNo, Step};
+use ref_script::ScriptStep;
 use ref_world::World;
 use std::alloc::{AllocError, Allocator};
 

@@ -1,5 +1,5 @@
 use Rattle.std.proofs.lemmas.Result.{on_ok_weaker}
-use Rattle.refrun.proofs.Printing.{if_done}
+use Rattle.ref_script.proofs.Printing.{if_done}
 use Rattle.refrun.proofs.trace.tell_other.Goals as goal
 
 pub returns-clause-row : goal.returns-clause-row

@@ -1,7 +1,7 @@
 use Rattle.refrun.proofs.Common.{job_number, note_of, jobs}
 use Rattle.std.proofs.lemmas.Result.{on_ok_weaker}
 use Rattle.ref_base.specs.declared.step.Step.TheVariants as steps
-use Rattle.refrun.proofs.Printing.{if_done}
+use Rattle.ref_script.proofs.Printing.{if_done}
 use Rattle.refrun.proofs.TraceLemmas.{tells_world}
 use Rattle.refrun.proofs.trace.tell_step.Goals as goal
 

@@ -1,6 +1,6 @@
 use Rattle.refrun.proofs.Common.{ap, arith, refl, job_number, note_of, jobs}
 use Rattle.std.specs.Result.{is_ok}
-use Rattle.refrun.proofs.Printing.{stands_behind}
+use Rattle.ref_script.proofs.Printing.{stands_behind}
 use Rattle.refrun.proofs.TraceLemmas.{tells_nothing_yet, tells_more}
 use Rattle.refrun.proofs.trace.told_run.Goals as goal
 

@@ -1,5 +1,5 @@
 use Rattle.refrun.proofs.Common.{arith}
-use Rattle.refrun.proofs.FaultLaws.{script_without_fault}
+use Rattle.ref_script.proofs.FaultLaws.{script_without_fault}
 use Rattle.refrun.proofs.TraceLemmas.{is_script, prints_trace}
 use Rattle.refrun.proofs.trace.trace_behind.Goals as goal
 

@@ -1,0 +1,20 @@
+pub mod Common
+mod Examples
+mod IllegalTexts
+pub mod Cuts
+pub mod FirstBytes
+pub mod Digits
+pub mod Fields
+pub mod StepForms
+pub mod OperandReads
+pub mod Spelt
+pub mod LineLemmas
+pub mod DeclaredSpelt
+pub mod GraphLines
+pub mod ScriptLines
+pub mod OneReading
+pub mod OneGraph
+pub mod FaultLaws
+pub mod Printing
+pub mod ListingLemmas
+pub mod ReadLemmas

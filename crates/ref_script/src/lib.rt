@@ -1,0 +1,24 @@
+//! The texts that `refrun` reads and prints: scripts and the rows of their traces, graph texts and their listings.
+#![tactic(auto)]
+
+mod declarations;
+mod graph_text;
+pub mod laws;
+mod lines;
+mod listing;
+mod numerals;
+mod operands;
+mod printed;
+mod reading;
+mod script;
+mod script_step;
+mod steps;
+mod told;
+mod version;
+
+pub use listing::strength_text;
+pub use printed::Printed;
+pub use reading::{MAX_TEXT, text_of};
+pub use script::{Script, script_of};
+pub use script_step::{ScriptReply, ScriptRow, ScriptStep, say_row};
+pub use version::trace_title;

@@ -1,6 +1,0 @@
-use Rattle.refrun.proofs.Common.{arith}
-use Rattle.refrun.proofs.LineLemmas.{fails_for}
-use Rattle.refrun.proofs.graph_text.declared_graph.Goals as goal
-
-pub returns-in_err-line-clause-fault : goal.returns-in_err-line-clause-fault
-returns-in_err-line-clause-fault g c = grind (arith, fails_for)

@@ -1,9 +1,0 @@
-use Rattle.refrun.proofs.Common.{length}
-use Rattle.refrun.proofs.GraphLines.{HasDeclared}
-use Rattle.refrun.proofs.graph_text.graph_behind.Given as goal
-
-abbrev pub invariant-loop-graph : goal.invariant-loop-graph
-invariant-loop-graph g l = HasDeclared l.initial.lines l.lines l.graph
-
-abbrev pub decreases-loop-graph : goal.decreases-loop-graph
-decreases-loop-graph g l = length l.lines.lines

@@ -1,5 +1,0 @@
-use Rattle.refrun.proofs.OneGraph.{one_graph}
-use Rattle.refrun.proofs.laws.a_text_declares_one_graph.Goals as goal
-
-pub returns : goal.returns
-returns c = one_graph

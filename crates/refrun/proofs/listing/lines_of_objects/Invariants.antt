@@ -1,8 +1,0 @@
-use Rattle.refrun.proofs.Common.{◌≡◌, take, listing_text}
-use Rattle.std.specs.Fmt.{IsPlainFormatter, formatter_writer}
-use Rattle.refrun.proofs.listing.lines_of_objects.Given as goal
-
-abbrev pub invariant-loop-object : goal.invariant-loop-object
-invariant-loop-object g l =
-    (formatter_writer l.listing ≡ listing_text (take l.object-index l.listed))
-    × IsPlainFormatter l.listing

@@ -1,7 +1,0 @@
-use Rattle.refrun.proofs.Common.{◌∙◌}
-use Rattle.refrun.proofs.FirstBytes.{gathers_ascii}
-use Rattle.refrun.proofs.told.are_ascii.Goals as goal
-
-pub loop-byte-preserved : goal.loop-byte-preserved
-loop-byte-preserved c =
-    gathers_ascii c.args.bytes.now c.loop-byte.byte-index c.loop-byte.bits c.loop-byte-test.true ∙ c.loop-byte.invariant

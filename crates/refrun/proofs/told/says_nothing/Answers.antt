@@ -1,6 +1,0 @@
-use Rattle.refrun.proofs.Common.{arith}
-use Rattle.refrun.proofs.FirstBytes.{told_by_first}
-use Rattle.refrun.proofs.told.says_nothing.Goals as goal
-
-pub returns-then-byte-ne32 : goal.returns-then-byte-ne32
-returns-then-byte-ne32 c = grind (arith, told_by_first)

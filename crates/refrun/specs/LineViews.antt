@@ -1,6 +1,0 @@
--- A line of the program as a line of the definitions.
-use Rattle.refrun.specs.Lines.{TextLine}
-use Rattle.refrun.specs.declared.lines.Line.{Line}
-
-abbrev pub line_of : Line → TextLine
-line_of line = record { bytes = line.bytes.now; is_ended = line.is_ended }
