@@ -21,3 +21,17 @@ pub mod KnownRows
 pub mod KnownGains
 pub mod MoreKept
 pub mod WholeLists
+pub mod LegalFacts
+pub mod MemberCounts
+pub mod MarkRuns
+pub mod LawfulRuns
+pub mod RowTurns
+pub mod LiveNames
+pub mod TakenNotices
+pub mod HeldNotices
+pub mod RightWorlds
+pub mod LawfulStates
+pub mod LawfulSizes
+pub mod ScannedFacts
+pub mod RegisteredNotices
+pub mod ScannedThere

@@ -147,7 +147,7 @@ free_soft p = record {
 
 -- ---- any order
 
-first_taken : (count : ℕ) (stands : List Notice) → AreTakenFrom stands (take count stands)
+pub first_taken : (count : ℕ) (stands : List Notice) → AreTakenFrom stands (take count stands)
 first_taken zero stands = tt
 first_taken (suc count) [] = tt
 first_taken (suc count) (notice ∷ rest) = grind (arith, first_taken count rest)

@@ -119,7 +119,7 @@ more_there os more ns same n there =
     ∙ has-left (numbers os) ns n (sym (is_there-has os n) ∙ there)
 
 -- the step asks for what may come in a mark
-abbrev AsksInMark : Option NamedStep → Type 0
+abbrev pub AsksInMark : Option NamedStep → Type 0
 AsksInMark None = Unit {0}
 AsksInMark (Some asked) = InMark asked
 
@@ -128,7 +128,7 @@ abbrev pub IsMarkStep : Step → Type 0
 IsMarkStep (steps.Plain step) = InMark (heap.Plain step)
 IsMarkStep step = Unit {0}
 
-asks_in_mark : (w : World) (step : Step) → IsMarkStep step → AsksInMark (heap_step w step)
+pub asks_in_mark : (w : World) (step : Step) → IsMarkStep step → AsksInMark (heap_step w step)
 asks_in_mark w (steps.Plain step) inside = inside
 asks_in_mark w (steps.Adopt m d) inside = of_hand (hand_of w (Mutator m))
   where
@@ -161,7 +161,7 @@ module _ (a b : State) (marks : a.world.phase ≡ Marking) where
       )
 
 -- a step that may come in a mark ends no phase
-ends_no_phase : (step : NamedStep) → InMark step → EndsNoPhase step
+pub ends_no_phase : (step : NamedStep) → InMark step → EndsNoPhase step
 ends_no_phase (heap.Plain (plain.Begin now how)) inside = absurd inside
 ends_no_phase (heap.Plain plain.EndMark) inside = absurd inside
 ends_no_phase (heap.Plain plain.EndClear) inside = absurd inside
@@ -190,7 +190,7 @@ led_numbers a (heap.Plain (plain.Sweep k)) reply inside = absurd inside
 led_numbers a (heap.Plain (plain.Scan k)) reply inside = sym (append-nil (numbers a.world.heap.objects))
 led_numbers a step reply inside = numbers_after a.world step reply
 
-led_phase : (a : State) (step : NamedStep) (reply : Reply) → InMark step
+pub led_phase : (a : State) (step : NamedStep) (reply : Reply) → InMark step
     → (lead_of a step reply).world.phase ≡ a.world.phase
 led_phase a step reply inside =
     ap (λ (s : State). s.world.phase) (leads_out a step reply inside)
@@ -198,7 +198,7 @@ led_phase a step reply inside =
 
 module _ (a b : State) (marks : a.world.phase ≡ Marking) where
   -- where the row leads, by what it asks of its heap
-  abbrev led_to : Option NamedStep → Step → Reply → State
+  abbrev pub led_to : Option NamedStep → Step → Reply → State
   led_to None step reply = ticked (with_world a (after_queues a.world step reply))
   led_to (Some asked) step reply = with_handed (ticked (lead_of a asked reply)) step reply
 

@@ -36,7 +36,7 @@ few_first (suc count) (notice ∷ rest) = grind (arith, few_first count rest)
 least_few : (count stands : ℕ) → min count stands ≤ count
 least_few count stands = grind arith
 
-takes_few : (order : Order) (count : ℕ) (stands taken : List Notice) → MayTake order count stands taken
+pub takes_few : (order : Order) (count : ℕ) (stands taken : List Notice) → MayTake order count stands taken
     → length taken ≤ count
 takes_few First count stands taken may =
     subst (λ (ns : List Notice). length ns ≤ count) (sym may) (few_first count stands)
@@ -45,7 +45,7 @@ takes_few Last count stands taken may =
 takes_few Any count stands taken may = subst (λ (k : ℕ). k ≤ count) (sym may.0) (least_few count (length stands))
 
 -- an answer to a poll of one names all that it took, and refuses nothing
-one_told : (taken : List Notice) → length taken ≤ 1
+pub one_told : (taken : List Notice) → length taken ≤ 1
     → told_taken (one_taken (map object_of taken)) ≡ map object_of taken
 one_told [] few = refl
 one_told (notice ∷ []) few = refl

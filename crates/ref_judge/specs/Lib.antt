@@ -2,3 +2,4 @@ pub mod KeptBounds
 pub mod ProfiledRows
 pub mod IdleRows
 pub mod Verdicts
+pub mod LegalStates
