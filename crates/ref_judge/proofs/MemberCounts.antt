@@ -1,5 +1,5 @@
 -- How many distinct numbers there are: as many as in each other list of distinct numbers that has just these.
-use Rattle.ref_base.proofs.Common.{arith, ◌≡◌, ℕ, ◌+◌, ◌<◌, true, false, ◌==◌, List, [], ◌∷◌, length, refl, sym, ◌∙◌}
+use Rattle.ref_base.proofs.Common.{arith, ◌≡◌, ℕ, ◌+◌, true, false, ◌==◌, List, [], ◌∷◌, length, refl, sym}
 use Rattle.ref_base.proofs.Common.{true≢false, has}
 use Rattle.std.specs.Prelude.{◌≤◌}
 use Rattle.ref_base.specs.Heaps.{one_fewer}

@@ -304,8 +304,11 @@ right_goes v w step reply right goes counted numbered few = (
 )
 
 right_same : (v w : World) → w ≡ v → IsRight v → GoesRight v w
-right_same v w is right = (subst IsRight (sym is) right, λ q n h.
-    inl (ap (λ (u : World). has (enqueued object_of (queue_at u q)) n) (sym is) ∙ h))
+right_same v w is right = (
+  subst IsRight (sym is) right,
+  λ q n h.
+      inl (ap (λ (u : World). has (enqueued object_of (queue_at u q)) n) (sym is) ∙ h),
+)
 
 -- the world of a mark's end
 right_ended : (a : State) (d : List ℕ) (found : List (List ℕ)) → IsRight a.world

@@ -1,12 +1,14 @@
 //! What a profile changes: nothing where it has no word, and else it only adds legal traces. What a trace may leave
-//! out, and that it has one verdict.
+//! out, that it has one verdict, and what holds in each state to which it leads.
 
 ghost use Rattle.std.specs.Prelude.{◌≡◌, ℕ, true, List, ◌++◌, Option, ◌↔◌};
+ghost use Rattle.ref_base.specs.Collectors.{State, first_state};
 ghost use Rattle.ref_base.specs.LegalTraces.{IsLegal};
 ghost use Rattle.ref_base.specs.declared.config.Config.{Config};
 ghost use Rattle.ref_base.specs.declared.row.Row.{Row};
 ghost use Rattle.ref_judge.specs.IdleRows.{LeavesOut};
-ghost use Rattle.ref_judge.specs.ProfiledRows.{strict, IsLegalAs};
+ghost use Rattle.ref_judge.specs.LegalStates.{Facts};
+ghost use Rattle.ref_judge.specs.ProfiledRows.{strict, IsLegalAs, IsRunAs};
 ghost use Rattle.ref_judge.specs.Verdicts.{Judges};
 ghost use Rattle.ref_judge.specs.declared.order.Order.{Order};
 ghost use Rattle.ref_judge.specs.declared.profile.Profile.{Profile};
@@ -58,4 +60,14 @@ pub fn the_front_of_a_legal_trace_is_legal()
 pub fn a_trace_has_one_verdict()
     ensures { (profile : Profile) (config : Config) (rows : List Row) (verdict other : Option ℕ)
         → Judges profile config rows verdict → Judges profile config rows other → verdict ≡ other }
+{}
+
+// promise: Profile::strict: what holds in each state that a collector of any profile comes to
+/// In each state to which rows of a collector lead: what slots, notices, pending references and objects name is there
+/// and isn't doomed, but for what the doomed name. Each number that was given is below the next. What a cycle scanned,
+/// each once, was made before it. Each notice is for its own reference's queue, is held, and stands once at most in all
+/// that its queue ever took in.
+pub fn each_state_has_these_facts()
+    ensures { (profile : Profile) (config : Config) (rows : List Row) (last : State)
+        → IsRunAs profile (first_state config) rows last → Facts config last }
 {}

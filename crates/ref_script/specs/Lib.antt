@@ -15,8 +15,6 @@ pub mod TextFaults
 pub mod Versions
 pub mod LineReading
 pub mod TraceTexts
-pub mod ReplyKinds
-pub mod ReplyReading
 pub mod Answers
 pub mod Listings
 pub mod DeclarationViews

@@ -5,8 +5,6 @@ mod ways;
 
 use draws::Draws;
 use ref_base::{Config, SpanRule, Step};
-use ref_base::Row;
-use ref_judge::{Judge, Profile};
 use ref_objects::Start;
 use ref_world::World;
 use std::alloc::Global;
@@ -139,9 +137,7 @@ fn do_worlds(
 ) -> Result<(), Fail> {
     let mut draws = Draws::new(config, seed);
     for nth in 0..WORLDS {
-        let mut judge = Judge::new(alloc, config, Profile::strict())?;
         let mut world = World::starting(alloc, config, start)?;
-        let is_judged = start == Start::FIRST;
         for place in 0..steps {
             let step = draws.step();
             let reply = world.step(step);
@@ -151,10 +147,6 @@ fn do_worlds(
                 "seed {seed}, world {nth}, {place}: {step} : {reply}"
             );
             count(counts, step, way);
-            if is_judged {
-                let verdict = judge.row(Row { step, reply });
-                assert!(rt; verdict == Ok(()), "judged seed {seed}, world {nth}, {place}: {step} : {reply}");
-            }
         }
         world.end();
     }
