@@ -1,6 +1,8 @@
 //! References that slots hold: what they refer to, and what a get and a clear change.
 
-ghost use Rattle.std.specs.Prelude.{◌≡◌, ◌<◌, ℕ, true, Some, None, IfOk, length, slice_index_or};
+ghost use Rattle.std.specs.Prelude.{◌≡◌, ◌<◌, ℕ, true, Some, None, if◌then◌else◌, IfOk, is_some, length};
+ghost use Rattle.std.specs.Prelude.{slice_index_or};
+ghost use Rattle.ref_base.specs.declared.fault.Fault.TheVariants.{EmptySlot, NotAReference};
 ghost use Rattle.ref_base.specs.CollectorRows.{reference_of, referent_of, referent_got};
 ghost use Rattle.ref_base.specs.DoomedSets.{refers_into};
 ghost use Rattle.ref_base.specs.Heaps.{slot_at, reference_at, got};
@@ -80,11 +82,8 @@ impl<A: Allocator + Copy> Objects<A> {
     {
         let place = self.place(mutator, into)?;
         let held = self.place(mutator, from)?;
-        if self.table.slot(held).is_none() {
-            return Err(Fault::EmptySlot);
-        }
         let Some((reference, word)) = self.table.read_reference(held) else {
-            return Err(Fault::NotAReference);
+            return Err(no_reference_in(self.table.slot(held)));
         };
         let value = self.gets(held, reference, hide_unmarked);
         // The prover takes an Option that is passed on by value as spent.
@@ -193,6 +192,16 @@ fn put_soft<A: Allocator + Copy>(
     // First, since the slot that is written may be the one that is read.
     table.change_in(from, Change::Stamp(clock));
     table.get_referent(into, from, word);
+}
+
+// Why a slot that holds this has no reference: it is empty, or it holds an object of another kind.
+fn no_reference_in(held: Option<ObjNo>) -> Fault
+    ensures { result ≡ (if is_some held then NotAReference else EmptySlot) }
+{
+    match held {
+        None => Fault::EmptySlot,
+        Some(_) => Fault::NotAReference,
+    }
 }
 
 fn is_soft(strength: Strength) -> bool
