@@ -6,6 +6,17 @@ pub mod FirstBytes
 pub mod Digits
 pub mod Fields
 pub mod StepForms
+pub mod ExactNumbers
+pub mod ReplyWords
+pub mod ToldReplies
+pub mod ReadBack
+pub mod ReplyTexts
+pub mod BatchWords
+pub mod ToldBatches
+pub mod ReplyAnswers
+mod ReplyExamples
+pub mod ReplyNumbers
+pub mod ReplyRefusals
 pub mod OperandReads
 pub mod Spelt
 pub mod LineLemmas

@@ -1,5 +1,6 @@
 -- A text declares at most one graph.
-use Rattle.ref_script.proofs.Common.{arith, ◌≡◌, ℕ, List, [], ◌∷◌, Option, Some, None, codes, refl, ap, Graph, Strength}
+use Rattle.ref_script.proofs.Common.{arith, ◌≡◌, ℕ, List, [], ◌∷◌, Option, Some, None, codes, refl, ap, Graph}
+use Rattle.ref_script.proofs.Common.{Strength}
 use Rattle.ref_script.proofs.Common.{Soft, Weak, Phantom, Declared, Root, Plain, Reference, SpellsObject}
 use Rattle.ref_script.proofs.Common.{SpellsObjectOrNone, SpellFields, strength_name, SpellsDeclared, SpellAll}
 use Rattle.ref_script.proofs.Common.{SpellGraph}

@@ -1,5 +1,6 @@
 -- How the reading of a script goes on by one line.
-use Rattle.ref_script.proofs.Common.{arith, ◌≡◌, ℕ, ◌+◌, true, List, [], ◌∷◌, ◌++◌, Some, None, ◌∙◌, append_assoc, Bor}
+use Rattle.ref_script.proofs.Common.{arith, ◌≡◌, ℕ, ◌+◌, true, List, [], ◌∷◌, ◌++◌, Some, None, ◌∙◌, append_assoc}
+use Rattle.ref_script.proofs.Common.{Bor}
 use Rattle.ref_script.proofs.Common.{list_all, append-nil, words_of, SpellsScriptStep, Steps, first_fault}
 use Rattle.ref_script.proofs.Common.{SpellSteps, is_plain_line, told, Finds, LinesLeft, TextFault}
 use Rattle.ref_script.proofs.Common.{ScriptStep, Place, refl}

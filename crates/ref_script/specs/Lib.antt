@@ -15,6 +15,8 @@ pub mod TextFaults
 pub mod Versions
 pub mod LineReading
 pub mod TraceTexts
+pub mod ReplyKinds
+pub mod ReplyReading
 pub mod Answers
 pub mod Listings
 pub mod DeclarationViews

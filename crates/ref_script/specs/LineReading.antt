@@ -3,7 +3,8 @@ use Rattle.std.specs.Prelude.{◌≡◌, ℕ, ◌+◌, List, [], ◌∷◌, Opti
 use Rattle.std.specs.Borrow.{Bor}
 use Rattle.std.specs.List.{list_all}
 use Rattle.ref_script.specs.Lines.{TextLine, content_of, words_of}
-use Rattle.ref_script.specs.TextFaults.{Place, place_after, place_fault, end_fault, fault_or, first_fault, plain_fault}
+use Rattle.ref_script.specs.TextFaults.{Place, place_after, place_fault, end_fault, fault_or, first_fault}
+use Rattle.ref_script.specs.TextFaults.{plain_fault}
 use Rattle.ref_script.specs.ToldLines.{is_plain_line, told}
 use Rattle.ref_text.specs.declared.fault.TextFault.{TextFault}
 use Rattle.ref_text.specs.declared.fault.TextFault.TheVariants as texts

@@ -1,6 +1,7 @@
 //! Lines and words, as slices of the text.
 
-ghost use Rattle.std.specs.Prelude.{◌≡◌, ◌<◌, ◌≤◌, ◌==◌, ◌⊎◌, not, nat_eq, [], ◌∷◌, true, length, IfSome, MatchOption};
+ghost use Rattle.std.specs.Prelude.{◌≡◌, ◌<◌, ◌≤◌, ◌==◌, ◌⊎◌, not, nat_eq, [], ◌∷◌, true, length, IfSome};
+ghost use Rattle.std.specs.Prelude.{MatchOption};
 ghost use Rattle.std.specs.Cmp.Lexicographic.{pointwise};
 ghost use Rattle.std.specs.List.{prefix_len};
 ghost use Rattle.ref_script.specs.LineViews.{line_of};
