@@ -18,11 +18,14 @@ mod steps;
 mod told;
 mod version;
 
+pub use lines::next_word;
 pub use listing::strength_text;
 pub use printed::Printed;
 pub use reading::{MAX_TEXT, text_of};
 pub use replies::reply_of;
 pub use reply_kind::ReplyKind;
-pub use script::{Script, script_of};
+pub use script::{Script, config_of, script_of};
 pub use script_step::{ScriptReply, ScriptRow, ScriptStep, say_row};
-pub use version::trace_title;
+pub use steps::step_of;
+pub use told::is_titled;
+pub use version::{is_in_version, trace_title};

@@ -86,7 +86,7 @@ fn add_step<A: Allocator>(
 }
 
 /// The configuration that a line spells behind a header of this rule, within its limits or not.
-fn config_of(line: &[u8], rule: SpanRule) -> Option<Config>
+pub fn config_of(line: &[u8], rule: SpanRule) -> Option<Config>
     ensures { result ≡ config_of rule (words_of line.now) }
 {
     let (name, rest) = next_word(line)?;
