@@ -17,12 +17,9 @@ use Rattle.ref_base.specs.declared.reply.Reply.TheVariants as replies
 use Rattle.ref_base.specs.declared.plain_step.PlainStep.TheVariants as plain
 use Rattle.ref_judge.specs.ProfiledRows.{IsLeftAs, IsButAs, says_anew, AcceptsAnew, ScansAs, IsRowAs}
 use Rattle.ref_judge.specs.ProfiledRows.{EndsMarkAs}
+pub use Rattle.ref_judge.specs.Standing.{DecidesAs}
 use Rattle.ref_judge.specs.declared.profile.Profile.{Profile}
 use Rattle.ref_judge.proofs.UnchangedRows.{common_row, row_common, plain_accepted_as, accepted_plain_as}
-
--- the bit tells whether an object is left
-abbrev pub DecidesAs : Profile → Bool → State → Type 0
-DecidesAs p is_left a = (is_left ≡ true → (n : ℕ) × IsLeftAs p a n) × ((n : ℕ) → IsLeftAs p a n → is_left ≡ true)
 
 -- a moment more of a mark, and what is said, in either order
 pub ticked_as_said : (a : State) (left : Bool) → ticked (saying a left) ≡ saying (ticked a) left
@@ -68,20 +65,26 @@ module _ (p : Profile) where
 
   -- ---- a mark begins
 
-  -- a begin leads each state that fits to one that fits
+  -- a begin leads each state that fits to one that says anew
+  pub begin_but_as : (a s t : State) (now : ℕ) (how : Urgency) (reply : Reply) (may_left may_none : Bool)
+      → plain_refusal a (plain.Begin now how) ≡ None → Fits a may_left may_none s
+      → IsRowAs p s (plain_row (plain.Begin now how) reply) t
+      → (reply ≡ replies.Cycle (a.world.cycle + 1)) × IsButAs p (ticked (begun_to a now how)) t
+  begin_but_as a s t now how reply may_left may_none none fits h =
+      let begin = plain.Begin now how in
+      let (c, row, but) =
+      plain_accepted_as p (saying a fits.0) t begin reply none
+      (subst (λ (u : State). IsRowAs p u (plain_row begin reply) t) fits.1 h) in
+      (row.0, but_again (ticked (begun_to a now how)) c t row.1 but)
+
+  -- so to one that fits
   pub begin_fits_as : (a s t : State) (now : ℕ) (how : Urgency) (reply : Reply) (may_left may_none is_left : Bool)
       → plain_refusal a (plain.Begin now how) ≡ None → DecidesAs p is_left (ticked (begun_to a now how))
       → Fits a may_left may_none s → IsRowAs p s (plain_row (plain.Begin now how) reply) t
       → (reply ≡ replies.Cycle (a.world.cycle + 1)) × Fits (ticked (begun_to a now how)) is_left true t
   begin_fits_as a s t now how reply may_left may_none is_left none decides fits h =
-      let begin = plain.Begin now how in
-      let (c, row, but) =
-      plain_accepted_as p (saying a fits.0) t begin reply none
-      (subst (λ (u : State). IsRowAs p u (plain_row begin reply) t) fits.1 h) in (
-        row.0,
-        anew_fits_as (ticked (begun_to a now how)) t is_left decides
-            (but_again (ticked (begun_to a now how)) c t row.1 but),
-      )
+      let but = begin_but_as a s t now how reply may_left may_none none fits h in
+      (but.0, anew_fits_as (ticked (begun_to a now how)) t is_left decides but.1)
 
   -- and each state that fits afterwards may follow each that fitted
   pub fits_begun_as : (a s t : State) (now : ℕ) (how : Urgency) (may_left may_none is_left : Bool)
@@ -127,13 +130,12 @@ module _ (p : Profile) (a s t : State) (may_left may_none is_left : Bool) (marks
   gets_anew : (m d r n : ℕ) → says_anew said (plain.Get m d r) (replies.Object n) ≡ true
   gets_anew m d r n = simp marks refl
 
-  -- what such a step leaves fits
-  leaves_fit : (h : Heap) (c : State) → DecidesAs p is_left (ticked (on_heap a h)) → IsBut (ticked (on_heap said h)) c
-      → IsButAs p c t → Fits (ticked (on_heap a h)) is_left true t
-  leaves_fit h c decides once but =
-      anew_fits_as p (ticked (on_heap a h)) t is_left decides
-      (subst (λ (u : State). IsButAs p u t) (ticked_as_said (on_heap a h) old.0)
-      (but_again p (ticked (on_heap said h)) c t once but))
+  -- such a step leaves a state that says anew
+  leaves_but : (h : Heap) (c : State) → IsBut (ticked (on_heap said h)) c → IsButAs p c t
+      → IsButAs p (ticked (on_heap a h)) t
+  leaves_but h c once but =
+      subst (λ (u : State). IsButAs p u t) (ticked_as_said (on_heap a h) old.0)
+      (but_again p (ticked (on_heap said h)) c t once but)
 
   -- and each state that fits may be left
   fit_is_left : (h : Heap) → DecidesAs p is_left (ticked (on_heap a h)) → Fits (ticked (on_heap a h)) is_left true t
@@ -142,12 +144,11 @@ module _ (p : Profile) (a s t : State) (may_left may_none is_left : Bool) (marks
       subst (λ (u : State). IsButAs p u t) (sym (ticked_as_said (on_heap a h) old.0))
       (fits_anew_as p (ticked (on_heap a h)) t is_left decides fits)
 
-  -- a load leads each state that fits to one that fits
-  pub load_fits_as : (m d r i n : ℕ) → plain_refusal a (plain.Load m d r i) ≡ None
-      → DecidesAs p is_left (ticked (loaded_to a m d n))
+  -- a load leads each state that fits to one that says anew
+  pub load_but_as : (m d r i n : ℕ) → plain_refusal a (plain.Load m d r i) ≡ None
       → IsRowAs p s (plain_row (plain.Load m d r i) (replies.Object n)) t
-      → (field_in a.world.heap (slot_at a.world.heap m r) i ≡ Some n) × Fits (ticked (loaded_to a m d n)) is_left true t
-  load_fits_as m d r i n none decides h =
+      → (field_in a.world.heap (slot_at a.world.heap m r) i ≡ Some n) × IsButAs p (ticked (loaded_to a m d n)) t
+  load_but_as m d r i n none h =
       let load = plain.Load m d r i in
       let reply = replies.Object n in
       let (c, row, but) =
@@ -157,12 +158,21 @@ module _ (p : Profile) (a s t : State) (may_left may_none is_left : Bool) (marks
       of_value c but (field_in a.world.heap (slot_at a.world.heap m r) i) row
     where
       of_value : (c : State) → IsButAs p c t → (value : Option ℕ) → Loads said m d value (replies.Object n) c
-          → (value ≡ Some n) × Fits (ticked (loaded_to a m d n)) is_left true t
+          → (value ≡ Some n) × IsButAs p (ticked (loaded_to a m d n)) t
       of_value c but None row = absurd (null_names_none row.0)
       of_value c but (Some k) row =
           let named =
           names_it said c (λ j. with_slot a.world.heap m d (Some j)) (is_in a.world.phase Marking) n k marks row in
-          (named.0, leaves_fit (with_slot a.world.heap m d (Some n)) c decides named.1 but)
+          (named.0, leaves_but (with_slot a.world.heap m d (Some n)) c named.1 but)
+
+  -- so to one that fits
+  pub load_fits_as : (m d r i n : ℕ) → plain_refusal a (plain.Load m d r i) ≡ None
+      → DecidesAs p is_left (ticked (loaded_to a m d n))
+      → IsRowAs p s (plain_row (plain.Load m d r i) (replies.Object n)) t
+      → (field_in a.world.heap (slot_at a.world.heap m r) i ≡ Some n) × Fits (ticked (loaded_to a m d n)) is_left true t
+  load_fits_as m d r i n none decides h =
+      let but = load_but_as m d r i n none h in
+      (but.0, anew_fits_as p (ticked (loaded_to a m d n)) t is_left decides but.1)
 
   -- and each state that fits afterwards may follow each that fitted
   pub fits_loaded_as : (m d r i n : ℕ) → plain_refusal a (plain.Load m d r i) ≡ None
@@ -185,12 +195,12 @@ module _ (p : Profile) (a s t : State) (may_left may_none is_left : Bool) (marks
         twice.1,
       )))
 
-  -- a get leads each state that fits to one that fits
-  pub get_fits_as : (m d r n : ℕ) → plain_refusal a (plain.Get m d r) ≡ None
-      → DecidesAs p is_left (ticked (got_to a m d r n)) → IsRowAs p s (plain_row (plain.Get m d r) (replies.Object n)) t
+  -- a get leads each state that fits to one that says anew
+  pub get_but_as : (m d r n : ℕ) → plain_refusal a (plain.Get m d r) ≡ None
+      → IsRowAs p s (plain_row (plain.Get m d r) (replies.Object n)) t
       → (referent_got (reference_of a.world.heap (slot_at a.world.heap m r)) ≡ Some n)
-      × Fits (ticked (got_to a m d r n)) is_left true t
-  get_fits_as m d r n none decides h =
+      × IsButAs p (ticked (got_to a m d r n)) t
+  get_but_as m d r n none h =
       let get = plain.Get m d r in
       let reply = replies.Object n in
       let (c, row, but) =
@@ -200,12 +210,21 @@ module _ (p : Profile) (a s t : State) (may_left may_none is_left : Bool) (marks
       of_value c but (referent_got (reference_of a.world.heap (slot_at a.world.heap m r))) row
     where
       of_value : (c : State) → IsButAs p c t → (value : Option ℕ) → Gets said m d r value (replies.Object n) c
-          → (value ≡ Some n) × Fits (ticked (got_to a m d r n)) is_left true t
+          → (value ≡ Some n) × IsButAs p (ticked (got_to a m d r n)) t
       of_value c but None row = absurd (null_names_none row.0)
       of_value c but (Some k) row =
           let named =
           names_it said c (λ j. got a.world.heap m d r (Some j)) (is_in a.world.phase Marking) n k marks row in
-          (named.0, leaves_fit (got a.world.heap m d r (Some n)) c decides named.1 but)
+          (named.0, leaves_but (got a.world.heap m d r (Some n)) c named.1 but)
+
+  -- so to one that fits
+  pub get_fits_as : (m d r n : ℕ) → plain_refusal a (plain.Get m d r) ≡ None
+      → DecidesAs p is_left (ticked (got_to a m d r n)) → IsRowAs p s (plain_row (plain.Get m d r) (replies.Object n)) t
+      → (referent_got (reference_of a.world.heap (slot_at a.world.heap m r)) ≡ Some n)
+      × Fits (ticked (got_to a m d r n)) is_left true t
+  get_fits_as m d r n none decides h =
+      let but = get_but_as m d r n none h in
+      (but.0, anew_fits_as p (ticked (got_to a m d r n)) t is_left decides but.1)
 
   -- and each state that fits afterwards may follow each that fitted
   pub fits_got_as : (m d r n : ℕ) → plain_refusal a (plain.Get m d r) ≡ None

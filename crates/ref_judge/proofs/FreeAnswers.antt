@@ -20,7 +20,7 @@ use Rattle.ref_judge.proofs.UnchangedRows.{plain_accepted_as, clear_common}
 
 module _ (p : Profile) (a b : State) where
   -- the abstract collector answers so too
-  also_accepted : (anew : Bool) (step : PlainStep) (reply : Reply) → AcceptsAnew p anew a step reply b
+  pub also_accepted : (anew : Bool) (step : PlainStep) (reply : Reply) → AcceptsAnew p anew a step reply b
       → (c : State) × PlainAccepts a step reply c
   also_accepted true step reply row = (row.0, row.1)
   also_accepted false step reply row = (b, row)

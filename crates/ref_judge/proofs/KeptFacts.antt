@@ -46,7 +46,7 @@ member_some [] n h = absurd (false≢true h)
 member_some (m ∷ ns) n h = refl
 
 -- what is not so is false
-isnt : (b : Bool) → not b ≡ true → b ≡ false
+pub isnt : (b : Bool) → not b ≡ true → b ≡ false
 isnt true is = absurd (false≢true is)
 isnt false is = refl
 

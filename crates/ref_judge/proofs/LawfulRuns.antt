@@ -4,7 +4,7 @@ use Rattle.ref_base.proofs.RunLaws.{one_on, holds_after}
 use Rattle.ref_base.specs.declared.config.Config.{Config}
 use Rattle.ref_base.specs.declared.row.Row.{Row}
 use Rattle.ref_judge.specs.ProfiledRows.{IsRowAs}
-use Rattle.ref_judge.specs.LegalStates.{Lawful}
+use Rattle.ref_judge.specs.Standing.{Lawful}
 use Rattle.ref_judge.specs.declared.profile.Profile.{Profile}
 
 -- one row more

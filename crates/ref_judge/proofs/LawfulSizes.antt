@@ -10,7 +10,7 @@ use Rattle.ref_base.specs.declared.plain_step.PlainStep.TheVariants as plain
 use Rattle.ref_base.proofs.OutcomeParts.{heap_config, heap_number}
 use Rattle.ref_base.proofs.ReplayKeeps.{each_keeps}
 use Rattle.ref_base.proofs.RowChanges.{heap_tells, pending_after}
-use Rattle.ref_judge.specs.LegalStates.{Lawful}
+use Rattle.ref_judge.specs.Standing.{Lawful}
 use Rattle.ref_judge.specs.declared.profile.Profile.{Profile}
 use Rattle.ref_judge.proofs.LawfulRuns.{lawful_holds}
 use Rattle.ref_judge.proofs.LawfulStates.{lawful_turn}

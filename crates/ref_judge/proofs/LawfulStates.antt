@@ -12,7 +12,7 @@ use Rattle.ref_base.proofs.LegalMarks.{ListsAreWhole}
 use Rattle.ref_base.proofs.OneQueue.{next_heap}
 use Rattle.ref_base.proofs.SoundWorlds.{first_queue}
 use Rattle.ref_judge.specs.ProfiledRows.{IsRowAs}
-use Rattle.ref_judge.specs.LegalStates.{Lawful}
+use Rattle.ref_judge.specs.Standing.{Lawful}
 use Rattle.ref_judge.specs.declared.profile.Profile.{Profile}
 use Rattle.ref_judge.proofs.LawfulRuns.{lawful_holds}
 use Rattle.ref_judge.proofs.LiveNames.{LiveNames, live_turn, first_live}

@@ -11,12 +11,13 @@ use Rattle.ref_base.specs.Worlds.{object_of}
 use Rattle.ref_base.specs.declared.actor.Actor.{Actor}
 use Rattle.ref_base.specs.declared.actor.Actor.TheVariants.{Mutator, Worker}
 use Rattle.ref_base.specs.declared.config.Config.{Config}
-use Rattle.ref_judge.specs.LegalStates.{Lawful, AreOfOneQueue, IsRegistered, HasSizes}
-use Rattle.ref_judge.specs.LegalStates.{NamesLive, NumbersRise, ScannedRight, NoticesRight, Facts}
+use Rattle.ref_judge.specs.Standing.{Lawful}
 use Rattle.ref_judge.specs.declared.profile.Profile.{Profile}
 use Rattle.ref_base.proofs.ApartWorlds.{closed_roots}
 use Rattle.ref_base.proofs.Lookups.{is_there-has}
 use Rattle.ref_base.proofs.QueueLaws.{as_held}
+pub use Rattle.ref_judge.specs.LegalStates.{AreOfOneQueue, IsRegistered, IsRegisteredPending, HasSizes, NamesLive}
+pub use Rattle.ref_judge.specs.LegalStates.{NumbersRise, ScannedRight, NoticesRight, Facts}
 pub use Rattle.ref_judge.proofs.LawfulRuns.{lawful_row}
 use Rattle.ref_judge.proofs.LawfulSizes.{lawful_identity}
 use Rattle.ref_judge.proofs.LawfulStates.{lawful_right, lawful_live, lawful_lists, lawful_put}
@@ -96,6 +97,7 @@ module _ (p : Profile) (config : Config) (a : State) (lawful : Lawful p config a
         waiting = are.pendings;
         once = λ q. are_distinct (enqueued object_of (queue_at a.world q)) (right.once q);
         counted = right.counted;
+        below = right.sound.hands_below;
       }
     where
       held : AreRegistered a → (who : Actor) → AllByRecursion (IsRegistered a.world) (hand_of a.world who)

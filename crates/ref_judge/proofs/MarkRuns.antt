@@ -32,7 +32,7 @@ use Rattle.ref_base.proofs.PlainRows.{plain_row}
 use Rattle.ref_base.proofs.ReplayKeeps.{MakesNone, but_hands, handed_keeps, queues_keep, numbers_same}
 use Rattle.ref_base.proofs.RowForms.{ticked_world}
 use Rattle.ref_judge.specs.ProfiledRows.{IsRowAs, IsAnswerAs}
-use Rattle.ref_judge.specs.LegalStates.{Lawful}
+use Rattle.ref_judge.specs.Standing.{Lawful}
 use Rattle.ref_judge.specs.declared.profile.Profile.{Profile}
 use Rattle.ref_judge.proofs.LawfulRuns.{lawful_holds}
 use Rattle.ref_judge.proofs.LawfulStates.{lawful_live}
@@ -287,8 +287,9 @@ whole_off p a b step reply leaves passes h marks =
     of_refusal false is =
         off b.world.phase (lead_of a (heap.Plain step) reply).world.phase
         (ap (λ (s : State). s.world.phase) is
-        ∙ ap (λ (w : World). w.phase)
-        (handed_keeps (ticked (lead_of a (heap.Plain step) reply)).world (steps.Plain step) reply)
+        ∙ ap (λ (w : World). w.phase) (handed_keeps (ticked (lead_of a (heap.Plain step) reply)).world
+        (steps.Plain step)
+        reply)
         ∙ ap (λ (w : World). w.phase) (ticked_world (lead_of a (heap.Plain step) reply)))
         (leads_off a (heap.Plain step) reply leaves passes)
 

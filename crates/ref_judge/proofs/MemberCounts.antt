@@ -16,7 +16,7 @@ has-one_fewer [] n m other = refl
 has-one_fewer (k ∷ ms) n m other = grind (arith, has-one_fewer ms n m other)
 
 -- distinct numbers of a list are no more than the list has
-distinct_fit : (ns ms : List ℕ) → AreDistinct ns → ((n : ℕ) → has ns n ≡ true → has ms n ≡ true)
+pub distinct_fit : (ns ms : List ℕ) → AreDistinct ns → ((n : ℕ) → has ns n ≡ true → has ms n ≡ true)
     → length ns ≤ length ms
 distinct_fit [] ms distinct within = omega arith
 distinct_fit (n ∷ ns) ms distinct within = grind (arith, has-one_fewer, distinct_fit ns, length-one_fewer ms n)

@@ -17,7 +17,6 @@ use Rattle.ref_base.proofs.Fitting.{saying, with_scanned}
 use Rattle.ref_base.specs.declared.policy.Policy.{Policy}
 use Rattle.ref_base.specs.declared.phase.Phase.TheVariants.{Marking}
 use Rattle.ref_base.specs.declared.cause.Cause.TheVariants.{Own}
-use Rattle.ref_base.specs.declared.urgency.Urgency.TheVariants.{Normal}
 use Rattle.ref_base.specs.declared.heap_step.HeapStep.TheVariants as heap
 use Rattle.ref_base.specs.declared.plain_step.PlainStep.{PlainStep}
 use Rattle.ref_base.specs.declared.plain_step.PlainStep.TheVariants as plain
@@ -25,20 +24,9 @@ use Rattle.ref_base.specs.declared.reply.Reply.{Reply}
 use Rattle.ref_base.specs.declared.reply.Reply.TheVariants as replies
 use Rattle.ref_judge.specs.KeptBounds.{EverEnds, MayBeKept, may_keep}
 use Rattle.ref_judge.specs.ProfiledRows.{IsLeftAs, says_anew, AcceptsAnew, ScansAs, PlainAcceptsAs}
+pub use Rattle.ref_judge.specs.Policies.{soft_policy, policy_as, under}
 use Rattle.ref_judge.specs.declared.profile.Profile.{Profile}
 use Rattle.ref_judge.proofs.FittingRows.{ticked_as_said}
-
--- the policy under which each soft reference is kept
-abbrev pub soft_policy : Policy
-soft_policy = record { clock = 0; urgency = Normal; span = 0 }
-
--- the policy under which the abstract collector keeps what one of the profile may
-abbrev pub policy_as : Profile → Policy → Policy
-policy_as p policy = if p.soft_free then soft_policy else policy
-
--- the state under that policy, where it is said that no object is left
-abbrev pub under : Profile → State → State
-under p a = record a { world = record a.world { policy = policy_as p a.world.policy }; left = false }
 
 -- ---- what is kept
 

@@ -25,7 +25,7 @@ use Rattle.ref_base.proofs.Fitting.{with_scanned}
 use Rattle.ref_base.proofs.PlainRows.{plain_row, accepted_plain}
 use Rattle.ref_base.proofs.RowForms.{ticked_world}
 use Rattle.ref_judge.specs.ProfiledRows.{IsRowAs, IsAnswerAs, AcceptsAnew, PlainAcceptsAs, PollsAs, says_anew}
-use Rattle.ref_judge.specs.LegalStates.{Lawful}
+use Rattle.ref_judge.specs.Standing.{Lawful}
 use Rattle.ref_judge.specs.declared.profile.Profile.{Profile}
 use Rattle.ref_judge.proofs.LawfulRuns.{lawful_holds, lawful_row}
 use Rattle.ref_judge.proofs.LawfulStates.{lawful_right, lawful_live}

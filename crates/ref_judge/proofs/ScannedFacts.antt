@@ -15,8 +15,8 @@ use Rattle.ref_base.proofs.HasLaws.{has-left, has-right, has-cases, has-single}
 use Rattle.ref_base.proofs.OutcomeParts.{outcome_cycle, outcome_phase}
 use Rattle.ref_base.proofs.Outcomes.{IsNoEnd, outcome, heap_outcome}
 use Rattle.ref_base.proofs.PhaseLaws.{of_phase}
-use Rattle.ref_judge.specs.LegalStates.{is_going}
-use Rattle.ref_judge.specs.LegalStates.{Lawful}
+use Rattle.ref_judge.specs.Judged.{is_going}
+use Rattle.ref_judge.specs.Standing.{Lawful}
 use Rattle.ref_judge.specs.declared.profile.Profile.{Profile}
 use Rattle.ref_judge.proofs.LawfulRuns.{lawful_holds}
 use Rattle.ref_judge.proofs.LawfulStates.{lawful_turn}

@@ -18,7 +18,7 @@ use Rattle.ref_base.proofs.Outcomes.{IsNoEnd, outcome, heap_outcome}
 use Rattle.ref_base.proofs.PhaseLaws.{of_phase}
 use Rattle.ref_base.proofs.ReplayUnder.{made_number}
 use Rattle.ref_judge.specs.KeptBounds.{MayBeKept, may_keep}
-use Rattle.ref_judge.specs.LegalStates.{Lawful}
+use Rattle.ref_judge.specs.Standing.{Lawful}
 use Rattle.ref_judge.specs.declared.profile.Profile.{Profile}
 use Rattle.ref_judge.proofs.LawfulRuns.{lawful_holds}
 use Rattle.ref_judge.proofs.LawfulStates.{lawful_turn}

@@ -1,5 +1,5 @@
 -- What holds in each state that a collector of any profile comes to (this project's).
-use Rattle.std.specs.Prelude.{◌≡◌, ℕ, ◌<◌, ◌≤◌, Bool, true, false, ◌==◌, ◌||◌, List, [], ◌∷◌, length, Some}
+use Rattle.std.specs.Prelude.{◌≡◌, ℕ, ◌<◌, ◌≤◌, true, false, ◌==◌, List, [], ◌∷◌, length, Some}
 use Rattle.std.specs.List.{list_all, AllByRecursion}
 use Rattle.ref_base.specs.Members.{has, AreDistinct}
 use Rattle.ref_base.specs.Graphs.{is_there}
@@ -9,26 +9,11 @@ use Rattle.ref_base.specs.CountedHolds.{AreCounted}
 use Rattle.ref_base.specs.QueueLists.{enqueued}
 use Rattle.ref_base.specs.Worlds.{World, Notice, Pending, graph_of, object_of, hand_of, queue_at, pending_of}
 use Rattle.ref_base.specs.Refusals.{is_in}
-use Rattle.ref_base.specs.Collectors.{State, joined, first_state}
+use Rattle.ref_base.specs.Collectors.{State, joined}
 use Rattle.ref_base.specs.declared.actor.Actor.{Actor}
 use Rattle.ref_base.specs.declared.config.Config.{Config}
-use Rattle.ref_base.specs.declared.phase.Phase.{Phase}
-use Rattle.ref_base.specs.declared.phase.Phase.TheVariants.{Marking, Clearing, Sweeping}
-use Rattle.ref_base.specs.declared.row.Row.{Row}
-use Rattle.ref_judge.specs.ProfiledRows.{IsRunAs}
-use Rattle.ref_judge.specs.declared.profile.Profile.{Profile}
-
--- rows of a collector of the profile lead to the state
-abbrev pub Lawful : Profile → Config → State → Type 0
-Lawful p config a = (rows : List Row) × IsRunAs p (first_state config) rows a
-
--- whether a mark has ended, and its sweep hasn't
-abbrev pub is_behind_mark : Phase → Bool
-is_behind_mark phase = is_in phase Clearing || is_in phase Sweeping
-
--- whether a cycle has begun, and hasn't ended
-abbrev pub is_going : Phase → Bool
-is_going phase = is_in phase Marking || is_behind_mark phase
+use Rattle.ref_base.specs.declared.phase.Phase.TheVariants.{Marking}
+use Rattle.ref_judge.specs.Judged.{is_past_mark}
 
 -- the notices of a hand are all for one queue
 abbrev pub AreOfOneQueue : List Notice → Type 0
@@ -62,7 +47,7 @@ pub record NamesLive (a : State) : Type 0 where
       → has (targets_at any_referent a.world.heap.objects m) n ≡ true
       → (is_there a.world.heap.objects n ≡ true) × (has a.doomed n ≡ false)
   pub doomed_there : (n : ℕ) → has a.doomed n ≡ true → is_there a.world.heap.objects n ≡ true
-  pub none_doomed : is_behind_mark a.world.phase ≡ false → a.doomed ≡ []
+  pub none_doomed : is_past_mark a.world.phase ≡ false → a.doomed ≡ []
 
 -- numbers that were given are below the next
 pub record NumbersRise (a : State) : Type 0 where
@@ -89,6 +74,8 @@ pub record NoticesRight (a : State) : Type 0 where
   pub waiting : (k : ℕ) → AllByRecursion (IsRegisteredPending a.world) (pending_of a.world k)
   pub once : (q : ℕ) → AreDistinct (enqueued object_of (queue_at a.world q))
   pub counted : AreCounted a.world
+  pub below :
+      (who : Actor) → AllByRecursion (λ (x : Notice). x.queue < a.world.heap.config.queues) (hand_of a.world who)
 
 pub record Facts (config : Config) (a : State) : Type 0 where
   pub sizes : HasSizes config a

@@ -1,5 +1,15 @@
+pub mod Spreading
+pub mod LeftCounts
 pub mod KeptBounds
 pub mod ProfiledRows
 pub mod IdleRows
 pub mod Verdicts
+pub mod Policies
+pub mod Judged
+pub mod Standing
+pub mod MadeGrounds
+pub mod MarkEnding
+pub mod FreedGrounds
+pub mod Queueing
+pub mod Finding
 pub mod LegalStates

@@ -2,9 +2,23 @@
 //! which traces are legal then.
 #![tactic(auto)]
 
+mod hand;
+mod hands;
+mod judge;
 pub mod laws;
+mod line;
+mod marks;
 mod order;
 mod profile;
+mod roots;
+mod stop;
+mod survivors;
+mod sweeping;
+mod traces;
+mod worker;
 
+pub use judge::Judge;
 pub use order::Order;
 pub use profile::Profile;
+pub use stop::Stop;
+pub use traces::verdict;

@@ -1,0 +1,116 @@
+-- From rows that a judge took one by one to its verdict on the whole trace.
+use Rattle.ref_base.proofs.Common.{◌≡◌, ℕ, ◌+◌, ◌<◌, ◌≤◌, List, [], ◌∷◌, ◌++◌, length, take, drop, refl}
+use Rattle.ref_base.proofs.Common.{arith, sym, ◌∙◌, subst, State, first_state, zero, suc, slice_index_or}
+use Rattle.ref_base.specs.Runs.{LeadsThrough}
+use Rattle.ref_base.specs.declared.config.Config.{Config}
+use Rattle.ref_base.specs.declared.row.Row.{Row}
+use Rattle.ref_judge.specs.Judged.{Judged}
+use Rattle.ref_judge.specs.ProfiledRows.{IsRowAs, IsRunAs, IsLegalAs}
+use Rattle.ref_judge.specs.Standing.{Stands, FitsIt, LeadsOn, HasNone, IsFirst, Lawful, AreLawful, TellsOf, IsSettled}
+use Rattle.ref_judge.specs.declared.stop.Stop.{Stop}
+use Rattle.std.specs.Prelude.{Err}
+use Rattle.ref_judge.specs.declared.profile.Profile.{Profile}
+
+-- The judge took these rows: the states that fit what it was told are just those to which they lead.
+pub record HasTaken (p : Profile) (config : Config) (rows : List Row) (j : Judged) : Type 0 where
+  pub profile : j.profile ≡ p
+  pub config_is : j.config ≡ config
+  pub settled : IsSettled j
+  pub state : State
+  pub stands : Stands j state
+  pub on : (b : State) → IsRunAs p (first_state config) rows b → FitsIt j state b
+  pub back : (b : State) → FitsIt j state b → IsRunAs p (first_state config) rows b
+
+-- one row more behind others
+pub run_behind : {S E : Type 0} (leads : S → E → S → Type 0) (x y z : S) (es : List E) (e : E)
+    → LeadsThrough leads x es y → leads y e z → LeadsThrough leads x (es ++ e ∷ []) z
+run_behind leads x y z [] e run row = (z, subst (λ u. leads u e z) run row, refl)
+run_behind leads x y z (first ∷ es) e run row =
+    (run.0, run.1, run_behind leads run.0 y z es e run.2 row)
+
+pub run_apart : {S E : Type 0} (leads : S → E → S → Type 0) (x z : S) (es : List E) (e : E)
+    → LeadsThrough leads x (es ++ e ∷ []) z → (y : S) × LeadsThrough leads x es y × leads y e z
+run_apart leads x z [] e run = (x, refl, subst (λ u. leads x e u) (sym run.2) run.1)
+run_apart leads x z (first ∷ es) e run =
+    let rest = run_apart leads run.0 z es e run.2 in (rest.0, (run.0, run.1, rest.1), rest.2)
+
+-- a new judge took none
+pub taken_first : (p : Profile) (config : Config) (j : Judged) → IsFirst p config j → HasTaken p config [] j
+taken_first p config j first = record {
+  profile = first.profile_is;
+  config_is = first.config_is;
+  settled = first.settled;
+  state = first_state config;
+  stands = first.stands;
+  on = λ b is. subst (λ (s : State). FitsIt j (first_state config) s) (sym is) first.fits;
+  back = λ b fits. first.alone b fits;
+}
+
+module _ (p : Profile) (config : Config) (rows : List Row) (old : Judged) (taken : HasTaken p config rows old) where
+  -- rows lead to each state that fits
+  pub taken_lawful : AreLawful old taken.state
+  taken_lawful s fits =
+      subst (λ (q : Profile). Lawful q old.config s) (sym taken.profile)
+      (subst (λ (k : Config). Lawful p k s) (sym taken.config_is) (rows, taken.back s fits))
+
+  -- the rows so far are a legal trace where some state fits
+  pub taken_legal : (s : State) × FitsIt old taken.state s → IsLegalAs p config rows
+  taken_legal some = (some.0, taken.back some.0 some.1)
+
+module _ (p : Profile) (config : Config) (rows : List Row) (old : Judged) (taken : HasTaken p config rows old)
+    (row : Row)
+  where
+    -- and one more
+    pub taken_more : (new : Judged) → IsSettled new → new.profile ≡ old.profile → new.config ≡ old.config
+        → LeadsOn old new row taken.state → HasTaken p config (rows ++ row ∷ []) new
+    taken_more new settled profile config_is leads = record {
+      profile = profile ∙ taken.profile;
+      config_is = config_is ∙ taken.config_is;
+      settled = settled;
+      state = leads.state;
+      stands = leads.stands;
+      on = λ b run.
+          let (s, before, last) = run_apart (IsRowAs p) (first_state config) b rows row run in
+          leads.on s b (taken.on s before) (subst (λ (q : Profile). IsRowAs q s row b) (sym taken.profile) last);
+      back = λ b fits.
+          let (s, before, last) = leads.back b fits in
+          run_behind (IsRowAs p) (first_state config) s b rows row (taken.back s before)
+          (subst (λ (q : Profile). IsRowAs q s row b) taken.profile last);
+    }
+
+    -- a row that no state that fits has makes them illegal
+    pub taken_none : HasNone old row taken.state → IsLegalAs p config (rows ++ row ∷ []) → ⊥
+    taken_none none legal =
+        let (s, before, last) = run_apart (IsRowAs p) (first_state config) legal.0 rows row legal.1 in
+        none s legal.0 (taken.on s before) (subst (λ (q : Profile). IsRowAs q s row legal.0) (sym taken.profile) last)
+
+-- ---- the rows in front of one
+
+pub row_at : (rows : List Row) (place : ℕ) (row : Row) → place < length rows → slice_index_or rows place row ≡ row
+    → take (place + 1) rows ≡ take place rows ++ row ∷ []
+row_at [] place row within is = absurd (omega arith)
+row_at (first ∷ rows) zero row within is = grind arith
+row_at (first ∷ rows) (suc place) row within is = grind (arith, row_at rows place row)
+
+pub row_between : (rows : List Row) (place : ℕ) (row : Row) → place < length rows → slice_index_or rows place row ≡ row
+    → rows ≡ take place rows ++ row ∷ drop (place + 1) rows
+row_between [] place row within is = absurd (omega arith)
+row_between (first ∷ rows) zero row within is = grind arith
+row_between (first ∷ rows) (suc place) row within is = grind (arith, row_between rows place row)
+
+pub length_front : (rows : List Row) (place : ℕ) → place < length rows → length (take place rows) ≡ place
+length_front [] place within = absurd (omega arith)
+length_front (first ∷ rows) zero within = grind arith
+length_front (first ∷ rows) (suc place) within = grind (arith, length_front rows place)
+
+pub all_taken : (rows : List Row) (place : ℕ) → length rows ≤ place → take place rows ≡ rows
+all_taken [] zero out = grind arith
+all_taken [] (suc place) out = grind arith
+all_taken (first ∷ rows) zero out = absurd (omega arith)
+all_taken (first ∷ rows) (suc place) out = grind (arith, all_taken rows place)
+
+-- what is told of an illegal row
+pub told_illegal : (old new : Judged) (row : Row) (stop : Stop) → stop ≡ Stop.Illegal
+    → TellsOf old row (Err stop) new → (a : State) → Stands old a → HasNone old row a
+told_illegal old new row Stop.Illegal is tells = tells
+told_illegal old new row Stop.NoMemory is tells = absurd cc

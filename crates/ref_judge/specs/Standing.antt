@@ -1,0 +1,202 @@
+-- Which states of a collector fit what a judge was told, and what a judge makes of a row (this project's).
+use Rattle.std.specs.Prelude.{◌≡◌, ℕ, ◌<◌, ◌≤◌, Bool, true, false, not, ◌==◌, ◌||◌, List, [], length, map}
+use Rattle.std.specs.Prelude.{Some, if◌then◌else◌, Result, Ok, Err}
+use Rattle.ref_base.specs.Members.{has}
+use Rattle.ref_base.specs.Graphs.{is_there}
+use Rattle.ref_base.specs.Forgetting.{heap_but}
+use Rattle.ref_base.specs.Heaps.{reference_at, registered_in}
+use Rattle.ref_base.specs.QueueLists.{enqueued}
+use Rattle.ref_base.specs.Worlds.{object_of, queue_at}
+use Rattle.ref_base.specs.Refusals.{is_in}
+use Rattle.ref_base.specs.Collectors.{State, joined, first_state}
+use Rattle.ref_base.specs.declared.config.Config.{Config}
+use Rattle.ref_base.specs.declared.fault.Fault.{Fault}
+use Rattle.ref_base.specs.declared.phase.Phase.TheVariants.{Marking, Clearing}
+use Rattle.ref_base.specs.declared.reply.Reply.{Reply}
+use Rattle.ref_base.specs.declared.reply.Reply.TheVariants.{Refused}
+use Rattle.ref_base.specs.declared.row.Row.{Row}
+use Rattle.ref_base.specs.declared.step.Step.{Step}
+use Rattle.ref_base.specs.declared.step.Step.TheVariants.{Plain}
+use Rattle.ref_space.specs.declared.colour.Colour.TheVariants.{A, B}
+use Rattle.ref_objects.specs.Grounds.{cleared_in_at}
+use Rattle.ref_objects.specs.declared.stage.Stage.TheVariants.{Tuned}
+use Rattle.ref_base.proofs.EverWorlds.{Knows}
+use Rattle.ref_judge.specs.ProfiledRows.{IsRowAs, IsRunAs, IsLeftAs, says_anew}
+use Rattle.ref_judge.specs.Judged.{Judged, Finder, finder_at, found_by, left_of, is_past_mark, is_judging, is_going}
+use Rattle.ref_judge.specs.Judged.{is_put, unheld, AreHands, AreLines, AreToldCleared}
+use Rattle.ref_judge.specs.declared.profile.Profile.{Profile}
+use Rattle.ref_judge.specs.declared.stop.Stop.{Stop}
+use Rattle.ref_base.proofs.Fitting.{Fits}
+use Rattle.ref_base.proofs.FoundRows.{FitsFound}
+use Rattle.ref_base.proofs.MarkEndRows.{refs_of}
+use Rattle.ref_judge.specs.Policies.{under}
+
+-- rows of a collector of the profile lead to the state
+abbrev pub Lawful : Profile → Config → State → Type 0
+Lawful p config a = (rows : List Row) × IsRunAs p (first_state config) rows a
+
+-- ---- what a judge's value says of a state
+
+-- in a mark, where the collector keeps no more, just those are marked that may be kept
+abbrev pub KnowsKept : Judged → State → Type 0
+KnowsKept j a =
+    is_in j.phase Marking ≡ true → j.profile.keeps_more ≡ false
+    → Knows (λ n. has j.ground.marked n ≡ true) (under j.profile a)
+
+-- from a mark's end on, just those aren't marked that it doomed
+abbrev pub MarksLive : Judged → State → Type 0
+MarksLive j a =
+    is_past_mark j.phase ≡ true → (n : ℕ) → is_there a.world.heap.objects n ≡ true
+    → has j.ground.marked n ≡ not (has a.doomed n)
+
+-- each object has in its tag the last cycle that scanned it, none of which is to come
+pub record TagsTell (j : Judged) (a : State) : Type 0 where
+  pub old : (n : ℕ) → cleared_in_at j.ground.tags n ≤ j.cycle
+  pub scanned :
+      is_judging j.phase ≡ true → (n : ℕ) → is_there a.world.heap.objects n ≡ true
+      → (cleared_in_at j.ground.tags n == j.cycle) ≡ has (joined a.scanned) n
+  pub put :
+      (n q : ℕ) → registered_in (reference_at a.world.heap n) ≡ Some q
+      → is_put j.ground.tags n ≡ has (enqueued object_of (queue_at a.world q)) n
+
+-- each worker has its references, and what the mark's end cleared among them
+pub record FindersTell (j : Judged) (a : State) : Type 0 where
+  pub pending : map (λ (w : Finder). w.pending) j.workers ≡ a.world.pending
+  pub within : (k : ℕ) → (finder_at j k).at ≤ length (finder_at j k).found
+  pub found : is_judging j.phase ≡ true → (k : ℕ) → found_by j k ≡ refs_of a k
+  pub cleared : is_in j.phase Clearing ≡ true → (k : ℕ) → AreToldCleared a.cleared (finder_at j k).found
+
+-- The judge's value is of this state, whatever is free in it: some rows lead to it, and each part of it that isn't
+-- free or past is the judge's.
+pub record Stands (j : Judged) (a : State) : Type 0 where
+  pub lawful : Lawful j.profile j.config a
+  pub heap : j.ground.heap ≡ heap_but a.doomed (unheld a.world.heap)
+  pub next : j.ground.next ≡ a.next
+  pub holds : j.holds ≡ length a.world.heap.holds
+  pub mutator_hands : AreHands j.hands.mutators a.world.mutator_hands
+  pub worker_hands : AreHands j.hands.workers a.world.worker_hands
+  pub lines : AreLines j.lines a.world.queues
+  pub phase : j.phase ≡ a.world.phase
+  pub cycle : j.cycle ≡ a.world.cycle
+  pub policy : j.policy ≡ a.world.policy
+  pub born : j.born ≡ a.born
+  pub count : is_in j.phase Marking ≡ true → j.scanned ≡ length (joined a.scanned)
+  pub chosen : j.was_chosen ≡ a.moved
+  pub doomed : j.doomed.stands ≡ a.doomed
+  pub kept : KnowsKept j a
+  pub live : MarksLive j a
+  pub tags : TagsTell j a
+  pub finders : FindersTell j a
+
+-- what holds of a judge's value between rows: nothing is grey, lists have room, no object moves, the colours of its two
+-- rounds of marks take turns, in a mark it may be said that an object is left, or that none is, and in clearing a
+-- worker
+-- has a reference left where it was said that one has
+pub record IsSettled (j : Judged) : Type 0 where
+  pub none_grey : j.grey.stands ≡ []
+  pub grey_room : j.grey.room ≡ j.config.cells
+  pub doomed_room : j.doomed.room ≡ j.config.cells
+  pub config : j.ground.heap.config ≡ j.config
+  pub none_to_move : j.ground.space.still_to_move ≡ []
+  pub none_chosen : j.ground.space.has_choice ≡ false
+  pub tuned : is_going j.phase ≡ true → j.ground.space.stage ≡ Tuned
+  pub colour : j.ground.space.last ≡ (if is_in j.phase Marking then A else B)
+  pub condemning : j.ground.condemning ≡ is_past_mark j.phase
+  pub may : is_in j.phase Marking ≡ true → (j.may_be_left || j.may_be_none) ≡ true
+  pub waits :
+      is_in j.phase Clearing ≡ true → j.some_left ≡ true
+      → (k : ℕ) × ((finder_at j k).at < length (finder_at j k).found)
+
+-- ---- what is free
+
+-- the states that fit: in a mark they differ in whether it is said that an object is left, in clearing in what workers
+-- found, and else in nothing
+abbrev pub FitsIn : Bool → Bool → Judged → State → State → Type 0
+FitsIn true clears j a b = Fits a j.may_be_left j.may_be_none b
+FitsIn false true j a b = FitsFound a (left_of j) j.some_left b
+FitsIn false false j a b = b ≡ a
+
+abbrev pub FitsIt : Judged → State → State → Type 0
+FitsIt j a b = FitsIn (is_in j.phase Marking) (is_in j.phase Clearing) j a b
+
+-- rows lead to each state that fits
+abbrev pub AreLawful : Judged → State → Type 0
+AreLawful j a = (s : State) → FitsIt j a s → Lawful j.profile j.config s
+
+-- a judge's value between rows is of some state
+pub record IsSound (j : Judged) : Type 0 where
+  pub settled : IsSettled j
+  pub state : State
+  pub stands : Stands j state
+  pub fits : AreLawful j state
+
+-- ---- rows
+
+abbrev pub answered : Result Reply Fault → Reply
+answered (Ok reply) = reply
+answered (Err fault) = Refused fault
+
+-- the bit tells whether an object is left
+abbrev pub DecidesAs : Profile → Bool → State → Type 0
+DecidesAs p is_left a = (is_left ≡ true → (n : ℕ) × IsLeftAs p a n) × ((n : ℕ) → IsLeftAs p a n → is_left ≡ true)
+
+-- whether the step, so answered, says anew whether an object is left
+abbrev pub is_anew : State → Step → Result Reply Fault → Bool
+is_anew a (Plain step) (Ok (Refused fault)) = false
+is_anew a (Plain step) (Ok reply) = says_anew a step reply
+is_anew a step result = false
+
+-- what is said of what is free is the same
+pub record SaysTheSame (old new : Judged) : Type 0 where
+  pub left : new.may_be_left ≡ old.may_be_left
+  pub none : new.may_be_none ≡ old.may_be_none
+  pub some : new.some_left ≡ old.some_left
+  pub finders : (k : ℕ) → left_of new k ≡ left_of old k
+
+-- or it is told anew, and rightly, whether an object is left
+abbrev pub SaysRightly : Bool → Judged → Judged → State → Type 0
+SaysRightly true old new b = (new.may_be_none ≡ true) × DecidesAs old.profile new.may_be_left b
+SaysRightly false old new b = SaysTheSame old new
+
+-- The step, accepted or refused as the result says, leads from each state of the judge's value to one of the new value,
+-- and what is said of what is free stays, or is told anew.
+pub record Leads (old : Judged) (step : Step) (result : Result Reply Fault) (new : Judged) (a : State) : Type 0 where
+  pub state : State
+  pub row : IsRowAs old.profile a (record { step = step; reply = answered result }) state
+  pub stands : Stands new state
+  pub says : SaysRightly (is_anew a step result) old new state
+
+abbrev pub DoesAs : Judged → Step → Result Reply Fault → Judged → Type 0
+DoesAs old step result new =
+    (new.profile ≡ old.profile) × (new.config ≡ old.config) × ((a : State) → Stands old a → Leads old step result new a)
+
+-- the states that fit after a row are just those to which it leads from states that fitted before
+pub record LeadsOn (old new : Judged) (row : Row) (a : State) : Type 0 where
+  pub state : State
+  pub stands : Stands new state
+  pub on : (s t : State) → FitsIt old a s → IsRowAs old.profile s row t → FitsIt new state t
+  pub back : (t : State) → FitsIt new state t → (s : State) × FitsIt old a s × IsRowAs old.profile s row t
+
+-- no state that fits has the row
+abbrev pub HasNone : Judged → Row → State → Type 0
+HasNone old row a = (s t : State) → FitsIt old a s → IsRowAs old.profile s row t → ⊥
+
+-- a judge takes the row where a state that fits has it, and stops where none has: unless memory is refused, which says
+-- nothing of the row
+abbrev pub TellsOf : Judged → Row → Result (Unit {0}) Stop → Judged → Type 0
+TellsOf old row (Ok done) new =
+    (new.profile ≡ old.profile) × (new.config ≡ old.config)
+    × ((a : State) → Stands old a → AreLawful old a → LeadsOn old new row a)
+TellsOf old row (Err Stop.Illegal) new = (a : State) → Stands old a → HasNone old row a
+TellsOf old row (Err Stop.NoMemory) new = Unit {0}
+
+-- ---- at first
+
+-- a new judge is of the first state, which alone fits
+pub record IsFirst (profile : Profile) (config : Config) (j : Judged) : Type 0 where
+  pub profile_is : j.profile ≡ profile
+  pub config_is : j.config ≡ config
+  pub stands : Stands j (first_state config)
+  pub alone : (b : State) → FitsIt j (first_state config) b → b ≡ first_state config
+  pub fits : FitsIt j (first_state config) (first_state config)
+  pub settled : IsSettled j

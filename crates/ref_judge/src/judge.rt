@@ -1,0 +1,342 @@
+//! The judge of a trace: all states of a collector that fit its rows so far.
+
+ghost use Rattle.std.specs.Prelude.{◌≡◌, true, if◌then◌else◌, Ok, Err, MatchResult, IfOk, replicate};
+ghost use Rattle.ref_base.specs.Limits.{is_within_limits};
+ghost use Rattle.ref_objects.specs.Grounds.{first_ground};
+ghost use Rattle.ref_judge.specs.Judged.{has_one_answer, first_judged, no_finder, no_line};
+ghost use Rattle.ref_judge.specs.Standing.{DoesAs, TellsOf, IsFirst, answered};
+
+mod clearing;
+mod marking;
+mod moving;
+mod mutating;
+mod queueing;
+
+use crate::hands::Hands;
+use crate::line::Line;
+use crate::worker::Worker;
+use crate::{Profile, Stop};
+use ref_base::{Config, Fault, Phase, PlainStep, Policy, Reply, Row, Step, Urgency};
+use ref_objects::{Objects, Worklist};
+use std::alloc::{AllocError, Allocator, Global};
+use std::marker::Model;
+
+/// The judge of a trace, row by row.
+///
+/// What a collector is free in is whether it says that an object is left to scan, and which references its workers
+/// found. All else its rows tell, so that all states that fit are described by one value.
+#[derive(Drop)]
+pub struct Judge<A: Allocator = Global> {
+    config: Config,
+    profile: Profile,
+    // The objects, and what the slots hold. In a mark those are marked that may be kept.
+    objects: Objects<A>,
+    // How many holds are out: each is a notice in a hand or in a queue.
+    holds: u64,
+    hands: Hands<A>,
+    lines: Vec<Line<A>, A>,
+    workers: Vec<Worker<A>, A>,
+    phase: Phase,
+    cycle: u64,
+    policy: Policy,
+    // The number of the next object as the cycle began.
+    born: u64,
+    // How many objects the cycle scanned.
+    scanned: u32,
+    // Whether it may be said that an object is left to scan, and that none is.
+    may_be_left: bool,
+    may_be_none: bool,
+    // Whether it was said that a reference is left to look at, and none was looked at since.
+    some_left: bool,
+    // Whether objects were chosen to move since a cycle ended.
+    was_chosen: bool,
+    // What kept paths lead to and wasn't followed yet: empty between rows.
+    grey: Worklist<A>,
+    // What the last mark doomed and no sweep freed, in order.
+    doomed: Worklist<A>,
+}
+
+impl<A: Allocator> Model for Judge<A> {
+    ghost use Rattle.ref_judge.specs.Judged.{Judged};
+    ghost use Rattle.ref_judge.specs.Standing.{IsSound};
+
+    ghost Value = { Judged };
+
+    ghost view = { λ j. record {
+      config = j.config;
+      profile = j.profile;
+      ground = j.objects;
+      holds = j.holds;
+      hands = j.hands;
+      lines = j.lines.items;
+      workers = j.workers.items;
+      phase = j.phase;
+      cycle = j.cycle;
+      policy = j.policy;
+      born = j.born;
+      scanned = j.scanned;
+      may_be_left = j.may_be_left;
+      may_be_none = j.may_be_none;
+      some_left = j.some_left;
+      was_chosen = j.was_chosen;
+      grey = j.grey;
+      doomed = j.doomed;
+    } };
+
+    ghost invariant = { λ j. IsSound (record {
+      config = j.config;
+      profile = j.profile;
+      ground = j.objects;
+      holds = j.holds;
+      hands = j.hands;
+      lines = j.lines.items;
+      workers = j.workers.items;
+      phase = j.phase;
+      cycle = j.cycle;
+      policy = j.policy;
+      born = j.born;
+      scanned = j.scanned;
+      may_be_left = j.may_be_left;
+      may_be_none = j.may_be_none;
+      some_left = j.some_left;
+      was_chosen = j.was_chosen;
+      grey = j.grey;
+      doomed = j.doomed;
+    }) };
+}
+
+impl<A: Allocator + Copy> Judge<A> {
+    /// A judge of a trace that begins with no object, of a collector with this configuration and profile. The errors
+    /// are `BadConfig` and `NoMemory`.
+    pub fn new(alloc: A, config: Config, profile: Profile) -> Result<Self, Fault>
+        ensures refused { MatchResult result (λ _. is_within_limits config ≡ true)
+            (λ fault. fault ≡ (if is_within_limits config then Fault.NoMemory else Fault.BadConfig)) }
+        ensures stands { IfOk result (λ judge. IsFirst profile config judge) }
+    {
+        let objects = Objects::new(alloc, config, 0)?;
+        match with_objects(alloc, config, profile, objects) {
+            Ok(judge) => Ok(judge),
+            Err(_) => Err(Fault::NoMemory),
+        }
+    }
+
+    /// Judges the next row.
+    pub fn row(&mut self, row: Row) -> Result<(), Stop>
+        ensures { TellsOf self.old row result self.new }
+    {
+        // Gives the proof that the judge's value is of some state.
+        let _ = &self.config;
+        let Row { step, reply } = row;
+        match step {
+            Step::Plain(step) => self.plain_row(step, reply),
+            Step::Unhook { mutator, reference } => {
+                let answer = self.unhook(mutator, reference);
+                is_answered(answer, reply)
+            }
+            Step::Hand { worker } => {
+                let answer = self.hand(worker);
+                is_answered(answer, reply)
+            }
+            Step::Hands { worker, max } => {
+                let answer = self.hands(worker, max);
+                is_answered(answer, reply)
+            }
+            Step::Put { actor } => self.put(actor, reply),
+            Step::Puts { actor } => self.puts(actor, reply),
+            Step::Poll { mutator, queue } => self.poll(mutator, queue, reply),
+            Step::Polls {
+                mutator,
+                queue,
+                max,
+            } => self.polls(mutator, queue, max, reply),
+            Step::Adopt { mutator, slot } => {
+                let answer = self.adopt(mutator, slot);
+                is_answered(answer, reply)
+            }
+            Step::Release { actor } => {
+                let answer = self.release(actor);
+                is_answered(answer, reply)
+            }
+            Step::Close { mutator, queue } => {
+                let answer = self.close(mutator, queue);
+                is_answered(answer, reply)
+            }
+        }
+    }
+
+    // Judges a row of a step that hands nothing over.
+    fn plain_row(&mut self, step: PlainStep, reply: Reply) -> Result<(), Stop>
+        ensures { TellsOf self.old (record { step = Step.Plain step; reply = reply }) result self.new }
+    {
+        // Gives the proof that the judge's value is of some state.
+        let _ = &self.config;
+        match step {
+            PlainStep::Scan { worker } => self.scan(worker, reply),
+            PlainStep::EndMark => self.end_mark(reply),
+            PlainStep::ClearNext { worker } => self.clear_next(worker, reply),
+            PlainStep::EndClear => self.end_clear(reply),
+            PlainStep::Select => self.select(reply),
+            PlainStep::MoveNext { worker } => self.move_next(worker, reply),
+            PlainStep::EndMove => self.end_move(reply),
+            step => {
+                let answer = self.answer(step);
+                is_answered(answer, reply)
+            }
+        }
+    }
+
+    // The one answer of a step that has one.
+    fn answer(&mut self, step: PlainStep) -> Result<Reply, Fault>
+        requires { has_one_answer step ≡ true }
+        ensures { DoesAs self.old (Step.Plain step) result self.new }
+    {
+        match step {
+            PlainStep::New {
+                mutator,
+                slot,
+                fields,
+            } => self.make(mutator, slot, fields),
+            PlainStep::Refer {
+                mutator,
+                strength,
+                slot,
+                source,
+                queue,
+                fields,
+            } => self.refer(mutator, strength, slot, source, queue, fields),
+            PlainStep::Store {
+                mutator,
+                object,
+                field,
+                value,
+            } => self.store(mutator, object, field, value),
+            PlainStep::Load {
+                mutator,
+                slot,
+                object,
+                field,
+            } => self.load(mutator, slot, object, field),
+            PlainStep::Copy {
+                mutator,
+                slot,
+                source,
+            } => self.copy(mutator, slot, source),
+            PlainStep::Drop { mutator, slot } => self.drop_slot(mutator, slot),
+            PlainStep::Get {
+                mutator,
+                slot,
+                reference,
+            } => self.get(mutator, slot, reference),
+            PlainStep::Clear { mutator, reference } => self.clear(mutator, reference),
+            PlainStep::RefersTo {
+                mutator,
+                reference,
+                other,
+            } => self.refers_to(mutator, reference, other),
+            PlainStep::Begin { now, urgency } => self.begin(now, urgency),
+            PlainStep::Sweep { worker } => self.sweep(worker),
+            PlainStep::EndSweep => self.end_sweep(),
+            _ => unreachable!(),
+        }
+    }
+}
+
+// A judge that was told no row, over these objects, which were just made. The one error is `NoMemory`.
+fn with_objects<A: Allocator + Copy>(
+    alloc: A,
+    config: Config,
+    profile: Profile,
+    objects: Objects<A>,
+) -> Result<Judge<A>, AllocError>
+    requires { objects ≡ first_ground config 0 (record { obj = 1; cycle = 0; page = 1 }) }
+    ensures { IfOk result (λ judge. judge ≡ first_judged profile config objects) }
+{
+    let hands = Hands::new(alloc, config)?;
+    let workers = first_workers(alloc, config.workers)?;
+    let lines = first_lines(alloc, config.queues)?;
+    let grey = Worklist::new(alloc, config.cells as usize)?;
+    let doomed = Worklist::new(alloc, config.cells as usize)?;
+    let policy = Policy {
+        clock: 0,
+        urgency: Urgency::Normal,
+        span: config.span,
+    };
+    Ok(Judge {
+        config,
+        profile,
+        objects,
+        holds: 0,
+        hands,
+        lines,
+        workers,
+        phase: Phase::Idle,
+        cycle: 0,
+        policy,
+        born: 1,
+        scanned: 0,
+        may_be_left: false,
+        may_be_none: true,
+        some_left: false,
+        was_chosen: false,
+        grey,
+        doomed,
+    })
+}
+
+// So many workers that have found and cleared nothing.
+fn first_workers<A: Allocator + Copy>(alloc: A, count: u32) -> Result<Vec<Worker<A>, A>, AllocError>
+    ensures { IfOk result (λ workers. workers.items ≡ replicate count no_finder) }
+{
+    let mut workers = Vec::with_capacity(alloc, count as usize)?;
+    for _worker in 0..count {
+        workers.push_reserved(Worker::new(alloc));
+    }
+    Ok(workers)
+}
+
+// So many open queues into which nothing was put.
+fn first_lines<A: Allocator + Copy>(alloc: A, count: u32) -> Result<Vec<Line<A>, A>, AllocError>
+    ensures { IfOk result (λ lines. lines.items ≡ replicate count no_line) }
+{
+    let mut lines = Vec::with_capacity(alloc, count as usize)?;
+    for _queue in 0..count {
+        lines.push_reserved(Line::new(alloc));
+    }
+    Ok(lines)
+}
+
+// Whether a step with this one answer is answered so.
+fn is_answered(answer: Result<Reply, Fault>, reply: Reply) -> Result<(), Stop>
+    ensures { MatchResult result (λ _. answered answer ≡ reply)
+        (λ stop. (stop ≡ Stop.Illegal) × (answered answer ≡ reply → ⊥)) }
+{
+    match answer {
+        Ok(told) => is_legal(told == reply),
+        Err(fault) => is_refused(fault, reply),
+    }
+}
+
+// The reply of a step that is accepted or refused so.
+fn answered(answer: Result<Reply, Fault>) -> Reply
+    ensures { result ≡ answered answer }
+{
+    match answer {
+        Ok(reply) => reply,
+        Err(fault) => Reply::Refused(fault),
+    }
+}
+
+// A row is legal, or it isn't.
+fn is_legal(legal: bool) -> Result<(), Stop>
+    ensures { result ≡ (if legal then Ok tt else Err Stop.Illegal) }
+{
+    if legal { Ok(()) } else { Err(Stop::Illegal) }
+}
+
+// Whether a step is refused with this fault, and answered so.
+fn is_refused(fault: Fault, reply: Reply) -> Result<(), Stop>
+    ensures { MatchResult result (λ _. Reply.Refused fault ≡ reply)
+        (λ stop. (stop ≡ Stop.Illegal) × (Reply.Refused fault ≡ reply → ⊥)) }
+{
+    is_legal(reply == Reply::Refused(fault))
+}
