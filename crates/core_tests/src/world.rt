@@ -3,6 +3,7 @@
 mod asks;
 mod batches;
 mod heap_steps;
+mod judged;
 mod memory;
 mod random;
 mod rounds;
@@ -79,6 +80,7 @@ fn runs_as(
         Ok(Trace { rows, world }) => {
             world.end();
             are_rows(rt, &rows, story);
+            judged::are_legal(rt, alloc, config, &rows)?;
         }
         Err((fault, world, _steps)) => {
             world.end();

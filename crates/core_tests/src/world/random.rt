@@ -3,8 +3,9 @@
 mod draws;
 mod ways;
 
+use super::judged::Judges;
 use draws::Draws;
-use ref_base::{Config, SpanRule, Step};
+use ref_base::{Config, Row, SpanRule, Step};
 use ref_objects::Start;
 use ref_world::World;
 use std::alloc::Global;
@@ -127,7 +128,8 @@ const STEPS: u32 = 1_200;
 
 const LATE_STEPS: u32 = 1_000;
 
-/// Does so many steps in each world of this size, whose numbers begin so, and counts how they are answered.
+/// Does so many steps in each world of this size, whose numbers begin so, and counts how they are answered. Judges take
+/// each row of a world whose numbers begin with the first.
 fn do_worlds(
     rt: &impl Abort,
     alloc: Global,
@@ -137,6 +139,7 @@ fn do_worlds(
 ) -> Result<(), Fail> {
     let mut draws = Draws::new(config, seed);
     for nth in 0..WORLDS {
+        let mut judges = Judges::new(alloc, config)?;
         let mut world = World::starting(alloc, config, start)?;
         for place in 0..steps {
             let step = draws.step();
@@ -147,6 +150,10 @@ fn do_worlds(
                 "seed {seed}, world {nth}, {place}: {step} : {reply}"
             );
             count(counts, step, way);
+            assert!(rt;
+                start != Start::FIRST || judges.take(Row { step, reply }),
+                "judged: seed {seed}, world {nth}, {place}: {step} : {reply}"
+            );
         }
         world.end();
     }
