@@ -1,6 +1,5 @@
 -- What a judge makes of a row whose step has one answer: with that answer the row leads the states that fit on, and
--- with
--- another no state that fits has it.
+-- with another no state that fits has it.
 use Rattle.ref_base.proofs.Common.{◌≡◌, ℕ, Bool, true, false, ◌&&◌, ◌||◌, List, [], ◌∷◌, Option, Some, None, refl}
 use Rattle.ref_base.proofs.Common.{sym, ap, ◌∙◌, subst, inl, inr, ◌⊎◌, cases_Bool, State, World, Notice, NamedStep}
 use Rattle.ref_base.proofs.Common.{is_in}
@@ -32,9 +31,9 @@ use Rattle.ref_base.proofs.ReplayKeeps.{handed_keeps, queues_keep, EndsNoPhase}
 use Rattle.ref_base.proofs.RowForms.{ticked_world}
 use Rattle.ref_judge.specs.Judged.{Judged}
 use Rattle.ref_judge.specs.ProfiledRows.{IsRowAs, IsAnswerAs, says_anew}
-use Rattle.ref_judge.specs.Standing.{Stands, IsSettled, FitsIn, FitsIt, LeadsOn, HasNone, DoesAs, TellsOf, Leads}
+use Rattle.ref_judge.specs.Standing.{StandsFor, IsSettled, FitsIn, FitsIt, LeadsOn, HasNone, DoesAs, TellsOf, LeadsOne}
 use Rattle.ref_judge.specs.Standing.{is_anew}
-use Rattle.ref_judge.specs.Standing.{answered, SaysRightly}
+use Rattle.ref_judge.specs.Standing.{reply_of_result, SaysRightly}
 use Rattle.ref_judge.specs.declared.profile.Profile.{Profile}
 use Rattle.ref_judge.specs.declared.stop.Stop.{Stop}
 use Rattle.ref_judge.proofs.AnewRows.{LeadsAnew, itself, load_leads, get_leads, begin_leads}
@@ -70,9 +69,9 @@ no_cycle is = absurd cc
 
 module _ (p : Profile) (a b : State) where
   load_keeps : (m d s i : ℕ) (result : Result Reply Fault) → is_anew a (steps.Plain (plain.Load m d s i)) result ≡ false
-      → IsRowAs p a (plain_row (plain.Load m d s i) (answered result)) b
+      → IsRowAs p a (plain_row (plain.Load m d s i) (reply_of_result result)) b
       → (fault : Option Fault) → plain_refusal a (plain.Load m d s i) ≡ fault
-      → KeepsRow a (plain_row (plain.Load m d s i) (answered result))
+      → KeepsRow a (plain_row (plain.Load m d s i) (reply_of_result result))
   load_keeps m d s i result none h (Some fault) is = (tt, inl (fault, is))
   load_keeps m d s i (Ok (replies.Refused fault)) none h None is = (
     tt,
@@ -88,9 +87,9 @@ module _ (p : Profile) (a b : State) where
   )
 
   get_keeps : (m d s : ℕ) (result : Result Reply Fault) → is_anew a (steps.Plain (plain.Get m d s)) result ≡ false
-      → IsRowAs p a (plain_row (plain.Get m d s) (answered result)) b
+      → IsRowAs p a (plain_row (plain.Get m d s) (reply_of_result result)) b
       → (fault : Option Fault) → plain_refusal a (plain.Get m d s) ≡ fault
-      → KeepsRow a (plain_row (plain.Get m d s) (answered result))
+      → KeepsRow a (plain_row (plain.Get m d s) (reply_of_result result))
   get_keeps m d s result none h (Some fault) is = (tt, inl (fault, is))
   get_keeps m d s (Ok (replies.Refused fault)) none h None is = (
     tt,
@@ -107,9 +106,9 @@ module _ (p : Profile) (a b : State) where
 
   begin_keeps : (now : ℕ) (how : _) (result : Result Reply Fault)
       → is_anew a (steps.Plain (plain.Begin now how)) result ≡ false
-      → IsRowAs p a (plain_row (plain.Begin now how) (answered result)) b
+      → IsRowAs p a (plain_row (plain.Begin now how) (reply_of_result result)) b
       → (fault : Option Fault) → plain_refusal a (plain.Begin now how) ≡ fault
-      → KeepsRow a (plain_row (plain.Begin now how) (answered result))
+      → KeepsRow a (plain_row (plain.Begin now how) (reply_of_result result))
   begin_keeps now how result none h (Some fault) is = (tt, inl (fault, is))
   begin_keeps now how (Ok (replies.Refused fault)) none h None is =
       absurd (no_cycle (plain_accepted_as p a b (plain.Begin now how) (replies.Refused fault) is h).1.0)
@@ -119,8 +118,8 @@ module _ (p : Profile) (a b : State) where
 
   -- so such a row reads nothing of what is free
   pub reads_none : (step : Step) (result : Result Reply Fault) → has_one step ≡ true → is_anew a step result ≡ false
-      → IsRowAs p a (record { step = step; reply = answered result }) b
-      → KeepsRow a (record { step = step; reply = answered result })
+      → IsRowAs p a (record { step = step; reply = reply_of_result result }) b
+      → KeepsRow a (record { step = step; reply = reply_of_result result })
   reads_none (steps.Plain (plain.Load m d s i)) result one none h =
       load_keeps m d s i result none h (plain_refusal a (plain.Load m d s i)) refl
   reads_none (steps.Plain (plain.Get m d s)) result one none h =
@@ -226,11 +225,12 @@ module _ (p : Profile) (a b : State) where
 
   begun_flags : (now : ℕ) (how : _) (result : Result Reply Fault)
       → is_anew a (steps.Plain (plain.Begin now how)) result ≡ false
-      → IsRowAs p a (plain_row (plain.Begin now how) (answered result)) b
+      → IsRowAs p a (plain_row (plain.Begin now how) (reply_of_result result)) b
       → (fault : Option Fault) → plain_refusal a (plain.Begin now how) ≡ fault → SameFlags a b
   begun_flags now how result none h (Some fault) is =
       same_flags a b (ap (λ (s : State). s.world.phase)
-      (subst (λ (f : Option Fault). IsAnswerAs p a f (steps.Plain (plain.Begin now how)) (answered result) b) is h).1)
+      (subst (λ (f : Option Fault). IsAnswerAs p a f (steps.Plain (plain.Begin now how)) (reply_of_result result) b) is
+      h).1)
   begun_flags now how (Ok (replies.Refused fault)) none h None is =
       absurd (no_cycle (plain_accepted_as p a b (plain.Begin now how) (replies.Refused fault) is h).1.0)
   begun_flags now how (Ok reply) none h None is = absurd (true≢false none)
@@ -238,17 +238,17 @@ module _ (p : Profile) (a b : State) where
       absurd (no_cycle (plain_accepted_as p a b (plain.Begin now how) (replies.Refused fault) is h).1.0)
 
   pub flags_stay : (step : Step) (result : Result Reply Fault) → has_one step ≡ true → is_anew a step result ≡ false
-      → IsRowAs p a (record { step = step; reply = answered result }) b → SameFlags a b
+      → IsRowAs p a (record { step = step; reply = reply_of_result result }) b → SameFlags a b
   flags_stay (steps.Plain (plain.Begin now how)) result one none h =
       begun_flags now how result none h (plain_refusal a (plain.Begin now how)) refl
   flags_stay (steps.Plain plain.EndSweep) result one none h =
-      swept_flags (answered result) (plain_refusal a plain.EndSweep) refl h
+      swept_flags (reply_of_result result) (plain_refusal a plain.EndSweep) refl h
   flags_stay (steps.Plain plain.EndMark) result one none h = absurd cc
   flags_stay (steps.Plain plain.EndClear) result one none h = absurd cc
   flags_stay (steps.Plain plain.Select) result one none h = absurd cc
   flags_stay (steps.Plain plain.EndMove) result one none h = absurd cc
   flags_stay step result one none h =
-      let row : Row = record { step = step; reply = answered result } in
+      let row : Row = record { step = step; reply = reply_of_result result } in
       same_flags a b (phase_stays a b row tt (one_base_as p a b row h))
 
 -- ---- what a judge makes of them
@@ -282,7 +282,7 @@ said_before old a s (inr others) fits =
     (subst (λ (m : Bool). FitsIn m (is_in old.phase Clearing) old a s) others.0 fits) in
     (true, true, subst (λ (u : State). Fits a true true u) (sym alone) (itself a))
 
-module _ (old new : Judged) (a b : State) (step : PlainStep) (reply : Reply) (stands : Stands new b)
+module _ (old new : Judged) (a b : State) (step : PlainStep) (reply : Reply) (stands : StandsFor new b)
     (none : new.may_be_none ≡ true) (leads : LeadsAnew old.profile a b step reply new.may_be_left)
     (after : is_in new.phase Marking ≡ true) where
   -- what may be said afterwards fits
@@ -379,7 +379,7 @@ idle_of : (idle : Bool) (later : Option Fault) → unless idle Fault.WrongPhase 
 idle_of true later none = refl
 idle_of false later none = absurd cc
 
-module _ (old new : Judged) (settled : IsSettled old) (a : State) (stands : Stands old a) where
+module _ (old new : Judged) (settled : IsSettled old) (a : State) (stands : StandsFor old a) where
   -- whether the judge's phase is that of the state, before and after
   marks_old : is_in old.phase Marking ≡ is_in a.world.phase Marking
   marks_old = ap (λ (q : Phase). is_in q Marking) stands.phase
@@ -387,29 +387,29 @@ module _ (old new : Judged) (settled : IsSettled old) (a : State) (stands : Stan
   clears_old : is_in old.phase Clearing ≡ is_in a.world.phase Clearing
   clears_old = ap (λ (q : Phase). is_in q Clearing) stands.phase
 
-  marks_new : (b : State) → Stands new b → is_in new.phase Marking ≡ is_in b.world.phase Marking
+  marks_new : (b : State) → StandsFor new b → is_in new.phase Marking ≡ is_in b.world.phase Marking
   marks_new b after = ap (λ (q : Phase). is_in q Marking) after.phase
 
   -- a row that says nothing anew
   kept_told : (step : Step) (result : Result Reply Fault) → has_one step ≡ true
-      → (leads : Leads old step result new a) → is_anew a step result ≡ false
-      → LeadsOn old new (record { step = step; reply = answered result }) a
+      → (leads : LeadsOne old step result new a) → is_anew a step result ≡ false
+      → LeadsOn old new (record { step = step; reply = reply_of_result result }) a
   kept_told step result one leads none =
       let b : State = leads.state in
       let flags = flags_stay old.profile a b step result one none leads.row in
-      kept_leads old new (record { step = step; reply = answered result }) a b
+      kept_leads old new (record { step = step; reply = reply_of_result result }) a b
       (reads_none old.profile a b step result one none leads.row) leads.row
       (subst (λ (anew : Bool). SaysRightly anew old new b) none leads.says) leads.stands
       (marks_new b leads.stands ∙ flags.0 ∙ sym marks_old)
       (ap (λ (q : Phase). is_in q Clearing) leads.stands.phase ∙ flags.1 ∙ sym clears_old)
 
   -- what a row that says anew says
-  anew_says : (step : PlainStep) (result : Result Reply Fault) (leads : Leads old (steps.Plain step) result new a)
+  anew_says : (step : PlainStep) (result : Result Reply Fault) (leads : LeadsOne old (steps.Plain step) result new a)
       → is_anew a (steps.Plain step) result ≡ true → SaysRightly true old new leads.state
   anew_says step result leads is = subst (λ (anew : Bool). SaysRightly anew old new leads.state) is leads.says
 
   -- such a row comes in a mark or begins one, and says what fits
-  object_told : (step : PlainStep) (n : ℕ) (leads : Leads old (steps.Plain step) (Ok (replies.Object n)) new a)
+  object_told : (step : PlainStep) (n : ℕ) (leads : LeadsOne old (steps.Plain step) (Ok (replies.Object n)) new a)
       → is_in a.world.phase Marking ≡ true → EndsNoPhase (heap.Plain step)
       → LeadsAnew old.profile a leads.state step (replies.Object n) new.may_be_left
       → IsAnew old new a leads.state step (replies.Object n)
@@ -423,7 +423,7 @@ module _ (old new : Judged) (settled : IsSettled old) (a : State) (stands : Stan
         before = inl before;
       }
 
-  anew_told : (step : PlainStep) (reply : Reply) → (leads : Leads old (steps.Plain step) (Ok reply) new a)
+  anew_told : (step : PlainStep) (reply : Reply) → (leads : LeadsOne old (steps.Plain step) (Ok reply) new a)
       → is_anew a (steps.Plain step) (Ok reply) ≡ true → IsAnew old new a leads.state step reply
   anew_told (plain.Load m d s i) (replies.Object n) leads is =
       let marks = marks_of (is_in a.world.phase Marking) true is in
@@ -466,16 +466,16 @@ module _ (old new : Judged) (settled : IsSettled old) (a : State) (stands : Stan
   anew_told step reply leads is = absurd (false≢true (sym (other_says a step reply refl) ∙ is))
 
   -- with its one answer, a row leads the states that fit on
-  pub told : (step : Step) (result : Result Reply Fault) → has_one step ≡ true → Leads old step result new a
-      → LeadsOn old new (record { step = step; reply = answered result }) a
+  pub told : (step : Step) (result : Result Reply Fault) → has_one step ≡ true → LeadsOne old step result new a
+      → LeadsOn old new (record { step = step; reply = reply_of_result result }) a
   told step result one leads =
       elim (cases_Bool (is_anew a step result)) [
         | inl anew ↦ of_anew step result leads anew
         | inr none ↦ kept_told step result one leads none
       ]
     where
-      of_anew : (step : Step) (result : Result Reply Fault) → Leads old step result new a
-          → is_anew a step result ≡ true → LeadsOn old new (record { step = step; reply = answered result }) a
+      of_anew : (step : Step) (result : Result Reply Fault) → LeadsOne old step result new a
+          → is_anew a step result ≡ true → LeadsOn old new (record { step = step; reply = reply_of_result result }) a
       of_anew (steps.Plain step) (Ok reply) leads anew =
           let is = anew_told step reply leads anew in
           let b : State = leads.state in
@@ -489,20 +489,20 @@ module _ (old new : Judged) (settled : IsSettled old) (a : State) (stands : Stan
       of_anew step result leads anew = absurd (false≢true anew)
 
 -- and with another no state that fits has it: each that fits has the one answer
-module _ (old new : Judged) (settled : IsSettled old) (a : State) (stands : Stands old a) where
+module _ (old new : Judged) (settled : IsSettled old) (a : State) (stands : StandsFor old a) where
   pub told_none : (step : Step) (result : Result Reply Fault) (other : Reply) → has_one step ≡ true
-      → Leads old step result new a → (answered result ≡ other → ⊥)
+      → LeadsOne old step result new a → (reply_of_result result ≡ other → ⊥)
       → HasNone old (record { step = step; reply = other }) a
   told_none step result other one leads differ s t fits row =
       elim (cases_Bool (is_anew a step result)) [
         | inl anew ↦ of_anew step result leads anew one differ row
         | inr none ↦
-            kept_none old a leads.state step (answered result) other one
+            kept_none old a leads.state step (reply_of_result result) other one
             (reads_none old.profile a leads.state step result one none leads.row) leads.row differ s t fits row
       ]
     where
-      of_anew : (step : Step) (result : Result Reply Fault) (leads : Leads old step result new a)
-          → is_anew a step result ≡ true → has_one step ≡ true → (answered result ≡ other → ⊥)
+      of_anew : (step : Step) (result : Result Reply Fault) (leads : LeadsOne old step result new a)
+          → is_anew a step result ≡ true → has_one step ≡ true → (reply_of_result result ≡ other → ⊥)
           → IsRowAs old.profile s (record { step = step; reply = other }) t → ⊥
       of_anew (steps.Plain step) (Ok reply) leads anew one differ row =
           let is = anew_told old new settled a stands step reply leads anew in
@@ -516,8 +516,8 @@ module _ (old new : Judged) (settled : IsSettled old) (a : State) (stands : Stan
 -- So of the step the judge tells rightly whether it is answered so.
 pub answered_tells : (old new : Judged) (step : Step) (result : Result Reply Fault) (reply : Reply)
     (verdict : Result (Unit {0}) Stop) → IsSettled old → has_one step ≡ true → DoesAs old step result new
-    → MatchResult verdict (λ done. answered result ≡ reply)
-    (λ stop. (stop ≡ Stop.Illegal) × (answered result ≡ reply → ⊥))
+    → MatchResult verdict (λ done. reply_of_result result ≡ reply)
+    (λ stop. (stop ≡ Stop.Illegal) × (reply_of_result result ≡ reply → ⊥))
     → TellsOf old (record { step = step; reply = reply }) verdict new
 answered_tells old new step result reply (Ok done) settled one does same = (
   does.0,

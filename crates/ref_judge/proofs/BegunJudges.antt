@@ -37,14 +37,15 @@ use Rattle.ref_objects.specs.Grounds.{Ground, marks_begun, ground_with_heap, cle
 use Rattle.ref_space.specs.Tables.{Tag}
 use Rattle.ref_space.specs.Worklists.{Worklist}
 use Rattle.ref_space.specs.declared.colour.Colour.TheVariants.{A}
-use Rattle.ref_judge.specs.Judged.{Judged, Finder, unheld, is_past_mark, is_put, no_finder}
+use Rattle.ref_judge.specs.Judged.{Judged, Finder, unheld, is_behind_mark, is_put, no_finder}
 use Rattle.ref_judge.specs.KeptBounds.{may_keep}
 use Rattle.ref_judge.specs.LeftCounts.{unmarked_if}
 use Rattle.ref_judge.specs.declared.worker.Found.{Found}
-use Rattle.ref_judge.specs.Policies.{under, policy_as}
+use Rattle.ref_judge.specs.Policies.{profiled, policy_as}
 use Rattle.ref_judge.specs.ProfiledRows.{IsRowAs}
-use Rattle.ref_judge.specs.Spreading.{IsButMarks, Spread, roots_of, without_found, reported_by, reported_in}
-use Rattle.ref_judge.specs.Standing.{Stands, TagsTell, FindersTell, DoesAs, Leads, DecidesAs, IsSettled, IsSound}
+use Rattle.ref_judge.specs.Spreading.{IsButMarks, Spread, judged_roots, without_found, reported_by, reported_in}
+use Rattle.ref_judge.specs.Standing.{StandsFor, TagsTell, FindersTell, DoesAs, LeadsOne, DecidesAs, IsSettled}
+use Rattle.ref_judge.specs.Standing.{IsOfSomeState}
 use Rattle.ref_judge.proofs.KnownGains.{known_begun_as}
 use Rattle.ref_judge.proofs.LeftJudged.{left_decides}
 use Rattle.ref_judge.proofs.SoundJudges.{refused_does, sound_after}
@@ -68,7 +69,7 @@ pub record IsBegun (j : Judged) (now : ℕ) (how : Urgency) (h : Ground) : Type 
   pub kept :
       j.profile.keeps_more ≡ false
       → Spread (is_kept (policy_as j.profile (begun_policy j now how))) (begun_ground j.ground now)
-      (roots_of (begun_ground j.ground now).heap j.hands j.lines (map without_found j.workers)) h []
+      (judged_roots (begun_ground j.ground now).heap j.hands j.lines (map without_found j.workers)) h []
 
 -- the judge in the mark
 abbrev pub judge_begun : Judged → ℕ → Urgency → Ground → Bool → Judged
@@ -88,7 +89,7 @@ judge_begun j now how h left = record j {
 abbrev pub state_begun : State → ℕ → Urgency → State
 state_begun a now how = saying (ticked (begun_to a now how)) false
 
-module _ (j : Judged) (a : State) (stands : Stands j a) (now : ℕ) (how : Urgency) (h : Ground)
+module _ (j : Judged) (a : State) (stands : StandsFor j a) (now : ℕ) (how : Urgency) (h : Ground)
     (begun : IsBegun j now how h) (idle : is_in j.phase Idle ≡ true) where
   facts : Facts j.config a
   facts = legal_facts j.profile j.config a stands.lawful
@@ -97,7 +98,7 @@ module _ (j : Judged) (a : State) (stands : Stands j a) (now : ℕ) (how : Urgen
   none_doomed =
       facts.names.none_doomed (not_past a.world.phase (subst (λ (p : Phase). is_in p Idle ≡ true) stands.phase idle))
     where
-      not_past : (p : Phase) → is_in p Idle ≡ true → is_past_mark p ≡ false
+      not_past : (p : Phase) → is_in p Idle ≡ true → is_behind_mark p ≡ false
       not_past Idle is = refl
       not_past p is = absurd (false≢true is)
 
@@ -128,9 +129,9 @@ module _ (j : Judged) (a : State) (stands : Stands j a) (now : ℕ) (how : Urgen
   keeps = is_kept (policy_as j.profile pol)
 
   abbrev counted : List ℕ
-  counted = roots_of (begun_ground j.ground now).heap j.hands j.lines (map without_found j.workers)
+  counted = judged_roots (begun_ground j.ground now).heap j.hands j.lines (map without_found j.workers)
 
-  counted_are : counted ≡ roots_of j.ground.heap j.hands j.lines j.workers
+  counted_are : counted ≡ judged_roots j.ground.heap j.hands j.lines j.workers
   counted_are =
       ap (λ (ns : List ℕ).
       present j.ground.heap.slots ++ reported_by j.hands.mutators ++ reported_by j.hands.workers
@@ -209,7 +210,7 @@ module _ (j : Judged) (a : State) (stands : Stands j a) (now : ℕ) (how : Urgen
 
     knows : (reply : Reply) → plain_refusal a (plain.Begin now how) ≡ None
         → IsRowAs j.profile a (plain_row (plain.Begin now how) reply) (state_begun a now how)
-        → Knows (λ n. has h.marked n ≡ true) (under j.profile (state_begun a now how))
+        → Knows (λ n. has h.marked n ≡ true) (profiled j.profile (state_begun a now how))
     knows reply none row =
         known_begun_as j.profile (λ n. has h.marked n ≡ true) a (state_begun a now how) now how reply
         facts.numbers.below graph_ends closed none row
@@ -278,7 +279,7 @@ module _ (j : Judged) (a : State) (stands : Stands j a) (now : ℕ) (how : Urgen
   }
 
   pub stands_begun : (left : Bool) → plain_refusal a (plain.Begin now how) ≡ None
-      → Stands (judge_begun j now how h left) (state_begun a now how)
+      → StandsFor (judge_begun j now how h left) (state_begun a now how)
   stands_begun left none = record {
     lawful = lawful_row j.profile j.config a (state_begun a now how)
         (plain_row (plain.Begin now how) (replies.Cycle (a.world.cycle + 1))) stands.lawful (row_begun none);
@@ -306,7 +307,7 @@ module _ (j : Judged) (a : State) (stands : Stands j a) (now : ℕ) (how : Urgen
 
   pub leads_begun : (left : Bool) → plain_refusal a (plain.Begin now how) ≡ None
       → left ≡ nat_lt (h.next + 0 + unmarked_if j.profile.keeps_more h) (length h.heap.objects + j.ground.next)
-      → Leads j (Plain (plain.Begin now how)) (Ok (replies.Cycle (j.cycle + 1))) (judge_begun j now how h left) a
+      → LeadsOne j (Plain (plain.Begin now how)) (Ok (replies.Cycle (j.cycle + 1))) (judge_begun j now how h left) a
   leads_begun left none counts =
       let stands_now = stands_begun left none in
       record {
@@ -323,7 +324,7 @@ module _ (j : Judged) (a : State) (stands : Stands j a) (now : ℕ) (how : Urgen
       }
 
 -- the judge's objects refuse a begin as each state does
-begin_passes : (j : Judged) (a : State) → Stands j a → (now : ℕ) (how : Urgency)
+begin_passes : (j : Judged) (a : State) → StandsFor j a → (now : ℕ) (how : Urgency)
     → begin_refusal j.phase j.ground.heap.clock j.cycle now ≡ plain_refusal a (plain.Begin now how)
 begin_passes j a stands now how = rw (stands.phase, ap (λ (x : Heap). x.clock) stands.heap, stands.cycle) refl
 
@@ -371,20 +372,23 @@ settled_begun j now how h left settled begun = record {
 
 pub begun_kept : (j : Judged) (now : ℕ) (how : Urgency) (g h : Ground) (ws : List Finder) (policy by : Policy)
     → g ≡ begun_ground j.ground now → ws ≡ map without_found j.workers → policy ≡ begun_policy j now how
-    → by ≡ policy_as j.profile policy → Spread (is_kept by) g (roots_of g.heap j.hands j.lines ws) h []
+    → by ≡ policy_as j.profile policy → Spread (is_kept by) g (judged_roots g.heap j.hands j.lines ws) h []
     → IsBegun j now how h
 begun_kept j now how g h ws policy by is workers same goes marks = record {
   same = subst (λ (x : Ground). IsButMarks x h) is marks.same;
   kept = λ less.
       subst (λ (x : Ground).
       Spread (is_kept (policy_as j.profile (begun_policy j now how))) x
-      (roots_of x.heap j.hands j.lines (map without_found j.workers)) h []) is
+      (judged_roots x.heap j.hands j.lines (map without_found j.workers)) h []) is
       (subst (λ (q : Policy).
-      Spread (is_kept (policy_as j.profile q)) g (roots_of g.heap j.hands j.lines (map without_found j.workers)) h [])
+      Spread (is_kept (policy_as j.profile q)) g (judged_roots g.heap j.hands j.lines (map without_found j.workers)) h
+      [])
       same
-      (subst (λ (q : Policy). Spread (is_kept q) g (roots_of g.heap j.hands j.lines (map without_found j.workers)) h [])
+      (subst (λ (q : Policy).
+      Spread (is_kept q) g (judged_roots g.heap j.hands j.lines (map without_found j.workers)) h [])
       goes
-      (subst (λ (fs : List Finder). Spread (is_kept by) g (roots_of g.heap j.hands j.lines fs) h []) workers marks)));
+      (subst (λ (fs : List Finder). Spread (is_kept by) g (judged_roots g.heap j.hands j.lines fs) h []) workers
+      marks)));
 }
 
 pub begun_more : (j : Judged) (now : ℕ) (how : Urgency) (g : Ground) → g ≡ begun_ground j.ground now
@@ -409,7 +413,7 @@ judge_made j h ws pol born grey left = record j {
   grey = grey;
 }
 
-module _ (j : Judged) (sound : IsSound j) (now : ℕ) (how : Urgency) (h : Ground) (ws : List Finder) (pol : Policy)
+module _ (j : Judged) (sound : IsOfSomeState j) (now : ℕ) (how : Urgency) (h : Ground) (ws : List Finder) (pol : Policy)
     (born : ℕ) (grey : Worklist) (left : Bool) (begun : IsBegun j now how h)
     (workers : ws ≡ map without_found j.workers) (policy : pol ≡ begun_policy j now how) (next : born ≡ j.ground.next)
     (none_grey : grey.stands ≡ []) (room : grey.room ≡ j.grey.room)
@@ -426,7 +430,7 @@ module _ (j : Judged) (sound : IsSound j) (now : ℕ) (how : Urgency) (h : Groun
       (counts ∙ ap (λ (k : ℕ). nat_lt (h.next + 0 + unmarked_if j.profile.keeps_more h) (length h.heap.objects + k))
       next))
 
-  pub made_sound : IsSound (judge_made j h ws pol born grey left)
+  pub made_sound : IsOfSomeState (judge_made j h ws pol born grey left)
   made_sound =
       sound_after j (judge_made j h ws pol born grey left) (Plain (plain.Begin now how))
       (Ok (replies.Cycle (j.cycle + 1))) refl sound made_does

@@ -19,9 +19,9 @@ use Rattle.ref_base.proofs.FoundRows.{cleared_fits, fits_cleared}
 use Rattle.ref_base.proofs.FoundStates.{fit_some}
 use Rattle.ref_base.proofs.FreeRows.{freed}
 use Rattle.ref_judge.specs.Finding.{has_more_left, has_cleared_left}
-use Rattle.ref_judge.specs.Judged.{Judged, Finder, no_finder, finder_at, left_of, is_past_mark, is_going}
+use Rattle.ref_judge.specs.Judged.{Judged, Finder, no_finder, finder_at, still_left, is_behind_mark, is_going}
 use Rattle.ref_judge.specs.Judged.{AreToldCleared}
-use Rattle.ref_judge.specs.Standing.{Stands, FitsIn, FitsIt, HasNone, TellsOf, IsSound}
+use Rattle.ref_judge.specs.Standing.{StandsFor, FitsIn, FitsIt, HasNone, TellsOf, IsOfSomeState}
 use Rattle.ref_judge.specs.ProfiledRows.{IsRowAs}
 use Rattle.ref_judge.specs.declared.worker.Found.{Found}
 use Rattle.ref_judge.proofs.LegalFacts.{lawful_row}
@@ -44,7 +44,7 @@ pub refused_first : (passes : Bool) (fault : Fault) (later : Option Fault) → u
 refused_first true fault later is = absurd cc
 refused_first false fault later is = is
 
-pub end_refused : (j : Judged) (a : State) (fault : Fault) → Stands j a
+pub end_refused : (j : Judged) (a : State) (fault : Fault) → StandsFor j a
     → unless (is_in j.phase Clearing) WrongPhase None ≡ Some fault → (left : Bool) (found : List (List ℕ))
     → refusal (freed a left found) (steps.Plain plain.EndClear) ≡ Some fault
 end_refused j a fault stands is left found =
@@ -85,7 +85,7 @@ some_behind (n ∷ ns) zero some = omega arith
 some_behind (n ∷ ns) (suc at) some = let below = some_behind ns at some in omega (arith, below)
 
 -- where something stands for a worker, it may have one left
-pub more_left : (j : Judged) (k : ℕ) → is_empty (left_of j k) ≡ false → has_more_left (finder_at j k) ≡ true
+pub more_left : (j : Judged) (k : ℕ) → is_empty (still_left j k) ≡ false → has_more_left (finder_at j k) ≡ true
 more_left j k some =
     let w : Finder = finder_at j k in
     let below = some_behind (map (λ (f : Found). f.object) w.found) w.at some in
@@ -115,33 +115,34 @@ none_told clears (f ∷ fs) zero told none =
     grind (arith, told.0, own, rest)
 none_told clears (f ∷ fs) (suc at) told none = none_told clears fs at told.1 none
 
-module _ (j : Judged) (a : State) (stands : Stands j a) (phase : j.phase ≡ Clearing) where
+module _ (j : Judged) (a : State) (stands : StandsFor j a) (phase : j.phase ≡ Clearing) where
   pub clears : a.world.phase ≡ Clearing
   clears = sym stands.phase ∙ phase
 
   -- the states that fit are those of clearing
-  pub found_fits : (s : State) → FitsIt j a s → FitsFound a (left_of j) j.some_left s
+  pub found_fits : (s : State) → FitsIt j a s → FitsFound a (still_left j) j.some_left s
   found_fits s fits = subst (λ (p : Phase). FitsIn (is_in p Marking) (is_in p Clearing) j a s) phase fits
 
   told : (k : ℕ) → AreToldCleared a.cleared (finder_at j k).found
   told k = stands.finders.cleared (ap (λ (p : Phase). is_in p Clearing) phase) k
 
   -- the mark's end cleared none that is left where the judge knows none
-  pub none_cleared : (k : ℕ) → has_cleared_left (finder_at j k) ≡ false → NoneOf a.cleared (left_of j k)
+  pub none_cleared : (k : ℕ) → has_cleared_left (finder_at j k) ≡ false → NoneOf a.cleared (still_left j k)
   none_cleared k none = told_none a.cleared (finder_at j k).found (finder_at j k).at (told k) none
 
-  pub cleared_none : (k : ℕ) → NoneOf a.cleared (left_of j k) → has_cleared_left (finder_at j k) ≡ false
+  pub cleared_none : (k : ℕ) → NoneOf a.cleared (still_left j k) → has_cleared_left (finder_at j k) ≡ false
   cleared_none k none = none_told a.cleared (finder_at j k).found (finder_at j k).at (told k) none
 
 -- and back
-pub fits_found : (j : Judged) (a s : State) → j.phase ≡ Clearing → FitsFound a (left_of j) j.some_left s → FitsIt j a s
+pub fits_found : (j : Judged) (a s : State) → j.phase ≡ Clearing → FitsFound a (still_left j) j.some_left s
+    → FitsIt j a s
 fits_found j a s phase fits =
     subst (λ (p : Phase). FitsIn (is_in p Marking) (is_in p Clearing) j a s) (sym phase) fits
 
 -- ---- the end of clearing is refused
 
 -- what is said of what is left is no part of a state
-stands_said : (j : Judged) (a : State) (some : Bool) → Stands j a → Stands (record j { some_left = some }) a
+stands_said : (j : Judged) (a : State) (some : Bool) → StandsFor j a → StandsFor (record j { some_left = some }) a
 stands_said j a some s = record {
   lawful = s.lawful;
   heap = s.heap;
@@ -181,11 +182,11 @@ module _ (j : Judged) (none : unless (is_in j.phase Clearing) WrongPhase None �
       stands = stands_said j a true stands;
       on = λ s t fits h.
           fits_found (record j { some_left = true }) a t phase
-          (left_fits a t (left_of j) (clears j a stands phase) s j.some_left (found_fits j a stands phase s fits)
+          (left_fits a t (still_left j) (clears j a stands phase) s j.some_left (found_fits j a stands phase s fits)
           ((clear_common j.profile s t (replies.Refused ClearingLeft)).0 h));
       back = λ t fits.
           let from =
-          fits_left a t (left_of j) (clears j a stands phase) j.some_left
+          fits_left a t (still_left j) (clears j a stands phase) j.some_left
           (found_fits (record j { some_left = true }) a (stands_said j a true stands) phase t fits) in (
             from.0,
             fits_found j a from.0 phase from.1,
@@ -195,7 +196,8 @@ module _ (j : Judged) (none : unless (is_in j.phase Clearing) WrongPhase None �
   )
 
   -- where a worker may have one left
-  pub left_sound : IsSound j → list_any has_more_left j.workers ≡ true → IsSound (record j { some_left = true })
+  pub left_sound : IsOfSomeState j → list_any has_more_left j.workers ≡ true
+      → IsOfSomeState (record j { some_left = true })
   left_sound sound some =
       let settled = sound.settled in
       sound_told j (record j { some_left = true }) left_row sound left_told
@@ -216,12 +218,12 @@ module _ (j : Judged) (none : unless (is_in j.phase Clearing) WrongPhase None �
       })
 
   -- where none may
-  pub none_left : list_any has_more_left j.workers ≡ false → (a : State) → Stands j a → HasNone j left_row a
+  pub none_left : list_any has_more_left j.workers ≡ false → (a : State) → StandsFor j a → HasNone j left_row a
   none_left empty a stands s t fits h =
       let then =
-      left_fits a t (left_of j) (clears j a stands phase) s j.some_left (found_fits j a stands phase s fits)
+      left_fits a t (still_left j) (clears j a stands phase) s j.some_left (found_fits j a stands phase s fits)
       ((clear_common j.profile s t (replies.Refused ClearingLeft)).0 h) in
-      let at = fit_some (left_of j) a.cleared then.0 then.3 in
+      let at = fit_some (still_left j) a.cleared then.0 then.3 in
       true≢false (sym (more_left j at.0 at.1) ∙ no_worker has_more_left refl j.workers empty at.0)
 
   -- ---- it is done
@@ -236,38 +238,39 @@ module _ (j : Judged) (none : unless (is_in j.phase Clearing) WrongPhase None �
         let is : b ≡ finding (cleared_to a) (emptied a.scanned) =
         ap (λ (chosen : Bool). state_rephased a Sweeping chosen (emptied a.scanned)) stands.chosen in
         let from =
-        fits_cleared a b (left_of j) (clears j a stands phase)
+        fits_cleared a b (still_left j) (clears j a stands phase)
         (λ k. none_cleared j a stands phase k (no_worker has_cleared_left refl j.workers clean k)) is in
         let fits : FitsIt j a from.0 =
-        fits_found j a from.0 phase (subst (λ (some : Bool). FitsFound a (left_of j) some from.0) (sym said) from.1) in
+        fits_found j a from.0 phase
+        (subst (λ (some : Bool). FitsFound a (still_left j) some from.0) (sym said) from.1) in
         let row = (clear_common j.profile from.0 b replies.Done).1 from.2 in
         record {
           state = b;
           stands = stands_rephased j Sweeping j.was_chosen j.ground.condemning refl refl a (emptied a.scanned)
               (lawful_row j.profile j.config from.0 b cleared_row (lawful from.0 fits) row) stands
-              (λ past. ap is_past_mark phase);
+              (λ past. ap is_behind_mark phase);
           on = λ s t fit h.
-              (cleared_fits a t (left_of j) (clears j a stands phase) s j.some_left (found_fits j a stands phase s fit)
-              ((clear_common j.profile s t replies.Done).0 h)).2 ∙ sym is;
+              (cleared_fits a t (still_left j) (clears j a stands phase) s j.some_left
+              (found_fits j a stands phase s fit) ((clear_common j.profile s t replies.Done).0 h)).2 ∙ sym is;
           back = λ t same.
               (from.0, fits, subst (λ (u : State). IsRowAs j.profile from.0 cleared_row u) (sym same) row);
         },
   )
 
-  pub done_sound : IsSound j → j.some_left ≡ false → list_any has_cleared_left j.workers ≡ false
-      → IsSound (rephased j Sweeping j.was_chosen j.ground.condemning)
+  pub done_sound : IsOfSomeState j → j.some_left ≡ false → list_any has_cleared_left j.workers ≡ false
+      → IsOfSomeState (rephased j Sweeping j.was_chosen j.ground.condemning)
   done_sound sound said clean =
       sound_told j (rephased j Sweeping j.was_chosen j.ground.condemning) cleared_row sound (done_told said clean)
       (settled_rephased j Sweeping j.was_chosen j.ground.condemning refl refl sound.settled
       (λ going. ap is_going phase) (ap (λ (p : Phase). is_in p Marking) phase)
-      (sound.settled.condemning ∙ ap is_past_mark phase))
+      (sound.settled.condemning ∙ ap is_behind_mark phase))
 
   -- some are left
-  pub not_done : (j.some_left || list_any has_cleared_left j.workers) ≡ true → (a : State) → Stands j a
+  pub not_done : (j.some_left || list_any has_cleared_left j.workers) ≡ true → (a : State) → StandsFor j a
       → HasNone j cleared_row a
   not_done some a stands s t fits h =
       let all =
-      cleared_fits a t (left_of j) (clears j a stands phase) s j.some_left (found_fits j a stands phase s fits)
+      cleared_fits a t (still_left j) (clears j a stands phase) s j.some_left (found_fits j a stands phase s fits)
       ((clear_common j.profile s t replies.Done).0 h) in
       elim (or_cases j.some_left (list_any has_cleared_left j.workers) some) [
         | inl said ↦ true≢false (sym said ∙ all.0)

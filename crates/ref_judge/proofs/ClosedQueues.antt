@@ -15,9 +15,9 @@ use Rattle.ref_base.specs.declared.step.Step.TheVariants as steps
 use Rattle.ref_base.proofs.RowForms.{unless_passes}
 use Rattle.std.proofs.lemmas.List.{get_or_default}
 use Rattle.std.specs.Prelude.{Ok}
-use Rattle.ref_judge.specs.Judged.{Judged, Line, AreLines, calling_refusal}
+use Rattle.ref_judge.specs.Judged.{Judged, Line, AreLines, naming_refusal}
 use Rattle.ref_judge.specs.ProfiledRows.{IsRowAs, IsAnswerAs}
-use Rattle.ref_judge.specs.Standing.{Stands, DoesAs, Leads, IsSound}
+use Rattle.ref_judge.specs.Standing.{StandsFor, DoesAs, LeadsOne, IsOfSomeState}
 use Rattle.ref_judge.proofs.HandsAlike.{are_alike, sizes}
 use Rattle.ref_judge.proofs.LinesAlike.{lines_same, line_same, set_line_alike}
 use Rattle.ref_judge.proofs.QueuedStates.{queued, queued_to, others_of, ticked_queued, queued_stands, queued_says}
@@ -35,24 +35,24 @@ enqueued_closed (x ∷ qs) (suc q) zero d e = refl
 enqueued_closed (x ∷ qs) (suc q) (suc i) d e = enqueued_closed qs q i d e
 
 -- the judge refuses it as the state does
-pub calling_same : (j : Judged) (a : State) → Stands j a → (m q : ℕ)
-    → refusal a (steps.Close m q) ≡ calling_refusal j.config m q
-calling_same j a stands m q = ap (λ (c : Config). calling_refusal c m q) (sizes j a stands).config_is
+pub calling_same : (j : Judged) (a : State) → StandsFor j a → (m q : ℕ)
+    → refusal a (steps.Close m q) ≡ naming_refusal j.config m q
+calling_same j a stands m q = ap (λ (c : Config). naming_refusal c m q) (sizes j a stands).config_is
 
-pub queue_there : (j : Judged) (m q : ℕ) → IsSound j → calling_refusal j.config m q ≡ None → q < length j.lines
+pub queue_there : (j : Judged) (m q : ℕ) → IsOfSomeState j → naming_refusal j.config m q ≡ None → q < length j.lines
 queue_there j m q sound none =
     let mutator = unless_passes (nat_lt m j.config.mutators) NoSuchActor _ none in
     subst (λ count. q < count) (sym (lines_same j sound.state sound.stands))
     (ltb-true q j.config.queues (unless_passes (nat_lt q j.config.queues) BadQueue None mutator.1).0)
 
-module _ (old : Judged) (m q : ℕ) (none : calling_refusal old.config m q ≡ None) where
+module _ (old : Judged) (m q : ℕ) (none : naming_refusal old.config m q ≡ None) where
   -- a row that leaves these queues
-  close_leads : (a : State) → Stands old a → (lines : List Line) (qs : List (Lists Notice)) (reply : Reply)
+  close_leads : (a : State) → StandsFor old a → (lines : List Line) (qs : List (Lists Notice)) (reply : Reply)
       → AreLines lines qs
       → ((n i : ℕ) → has (enqueued object_of (slice_index_or qs i (new_queue i))) n
       ≡ has (enqueued object_of (queue_at a.world i)) n)
       → Closes a q (queue_at a.world q).closed reply (ticked (with_world a (others_of a.world a.world qs)))
-      → Leads old (steps.Close m q) (Ok reply) (queued old old.ground.tags old.hands lines) a
+      → LeadsOne old (steps.Close m q) (Ok reply) (queued old old.ground.tags old.hands lines) a
   close_leads a stands lines qs reply are put row =
       let moments = (ticked (with_world a (others_of a.world a.world qs))).moments in
       let b : State = queued_to a (others_of a.world a.world qs) moments in
@@ -66,14 +66,15 @@ module _ (old : Judged) (m q : ℕ) (none : calling_refusal old.config m q ≡ N
       (λ n i is. stands.tags.put n i is ∙ sym (put n i)))
       refl (queued_says old old.ground.tags old.hands lines)
 
-  module _ (sound : IsSound old) (i : ℕ) (same : i ≡ q) (line : Line) (read : line ≡ get_or old.lines i line) where
+  module _ (sound : IsOfSomeState old) (i : ℕ) (same : i ≡ q) (line : Line)
+      (read : line ≡ get_or old.lines i line) where
     at : line ≡ get_or old.lines q line
     at = read ∙ ap (λ n. get_or old.lines n line) same
 
     there : q < length old.lines
     there = queue_there old m q sound none
 
-    closed_is : (a : State) → Stands old a → (closed : Bool) → line.closed ≡ closed
+    closed_is : (a : State) → StandsFor old a → (closed : Bool) → line.closed ≡ closed
         → (queue_at a.world q).closed ≡ closed
     closed_is a stands closed is =
         (line_same old a stands q line there).closed ∙ ap (λ (l : Line). l.closed) (sym at) ∙ is
@@ -121,9 +122,9 @@ module _ (old : Judged) (m q : ℕ) (none : calling_refusal old.config m q ≡ N
               (sym (closed_is a stands false isnt)) (refl, refl))),
         )
 
-pub closed_sound : (old : Judged) (m q : ℕ) (lines : List Line) → IsSound old
+pub closed_sound : (old : Judged) (m q : ℕ) (lines : List Line) → IsOfSomeState old
     → DoesAs old (steps.Close m q) (Ok replies.Done) (queued old old.ground.tags old.hands lines)
-    → IsSound (queued old old.ground.tags old.hands lines)
+    → IsOfSomeState (queued old old.ground.tags old.hands lines)
 closed_sound old m q lines sound does =
     sound_after old (queued old old.ground.tags old.hands lines) (steps.Close m q) (Ok replies.Done) refl sound does
     (settled_queued old old.ground.tags old.hands lines sound.settled)

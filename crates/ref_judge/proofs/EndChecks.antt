@@ -27,14 +27,14 @@ use Rattle.ref_base.proofs.NewClears.{has-new_clears}
 use Rattle.ref_space.specs.Tables.{fields_in}
 use Rattle.ref_objects.specs.Grounds.{Ground, cleared_in_at, IsWellFormed}
 use Rattle.std.specs.Prelude.{◌^◌}
-use Rattle.ref_judge.specs.Judged.{Judged, Line, Finder, AreHands, AreLines, is_judging, is_past_mark}
+use Rattle.ref_judge.specs.Judged.{Judged, Line, Finder, AreHands, AreLines, is_judging, is_behind_mark}
 use Rattle.std.proofs.lemmas.List.{length-map}
 use Rattle.std.proofs.lemmas.Bool.{eq-eqb}
 use Rattle.std.specs.Prelude.{if◌then◌else◌}
 use Rattle.ref_judge.specs.KeptBounds.{must_keep}
 use Rattle.ref_judge.specs.MarkEnding.{spares, dooms, passes, must_stay, leads_out, mark_end, are_roots_spared, may_end}
 use Rattle.ref_judge.specs.MarkEnding.{AreFew}
-use Rattle.ref_judge.specs.Standing.{Stands}
+use Rattle.ref_judge.specs.Standing.{StandsFor}
 use Rattle.ref_judge.specs.declared.hand.Hand.{Hand}
 use Rattle.ref_judge.specs.declared.profile.Profile.{Profile}
 use Rattle.ref_judge.proofs.EndingRows.{IsOff, OffEdgesBy}
@@ -149,7 +149,7 @@ target_wide p policy (Some o) n target =
           | inr free ↦ absurd (false≢true (simp free at kept))
         ]
 
-module _ (j : Judged) (a : State) (stands : Stands j a) (marks : is_in j.phase Marking ≡ true) where
+module _ (j : Judged) (a : State) (stands : StandsFor j a) (marks : is_in j.phase Marking ≡ true) where
   abbrev pub os : List Object
   os = a.world.heap.objects
 
@@ -171,10 +171,10 @@ module _ (j : Judged) (a : State) (stands : Stands j a) (marks : is_in j.phase M
   pub in_mark : is_in a.world.phase Marking ≡ true
   in_mark = ap (λ p. is_in p Marking) (sym stands.phase) ∙ marks
 
-  pub not_past : is_past_mark a.world.phase ≡ false
+  pub not_past : is_behind_mark a.world.phase ≡ false
   not_past = past_marking a.world.phase in_mark
     where
-      past_marking : (p : Phase) → is_in p Marking ≡ true → is_past_mark p ≡ false
+      past_marking : (p : Phase) → is_in p Marking ≡ true → is_behind_mark p ≡ false
       past_marking Marking is = refl
       past_marking p is = absurd (false≢true is)
 

@@ -30,12 +30,12 @@ use Rattle.ref_space.specs.Worklists.{with_more, emptied_list}
 use Rattle.ref_space.specs.declared.colour.Colour.TheVariants.{B}
 use Rattle.ref_objects.specs.Grounds.{Ground, marks_begun, with_condemned, unmarked, IsClosed, named_in}
 use Rattle.ref_space.specs.Worklists.{Worklist}
-use Rattle.ref_judge.specs.Judged.{Judged, Finder, finder_at, no_finder, found_by, left_of, unheld, AreToldCleared}
+use Rattle.ref_judge.specs.Judged.{Judged, Finder, finder_at, no_finder, found_by, still_left, unheld, AreToldCleared}
 use Rattle.ref_judge.specs.KeptBounds.{MayDoomAs}
-use Rattle.ref_judge.specs.MarkEnding.{spares, dooms, mark_end, may_end, ended, told, told_each, Ends}
+use Rattle.ref_judge.specs.MarkEnding.{spares, dooms, mark_end, may_end, ended, told_found, told_each, EndsAll}
 use Rattle.ref_judge.specs.ProfiledRows.{IsRowAs}
-use Rattle.ref_judge.specs.Standing.{Stands, AreLawful, IsSettled, HasNone, LeadsOn, TellsOf, FitsIt, FitsIn, TagsTell}
-use Rattle.ref_judge.specs.Standing.{FindersTell, Lawful}
+use Rattle.ref_judge.specs.Standing.{StandsFor, AreLawful, IsSettled, HasNone, LeadsOn, TellsOf, FitsIt, FitsIn}
+use Rattle.ref_judge.specs.Standing.{TagsTell, FindersTell, Lawful}
 use Rattle.ref_judge.specs.declared.worker.Found.{Found}
 use Rattle.ref_judge.proofs.EndChecks.{ends_so, so_ends, doomed_is, objects_same, spared, refers_same, rising, judging}
 use Rattle.ref_judge.proofs.EndChecks.{in_mark}
@@ -62,7 +62,7 @@ use Rattle.ref_judge.specs.Judged.{is_put}
 use Rattle.ref_base.specs.DoomedSets.{is_new_clear}
 
 -- where no root is doomed, and nothing that must be kept leads to what is, the mark may doom that
-pub may_doom_as : (j : Judged) (a : State) → Stands j a → is_in j.phase Marking ≡ true
+pub may_doom_as : (j : Judged) (a : State) → StandsFor j a → is_in j.phase Marking ≡ true
     → IsOff j.profile a (doomed_at a) → MayDoomAs j.profile a (doomed_at a)
 may_doom_as j a stands marks off =
     elim (cases_Bool j.profile.keeps_more) [
@@ -106,9 +106,9 @@ ended_judge j g = record j {
   doomed = with_more (emptied_list j.doomed) (unmarked g.heap.objects g.marked);
 }
 
-module _ (j : Judged) (g : Ground) (a : State) (stands : Stands j a) (fits : AreLawful j a)
+module _ (j : Judged) (g : Ground) (a : State) (stands : StandsFor j a) (fits : AreLawful j a)
     (marks : is_in j.phase Marking ≡ true) (none : j.may_be_none ≡ true) (count : ℕ) (may : may_end j count ≡ true)
-    (ends : Ends (mark_end j) (marks_begun j.ground B) g) where
+    (ends : EndsAll (mark_end j) (marks_begun j.ground B) g) where
   abbrev doomed : List ℕ
   doomed = doomed_at a
 
@@ -247,7 +247,7 @@ module _ (j : Judged) (g : Ground) (a : State) (stands : Stands j a) (fits : Are
   -- ---- what workers found
 
   told_here : Found → Found
-  told_here f = told (mark_end j) j.ground f
+  told_here f = told_found (mark_end j) j.ground f
 
   told_pending : (ws : List Finder)
       → map (λ (w : Finder). w.pending) (map (λ (w : Finder). told_each (mark_end j) j.ground w) ws)
@@ -256,7 +256,7 @@ module _ (j : Judged) (g : Ground) (a : State) (stands : Stands j a) (fits : Are
   told_pending (w ∷ ws) = ap (λ rest. w.pending ∷ rest) (told_pending ws)
 
   told_objects : (found : List Found)
-      → map (λ (f : Found). f.object) (map (λ (f : Found). told (mark_end j) j.ground f) found)
+      → map (λ (f : Found). f.object) (map (λ (f : Found). told_found (mark_end j) j.ground f) found)
       ≡ map (λ (f : Found). f.object) found
   told_objects [] = refl
   told_objects (f ∷ found) = ap (λ rest. f.object ∷ rest) (told_objects found)
@@ -307,7 +307,7 @@ module _ (j : Judged) (g : Ground) (a : State) (stands : Stands j a) (fits : Are
   told_all : (found : List Found) → ((n : ℕ) → has (map (λ (f : Found). f.object) found) n ≡ true
       → refers_into (dooms (mark_end j) j.ground.tags) (reference_at j.ground.heap n)
       ≡ has (new_clears objects doomed) n)
-      → AreToldCleared (new_clears objects doomed) (map (λ (f : Found). told (mark_end j) j.ground f) found)
+      → AreToldCleared (new_clears objects doomed) (map (λ (f : Found). told_found (mark_end j) j.ground f) found)
   told_all [] each = tt
   told_all (f ∷ found) each = (each f.object (grind arith), told_all found (λ n h. each n (grind arith)))
 
@@ -322,7 +322,7 @@ module _ (j : Judged) (g : Ground) (a : State) (stands : Stands j a) (fits : Are
         clears_so k n (ap (λ ns. has ns n) (sym (stands.finders.found (judging j a stands marks) k)) ∙ h)));
   }
 
-  pub stands_after : Stands (ended_judge j g) after
+  pub stands_after : StandsFor (ended_judge j g) after
   stands_after = record {
     lawful = lawful;
     heap = heap_same;
@@ -346,14 +346,14 @@ module _ (j : Judged) (g : Ground) (a : State) (stands : Stands j a) (fits : Are
 
   -- ---- the states that fit
 
-  left_same : (k : ℕ) → left_of (ended_judge j g) k ≡ refs_of a k
+  left_same : (k : ℕ) → still_left (ended_judge j g) k ≡ refs_of a k
   left_same k =
       ap (λ (w : Finder). drop w.at (map (λ (f : Found). f.object) w.found)) (finder_same k)
       ∙ told_objects (finder_at j k).found ∙ stands.finders.found (judging j a stands marks) k
 
   -- lists of which each may be what its worker found
   found_on : (t : State) → FitsFound (ended_to a) (refs_of a) false t
-      → FitsFound after (left_of (ended_judge j g)) false t
+      → FitsFound after (still_left (ended_judge j g)) false t
   found_on t fits = (
     fits.0,
     fits.1,
@@ -364,7 +364,7 @@ module _ (j : Judged) (g : Ground) (a : State) (stands : Stands j a) (fits : Are
     },
   )
 
-  found_back : (t : State) → FitsFound after (left_of (ended_judge j g)) false t
+  found_back : (t : State) → FitsFound after (still_left (ended_judge j g)) false t
       → FitsFound (ended_to a) (refs_of a) false t
   found_back t fits = (
     fits.0,
@@ -395,7 +395,7 @@ module _ (j : Judged) (g : Ground) (a : State) (stands : Stands j a) (fits : Are
 -- ---- the value
 
 -- it is settled
-pub settled_after : (j : Judged) (g : Ground) → IsSettled j → Ends (mark_end j) (marks_begun j.ground B) g
+pub settled_after : (j : Judged) (g : Ground) → IsSettled j → EndsAll (mark_end j) (marks_begun j.ground B) g
     → IsSettled (ended_judge j g)
 settled_after j g settled ends = record {
   none_grey = settled.none_grey;
@@ -413,14 +413,14 @@ settled_after j g settled ends = record {
 
 -- and tells of the row
 pub ended_tells : (j : Judged) (g : Ground) (count : ℕ) → is_in j.phase Marking ≡ true → j.may_be_none ≡ true
-    → may_end j count ≡ true → Ends (mark_end j) (marks_begun j.ground B) g
+    → may_end j count ≡ true → EndsAll (mark_end j) (marks_begun j.ground B) g
     → TellsOf j (record { step = Plain plain.EndMark; reply = replies.Doomed count }) (Ok tt) (ended_judge j g)
 ended_tells j g count marks none may ends =
     (refl, refl, λ a stands fits. leads_after j g a stands fits marks none count may ends)
 
 -- a mark that may not end so has no row
 pub ends_none : (j : Judged) (count : ℕ) → is_in j.phase Marking ≡ true
-    → (j.may_be_none && may_end j count) ≡ false → (a : State) → Stands j a
+    → (j.may_be_none && may_end j count) ≡ false → (a : State) → StandsFor j a
     → HasNone j (record { step = Plain plain.EndMark; reply = replies.Doomed count }) a
 ends_none j count marks refuses a stands s t here h =
     let facts = legal_facts j.profile j.config a stands.lawful in
@@ -458,9 +458,9 @@ found_changed f [] n o number at = absurd cc
 found_changed f (p ∷ os) n o number at = grind (arith, number p, found_changed f os n o number)
 
 -- nothing that is marked then refers to what isn't, and no slot names it
-module _ (j : Judged) (g : Ground) (a : State) (stands : Stands j a) (fits : AreLawful j a)
+module _ (j : Judged) (g : Ground) (a : State) (stands : StandsFor j a) (fits : AreLawful j a)
     (marks : is_in j.phase Marking ≡ true) (none : j.may_be_none ≡ true) (count : ℕ) (may : may_end j count ≡ true)
-    (ends : Ends (mark_end j) (marks_begun j.ground B) g) where
+    (ends : EndsAll (mark_end j) (marks_begun j.ground B) g) where
   off_all : IsOff j.profile a (doomed_at a)
   off_all = (ends_so j a stands marks count may).1
 

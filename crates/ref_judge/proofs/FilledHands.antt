@@ -24,8 +24,8 @@ use Rattle.ref_base.specs.declared.reply.Reply.{Reply}
 use Rattle.ref_base.specs.declared.reply.Reply.TheVariants as replies
 use Rattle.ref_base.specs.declared.step.Step.TheVariants as steps
 use Rattle.std.specs.Prelude.{Ok}
-use Rattle.ref_judge.specs.Judged.{Judged, has_hand, hand_at, with_hand_at, filling_refusal}
-use Rattle.ref_judge.specs.Standing.{Stands, DoesAs}
+use Rattle.ref_judge.specs.Judged.{Judged, has_carrier, hand_at, with_hand_at, free_hand_refusal}
+use Rattle.ref_judge.specs.Standing.{StandsFor, DoesAs}
 use Rattle.ref_judge.proofs.HandsAlike.{actor_same, hand_same, carried_same, with_hand_alike}
 use Rattle.ref_judge.proofs.SameObjects.{same_cut, holds_changed}
 use Rattle.ref_judge.proofs.SpentNotices.{slot_passes}
@@ -52,29 +52,29 @@ free_passes true [] later passes = refl
 free_passes true (notice ∷ rest) later passes = absurd cc
 free_passes false hand later passes = absurd cc
 
-module _ (j : Judged) (a : State) (stands : Stands j a) (who : Actor) (later : Option Fault) where
+module _ (j : Judged) (a : State) (stands : StandsFor j a) (who : Actor) (later : Option Fault) where
   filling_same : unless (is_actor a.world.heap who) NoSuchActor (unless_full (hand_of a.world who) None)
-      ≡ filling_refusal j.hands who
+      ≡ free_hand_refusal j.hands who
   filling_same =
       ap (λ test. unless test NoSuchActor (unless_full (hand_of a.world who) None)) (actor_same j a stands who)
-      ∙ ap (unless (has_hand j.hands who) NoSuchActor)
+      ∙ ap (unless (has_carrier j.hands who) NoSuchActor)
       (carried_same (hand_at j.hands who) (hand_of a.world who) None (hand_same j a stands who))
 
   -- a hand that isn't empty is refused first
-  pub filling_fails : (fault : Fault) → filling_refusal j.hands who ≡ Some fault
+  pub filling_fails : (fault : Fault) → free_hand_refusal j.hands who ≡ Some fault
       → unless (is_actor a.world.heap who) NoSuchActor (unless_full (hand_of a.world who) later) ≡ Some fault
   filling_fails fault fails =
       full_fails (is_actor a.world.heap who) (hand_of a.world who) fault later (filling_same ∙ fails)
 
   -- and for an empty one that refuses which comes later
-  pub filling_passes : filling_refusal j.hands who ≡ None
+  pub filling_passes : free_hand_refusal j.hands who ≡ None
       → unless (is_actor a.world.heap who) NoSuchActor (unless_full (hand_of a.world who) later) ≡ later
   filling_passes passes =
       free_passes (is_actor a.world.heap who) (hand_of a.world who) later (filling_same ∙ passes)
 
 -- ---- holds
 
-module _ (j : Judged) (a : State) (stands : Stands j a) where
+module _ (j : Judged) (a : State) (stands : StandsFor j a) where
   -- as many holds are out
   pub holds_spent : j.holds ≡ 2 ^ 64 - 1 → holds_refusal a.world.heap ≡ Some NumbersSpent
   holds_spent spent = let same = stands.holds in grind (arith, same, spent)
@@ -105,20 +105,20 @@ unhook_as : (h : Heap) (held : Option ℕ) (n : ℕ) (r : Reference) → held �
 unhook_as h None n r is reference = absurd cc
 unhook_as h (Some m) n r is reference = ap (minting_refusal h) reference
 
-module _ (j : Judged) (a : State) (stands : Stands j a) (m s : ℕ) (slot : drop_refusal j.ground.heap m s ≡ None)
+module _ (j : Judged) (a : State) (stands : StandsFor j a) (m s : ℕ) (slot : drop_refusal j.ground.heap m s ≡ None)
   where
     -- where the hand isn't empty
-    pub unhook_full : (fault : Fault) → filling_refusal j.hands (Mutator m) ≡ Some fault
+    pub unhook_full : (fault : Fault) → free_hand_refusal j.hands (Mutator m) ≡ Some fault
         → refusal a (steps.Unhook m s) ≡ Some fault
     unhook_full fault fails =
         slot_passes j a stands m s _ slot ∙ filling_fails j a stands (Mutator m) _ fault fails
 
-    unhook_free : filling_refusal j.hands (Mutator m) ≡ None
+    unhook_free : free_hand_refusal j.hands (Mutator m) ≡ None
         → refusal a (steps.Unhook m s) ≡ heap_refusal a (heap.Unhook m s)
     unhook_free passes = slot_passes j a stands m s _ slot ∙ filling_passes j a stands (Mutator m) _ passes
 
     -- where the slot has no reference
-    pub unhook_none : (fault : Fault) → filling_refusal j.hands (Mutator m) ≡ None
+    pub unhook_none : (fault : Fault) → free_hand_refusal j.hands (Mutator m) ≡ None
         → clear_refusal j.ground.heap m s ≡ Some fault → refusal a (steps.Unhook m s) ≡ Some fault
     unhook_none fault passes fails =
         let h : Heap = a.world.heap in
@@ -135,7 +135,7 @@ module _ (j : Judged) (a : State) (stands : Stands j a) (m s : ℕ) (slot : drop
       reference_held =
           sym (reference_of_same j a stands m s) ∙ ap (reference_of j.ground.heap) at ∙ is
 
-      pub unhook_refused : filling_refusal j.hands (Mutator m) ≡ None
+      pub unhook_refused : free_hand_refusal j.hands (Mutator m) ≡ None
           → refusal a (steps.Unhook m s) ≡ (if is_some r.queue then holds_refusal a.world.heap else None)
       unhook_refused passes =
           let h : Heap = a.world.heap in
@@ -164,7 +164,7 @@ config_cut h m s = config_changed h (slot_at h m s) (with_reference cleared)
 -- of a reference without a queue
 pub unhooked_plain : (old : Judged) (m s n : ℕ) (r : Reference) → drop_refusal old.ground.heap m s ≡ None
     → slot_at old.ground.heap m s ≡ Some n → reference_at old.ground.heap n ≡ Some r
-    → filling_refusal old.hands (Mutator m) ≡ None → r.queue ≡ None
+    → free_hand_refusal old.hands (Mutator m) ≡ None → r.queue ≡ None
     → DoesAs old (steps.Unhook m s) (Ok replies.Nothing)
     (handing old (cut old.ground.heap m s) old.holds old.hands old.workers)
 unhooked_plain old m s n r slot at is passes registered =
@@ -198,7 +198,7 @@ one_queue q = grind arith
 -- and of one with a queue, whose notice goes to the hand
 pub unhooked_registered : (old : Judged) (m s n q : ℕ) (r : Reference) → drop_refusal old.ground.heap m s ≡ None
     → slot_at old.ground.heap m s ≡ Some n → reference_at old.ground.heap n ≡ Some r
-    → filling_refusal old.hands (Mutator m) ≡ None → r.queue ≡ Some q → old.holds < 2 ^ 64 - 1
+    → free_hand_refusal old.hands (Mutator m) ≡ None → r.queue ≡ Some q → old.holds < 2 ^ 64 - 1
     → DoesAs old (steps.Unhook m s) (Ok (replies.Notice n q Own))
     (handing old (cut old.ground.heap m s) (old.holds + 1)
     (with_hand_at old.hands (Mutator m) (record { queue = q; objects = n ∷ [] })) old.workers)
@@ -207,7 +207,7 @@ unhooked_registered old m s n q r slot at is passes registered few =
     (with_hand_at old.hands (Mutator m) (record { queue = q; objects = n ∷ [] })) old.workers (λ k. refl)
     (steps.Unhook m s) (replies.Notice n q Own) tt (λ a. refl) on
   where
-    on : (a : State) → Stands old a
+    on : (a : State) → StandsFor old a
         → HandsOn (cut old.ground.heap m s) (old.holds + 1)
         (with_hand_at old.hands (Mutator m) (record { queue = q; objects = n ∷ [] })) old.workers old.profile
         (steps.Unhook m s) (replies.Notice n q Own) a

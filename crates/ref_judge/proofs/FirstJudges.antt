@@ -8,7 +8,7 @@ use Rattle.ref_base.specs.declared.config.Config.{Config}
 use Rattle.ref_objects.specs.Grounds.{first_ground}
 use Rattle.ref_judge.specs.Judged.{Judged, Finder, first_judged, no_hand, no_line, no_finder}
 use Rattle.ref_judge.specs.Judged.{AreHands, AreLines}
-use Rattle.ref_judge.specs.Standing.{Stands, IsSettled, IsSound, IsFirst}
+use Rattle.ref_judge.specs.Standing.{StandsFor, IsSettled, IsOfSomeState, IsNewJudge}
 use Rattle.ref_judge.specs.declared.profile.Profile.{Profile}
 
 hands_first : (count : ℕ) → AreHands (replicate count no_hand) (replicate count [])
@@ -32,7 +32,7 @@ module _ (p : Profile) (config : Config) where
   abbrev pub first_one : Judged
   first_one = first_judged p config (first_ground config 0 (record { obj = 1; cycle = 0; page = 1 }))
 
-  pub first_stands : Stands first_one (first_state config)
+  pub first_stands : StandsFor first_one (first_state config)
   first_stands = record {
     lawful = ([], refl);
     heap = refl;
@@ -78,7 +78,7 @@ module _ (p : Profile) (config : Config) where
     waits = λ clears. absurd (false≢true clears);
   }
 
-  pub first_sound : IsSound first_one
+  pub first_sound : IsOfSomeState first_one
   first_sound = record {
     settled = first_settled;
     state = first_state config;
@@ -86,7 +86,7 @@ module _ (p : Profile) (config : Config) where
     fits = λ s is. ([], is);
   }
 
-  pub first_is : IsFirst p config first_one
+  pub first_is : IsNewJudge p config first_one
   first_is = record {
     profile_is = refl;
     config_is = refl;

@@ -41,13 +41,14 @@ use Rattle.ref_objects.specs.Grounds.{MayGrow}
 use Rattle.ref_objects.specs.declared.stage.Stage.TheVariants.{Tuned}
 use Rattle.ref_space.specs.Tables.{Tag}
 use Rattle.ref_space.specs.Worklists.{Worklist}
-use Rattle.ref_judge.specs.Judged.{Judged, unheld, is_past_mark, is_put, is_going}
+use Rattle.ref_judge.specs.Judged.{Judged, unheld, is_behind_mark, is_put, is_going}
 use Rattle.ref_judge.specs.KeptBounds.{may_keep}
 use Rattle.ref_judge.specs.LeftCounts.{unmarked_if}
-use Rattle.ref_judge.specs.Policies.{under, policy_as}
+use Rattle.ref_judge.specs.Policies.{profiled, policy_as}
 use Rattle.ref_judge.specs.ProfiledRows.{IsRowAs, says_anew, AcceptsAnew, PlainAcceptsAs}
 use Rattle.ref_judge.specs.Spreading.{IsButMarks, Spread, HasGot}
-use Rattle.ref_judge.specs.Standing.{Stands, DoesAs, Leads, IsSettled, IsSound, KnowsKept, Lawful, DecidesAs}
+use Rattle.ref_judge.specs.Standing.{StandsFor, DoesAs, LeadsOne, IsSettled, IsOfSomeState, KnowsKept, Lawful}
+use Rattle.ref_judge.specs.Standing.{DecidesAs}
 use Rattle.ref_judge.specs.declared.profile.Profile.{Profile}
 use Rattle.ref_judge.proofs.BegunJudges.{worklist_same}
 use Rattle.ref_judge.proofs.SomeFits.{either_true}
@@ -179,7 +180,7 @@ slots_got h m d s (Some i) k is within =
 
 -- ---- what may be kept then
 
-module _ (old : Judged) (a : State) (stands : Stands old a) (m d s : ℕ) (value : Option ℕ) (h : Ground)
+module _ (old : Judged) (a : State) (stands : StandsFor old a) (m d s : ℕ) (value : Option ℕ) (h : Ground)
     (answers : value ≡ referent_got (reference_of a.world.heap (slot_at a.world.heap m s)))
     (within : 16 * m + d < length a.world.heap.slots) where
   facts : Facts old.config a
@@ -201,7 +202,7 @@ module _ (old : Judged) (a : State) (stands : Stands old a) (m d s : ℕ) (value
   module _ (marks : a.world.phase ≡ Marking) (start : Ground) (objects : start.heap.objects ≡ g.objects)
       (was : start.marked ≡ old.ground.marked) (none_doomed : a.doomed ≡ [])
       (spread : Spread keeps start (if_any value) h [])
-      (knows : Knows (λ n. has old.ground.marked n ≡ true) (under old.profile a)) where
+      (knows : Knows (λ n. has old.ground.marked n ≡ true) (profiled old.profile a)) where
     start_marked : (n : ℕ) → has start.marked n ≡ has old.ground.marked n
     start_marked n = ap (λ ns. has ns n) was
 
@@ -312,7 +313,7 @@ module _ (old : Judged) (a : State) (stands : Stands old a) (m d s : ℕ) (value
 
     knows_got : (b : State) (reply : Reply) → b.world.heap ≡ g → b.world.pending ≡ a.world.pending
         → plain_refusal a (plain.Get m d s) ≡ None → IsRowAs old.profile a (plain_row (plain.Get m d s) reply) b
-        → Knows (λ n. has h.marked n ≡ true) (under old.profile b)
+        → Knows (λ n. has h.marked n ≡ true) (profiled old.profile b)
     knows_got b reply heap pending none row =
         known_got_as old.profile (λ n. has old.ground.marked n ≡ true) a b marks knows
         (λ n. has h.marked n ≡ true) m d s reply wider closed
@@ -326,10 +327,10 @@ module _ (old : Judged) (a : State) (stands : Stands old a) (m d s : ℕ) (value
 
   stands_got : (moments : List Graph) (said left none : Bool) → h.heap ≡ got old.ground.heap m d s value
       → h.next ≡ old.ground.next → h.tags ≡ old.ground.tags
-      → (is_past_mark old.phase ≡ true → h.marked ≡ old.ground.marked)
+      → (is_behind_mark old.phase ≡ true → h.marked ≡ old.ground.marked)
       → KnowsKept (judge_got left none) (moved_to a g moments said)
       → Lawful old.profile old.config (moved_to a g moments said)
-      → Stands (judge_got left none) (moved_to a g moments said)
+      → StandsFor (judge_got left none) (moved_to a g moments said)
   stands_got moments said left none heap next tags marked kept lawful = record {
     lawful = lawful;
     heap = heap ∙ got_same old a stands m d s value;
@@ -464,7 +465,7 @@ module _ (old : Judged) (settled : IsSettled old) (m d s : ℕ) (value : Option 
       (and_parts (has_slot old.ground.heap m d) (nat_lt s 16)
       (unless_passes (has_slots old.ground.heap m d s) _ _ answered.refused).0).0
 
-  module _ (a : State) (stands : Stands old a) where
+  module _ (a : State) (stands : StandsFor old a) where
     answers_state : value ≡ referent_got (reference_of a.world.heap (slot_at a.world.heap m s))
     answers_state =
         answered.answer ∙ read_shown old.ground _
@@ -482,7 +483,7 @@ module _ (old : Judged) (settled : IsSettled old) (m d s : ℕ) (value : Option 
         (legal_facts old.profile old.config a stands.lawful).names.none_doomed
         (not_past a.world.phase (subst (λ (p : Phase). is_in p Marking ≡ true) stands.phase marks))
       where
-        not_past : (p : Phase) → is_in p Marking ≡ true → is_past_mark p ≡ false
+        not_past : (p : Phase) → is_in p Marking ≡ true → is_behind_mark p ≡ false
         not_past Marking is = refl
         not_past p is = absurd (false≢true is)
 
@@ -500,7 +501,7 @@ module _ (old : Judged) (settled : IsSettled old) (m d s : ℕ) (value : Option 
         → b.world.heap ≡ got a.world.heap m d s value → b.world.pending ≡ a.world.pending
         → IsRowAs old.profile a (plain_row (plain.Get m d s) reply) b
         → is_in old.phase Marking ≡ true → old.profile.keeps_more ≡ false
-        → Knows (λ n. has h.marked n ≡ true) (under old.profile b)
+        → Knows (λ n. has h.marked n ≡ true) (profiled old.profile b)
     kept_then h b reply has_got heap pending row marks less =
         knows_got old a stands m d s value h answers_state within_state (marks_of old a stands marks) start
         (objects_start marks) (ap (λ (x : Ground). x.marked) start_is) (none_out marks)
@@ -509,13 +510,13 @@ module _ (old : Judged) (settled : IsSettled old) (m d s : ℕ) (value : Option 
         (stands.kept marks less) b reply heap pending passes row
 
     module _ (h : Ground) (left none : Bool) (is_but : IsButMarks start h)
-        (marks_stay : is_past_mark old.phase ≡ true → h.marked ≡ start.marked) where
+        (marks_stay : is_behind_mark old.phase ≡ true → h.marked ≡ start.marked) where
       stands_then : (moments : List Graph) (said : Bool) (reply : Reply)
           → (is_in old.phase Marking ≡ true
           → HasGot old.profile.keeps_more (policy_as old.profile old.policy) value start h)
           → IsRowAs old.profile a (plain_row (plain.Get m d s) reply)
           (moved_to a (got a.world.heap m d s value) moments said)
-          → Stands (record old { ground = h; may_be_left = left; may_be_none = none })
+          → StandsFor (record old { ground = h; may_be_left = left; may_be_none = none })
           (moved_to a (got a.world.heap m d s value) moments said)
       stands_then moments said reply has_got row =
           stands_got old a stands m d s value h answers_state within_state moments said left none
@@ -531,7 +532,7 @@ module _ (old : Judged) (settled : IsSettled old) (m d s : ℕ) (value : Option 
 
     -- where nothing is said anew
     leads_plain : (is_some value && is_in old.phase Marking) ≡ false
-        → Leads old (Plain (plain.Get m d s)) (Ok (value_reply value)) (record old { ground = start }) a
+        → LeadsOne old (Plain (plain.Get m d s)) (Ok (value_reply value)) (record old { ground = start }) a
     leads_plain plainly =
         let step : PlainStep = plain.Get m d s in
         let g : Heap = got a.world.heap m d s value in
@@ -565,7 +566,7 @@ module _ (old : Judged) (settled : IsSettled old) (m d s : ℕ) (value : Option 
         → HasGot old.profile.keeps_more (policy_as old.profile old.policy) value start h
         → left ≡ nat_lt (h.next + old.scanned + unmarked_if old.profile.keeps_more h)
         (length h.heap.objects + old.born)
-        → Leads old (Plain (plain.Get m d s)) (Ok (replies.Object n))
+        → LeadsOne old (Plain (plain.Get m d s)) (Ok (replies.Object n))
         (record old { ground = h; may_be_left = left; may_be_none = true }) a
     leads_said n h left is marks has_got counts =
         let step : PlainStep = plain.Get m d s in
@@ -581,13 +582,13 @@ module _ (old : Judged) (settled : IsSettled old) (m d s : ℕ) (value : Option 
         PlainAcceptsAs old.profile a step (replies.Object n)
         (moved_to a (got a.world.heap m d s v) (ticked (on_heap a (got a.world.heap m d s v))).moments false)) (sym is)
         (row_got old.profile a m d s n (sym answers_state ∙ is) now)) in
-        let stands_now : Stands new b =
+        let stands_now : StandsFor new b =
         stands_then h left true has_got.same (λ past. absurd (no_mark old.phase past marks)) moments false
         (replies.Object n) (λ x. has_got) row in
         leads_anew old new a b (Plain step) (Ok (replies.Object n)) row stands_now (simp now refl) refl
         (subst (λ (bit : Bool). DecidesAs old.profile bit b) (sym counts) (left_decides new b stands_now marks))
       where
-        no_mark : (p : Phase) → is_past_mark p ≡ true → is_in p Marking ≡ true → ⊥
+        no_mark : (p : Phase) → is_behind_mark p ≡ true → is_in p Marking ≡ true → ⊥
         no_mark Marking past is = false≢true past
         no_mark p past is = false≢true is
 
@@ -664,15 +665,15 @@ module _ (old : Judged) (settled : IsSettled old) (m d s : ℕ) (value : Option 
         (record old { ground = h; grey = l; may_be_left = left; may_be_none = true }))
         (sym (worklist_same old.grey grey settled.none_grey none_grey room)) (said_of value refl parts.0)
 
-    pub got_sound : IsSound old
-        → IsSound (record old { ground = h; grey = grey; may_be_left = left; may_be_none = true })
+    pub got_sound : IsOfSomeState old
+        → IsOfSomeState (record old { ground = h; grey = grey; may_be_left = left; may_be_none = true })
     got_sound sound =
         let new : Judged = record old { ground = h; grey = grey; may_be_left = left; may_be_none = true } in
         sound_after old new (Plain (plain.Get m d s)) (Ok (value_reply value)) refl sound gets_anew_to
         (settled_got h grey left true none_grey room has_got.same (λ marks. either_true left))
 
-  pub plainly_sound : (is_some value && is_in old.phase Marking) ≡ false → IsSound old
-      → IsSound (record old { ground = start })
+  pub plainly_sound : (is_some value && is_in old.phase Marking) ≡ false → IsOfSomeState old
+      → IsOfSomeState (record old { ground = start })
   plainly_sound plainly sound =
       sound_after old (record old { ground = start }) (Plain (plain.Get m d s)) (Ok (value_reply value)) refl sound
       (gets_to plainly)

@@ -20,9 +20,9 @@ use Rattle.ref_base.specs.declared.heap_step.HeapStep.TheVariants as heap
 use Rattle.ref_base.specs.declared.reply.Reply.{Reply}
 use Rattle.ref_base.specs.declared.reply.Reply.TheVariants as replies
 use Rattle.ref_base.specs.declared.step.Step.TheVariants as steps
-use Rattle.ref_judge.specs.Judged.{Judged, Finder, has_hand, hand_at, with_hand_at, finder_at, filling_refusal}
+use Rattle.ref_judge.specs.Judged.{Judged, Finder, has_carrier, hand_at, with_hand_at, finder_at, free_hand_refusal}
 use Rattle.ref_judge.specs.Judged.{fitting_refusal}
-use Rattle.ref_judge.specs.Standing.{Stands, DoesAs, IsSound}
+use Rattle.ref_judge.specs.Standing.{StandsFor, DoesAs, IsOfSomeState}
 use Rattle.ref_judge.proofs.FilledHands.{filling_fails, filling_passes}
 use Rattle.ref_judge.proofs.HandsAlike.{actor_same, hand_same, count_same}
 use Rattle.ref_judge.proofs.HandedOn.{pending_same, finder_read, pends_none, pends_first, worker_there, worker_is}
@@ -46,14 +46,14 @@ fits_passes true true later passes = refl
 fits_passes true false later passes = absurd cc
 fits_passes false fit later passes = absurd cc
 
-module _ (j : Judged) (a : State) (stands : Stands j a) (who : Actor) (max : ℕ) (later : Option Fault) where
+module _ (j : Judged) (a : State) (stands : StandsFor j a) (who : Actor) (max : ℕ) (later : Option Fault) where
   fitting_same : unless (is_actor a.world.heap who) NoSuchActor
       (unless (fits max (length (hand_of a.world who))) BadConfig None)
       ≡ fitting_refusal j.hands who max
   fitting_same =
       ap (λ test. unless test NoSuchActor (unless (fits max (length (hand_of a.world who))) BadConfig None))
       (actor_same j a stands who)
-      ∙ ap (λ held. unless (has_hand j.hands who) NoSuchActor (unless (fits max held) BadConfig None))
+      ∙ ap (λ held. unless (has_carrier j.hands who) NoSuchActor (unless (fits max held) BadConfig None))
       (count_same (hand_at j.hands who) (hand_of a.world who) (hand_same j a stands who))
 
   -- too many, or none, are refused
@@ -84,20 +84,20 @@ module _ (j : Judged) (k max : ℕ) (fit : fitting_refusal j.hands (Worker k) ma
   pub fit_is : fits max (length (hand_at j.hands (Worker k)).objects) ≡ true
   fit_is =
       (unless_passes (fits max (length (hand_at j.hands (Worker k)).objects)) BadConfig None
-      (unless_passes (has_hand j.hands (Worker k)) NoSuchActor _ fit).1).0
+      (unless_passes (has_carrier j.hands (Worker k)) NoSuchActor _ fit).1).0
 
   pub fit_some : (1 ≤ max) × (max ≤ 32)
   fit_some = fits_some max (length (hand_at j.hands (Worker k)).objects) fit_is
 
-  module _ (a : State) (stands : Stands j a) where
+  module _ (a : State) (stands : StandsFor j a) where
     -- where the hand isn't empty
-    pub hands_full : (fault : Fault) → filling_refusal j.hands (Worker k) ≡ Some fault
+    pub hands_full : (fault : Fault) → free_hand_refusal j.hands (Worker k) ≡ Some fault
         → refusal a (steps.Hands k max) ≡ Some fault
     hands_full fault fails =
         fitting_passes j a stands (Worker k) max _ fit ∙ filling_fails j a stands (Worker k) _ fault fails
 
     -- and where it is
-    pub hands_refused : filling_refusal j.hands (Worker k) ≡ None
+    pub hands_refused : free_hand_refusal j.hands (Worker k) ≡ None
         → refusal a (steps.Hands k max) ≡ hands_refusal (batch_of max (finder_at j k).pending) a.world.heap
     hands_refused free =
         let ps : List Pending = batch_of max (pending_of a.world k) in
@@ -138,7 +138,7 @@ given_nothing a k max none =
     (ticked (with_world a a.world))) (sym none) (refl, refl)
 
 module _ (old : Judged) (k max : ℕ) (fit : fitting_refusal old.hands (Worker k) max ≡ None)
-    (free : filling_refusal old.hands (Worker k) ≡ None) where
+    (free : free_hand_refusal old.hands (Worker k) ≡ None) where
   none_given : (finder_at old k).pending ≡ []
       → DoesAs old (steps.Hands k max) (Ok replies.Nothing)
       (handing old old.ground.heap old.holds old.hands old.workers)
@@ -158,7 +158,7 @@ module _ (old : Judged) (k max : ℕ) (fit : fitting_refusal old.hands (Worker k
 
   module _ (p : Pending) (qs ps rest : List Pending) (pends : (finder_at old k).pending ≡ qs)
       (batch : batch_of max qs ≡ p ∷ ps) (front : qs ≡ (p ∷ ps) ++ rest) where
-    batch_refused : (a : State) → Stands old a
+    batch_refused : (a : State) → StandsFor old a
         → refusal a (steps.Hands k max) ≡ hands_refusal (p ∷ ps) a.world.heap
     batch_refused a stands =
         hands_refused old k max fit a stands free
@@ -201,9 +201,9 @@ rest_at j k = drop 1 (finder_at j k).pending
 abbrev tail_of : Pending → ℕ → List Pending → List Pending
 tail_of p max rest = take (max - 1) (front_with p rest)
 
-module _ (old : Judged) (sound : IsSound old) (k i max : ℕ) (same : i ≡ k)
+module _ (old : Judged) (sound : IsOfSomeState old) (k i max : ℕ) (same : i ≡ k)
     (fit : fitting_refusal old.hands (Worker k) max ≡ None)
-    (free : filling_refusal old.hands (Worker k) ≡ None) (f : Finder) (read : f ≡ get_or old.workers i f)
+    (free : free_hand_refusal old.hands (Worker k) ≡ None) (f : Finder) (read : f ≡ get_or old.workers i f)
     (o : Option Pending) (first : o ≡ first_of f.pending) where
   is : f ≡ finder_at old k
   is = finder_read old k i f same (worker_there old k sound free) read

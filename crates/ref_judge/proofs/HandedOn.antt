@@ -25,10 +25,10 @@ use Rattle.ref_base.specs.declared.reply.Reply.{Reply}
 use Rattle.ref_base.specs.declared.reply.Reply.TheVariants as replies
 use Rattle.ref_base.specs.declared.step.Step.{Step}
 use Rattle.ref_base.specs.declared.step.Step.TheVariants as steps
-use Rattle.ref_judge.specs.Judged.{Judged, Finder, Hands, has_hand, with_hand_at, finder_at, no_finder}
-use Rattle.ref_judge.specs.Judged.{filling_refusal}
+use Rattle.ref_judge.specs.Judged.{Judged, Finder, AllHands, has_carrier, with_hand_at, finder_at, no_finder}
+use Rattle.ref_judge.specs.Judged.{free_hand_refusal}
 use Rattle.ref_judge.specs.ProfiledRows.{HeapAcceptsAs}
-use Rattle.ref_judge.specs.Standing.{Stands, DoesAs, IsSound}
+use Rattle.ref_judge.specs.Standing.{StandsFor, DoesAs, IsOfSomeState}
 use Rattle.ref_judge.proofs.FilledHands.{length-one_more, filling_passes, holds_left, holds_spent}
 use Rattle.ref_judge.proofs.HandsAlike.{AreAlike, actor_same, workers_same, sizes, with_hand_alike}
 use Rattle.ref_judge.proofs.SameObjects.{same_itself}
@@ -93,7 +93,7 @@ set_pending (f ∷ workers) zero (suc i) rest = refl
 set_pending (f ∷ workers) (suc k) zero rest = refl
 set_pending (f ∷ workers) (suc k) (suc i) rest = set_pending workers k i rest
 
-module _ (j : Judged) (a : State) (stands : Stands j a) where
+module _ (j : Judged) (a : State) (stands : StandsFor j a) where
   pub pending_same : (k : ℕ) → pending_of a.world k ≡ (finder_at j k).pending
   pending_same k =
       ap (λ (all : List (List Pending)). slice_index_or all k []) (sym stands.finders.pending) ∙ pending_at j.workers k
@@ -106,10 +106,11 @@ module _ (j : Judged) (a : State) (stands : Stands j a) where
       ∙ sym (ap (λ c. c.workers) (sizes j a stands).config_is) ∙ sym (workers_same j a stands)
 
 -- a worker that has a hand is there
-pub worker_there : (j : Judged) (k : ℕ) → IsSound j → filling_refusal j.hands (Worker k) ≡ None → k < length j.workers
+pub worker_there : (j : Judged) (k : ℕ) → IsOfSomeState j → free_hand_refusal j.hands (Worker k) ≡ None
+    → k < length j.workers
 worker_there j k sound none =
     subst (λ count. k < count) (sym (finders_count j sound.state sound.stands))
-    (ltb-true k (length j.hands.workers) (unless_passes (has_hand j.hands (Worker k)) NoSuchActor _ none).0)
+    (ltb-true k (length j.hands.workers) (unless_passes (has_carrier j.hands (Worker k)) NoSuchActor _ none).0)
 
 -- the worker that is read is that one
 pub finder_read : (j : Judged) (k i : ℕ) (f : Finder) → i ≡ k → k < length j.workers → f ≡ get_or j.workers i f
@@ -134,7 +135,7 @@ pends_first (q ∷ ps) p first = ap (λ x. x ∷ ps) (same first)
 abbrev pub with_rest_pending : Judged → ℕ → List Pending → List Finder
 with_rest_pending j k rest = slice_set j.workers k (record (finder_at j k) { pending = rest })
 
-abbrev pub with_batch : Judged → ℕ → Pending → List Pending → Hands
+abbrev pub with_batch : Judged → ℕ → Pending → List Pending → AllHands
 with_batch j k p ps =
     with_hand_at j.hands (Worker k) (record { queue = p.queue; objects = map (λ (x : Pending). x.object) ps })
 
@@ -143,7 +144,7 @@ module _ (old : Judged) (k : ℕ) (p : Pending) (ps rest : List Pending) (step :
     (told : told_notices reply ≡ map (notice_from k) (p ∷ ps))
     (one : list_all (λ (x : Notice). x.queue == p.queue) (told_notices reply) ≡ true)
     (hands_are : (w : World) → handed w step reply ≡ taking w (Worker k) (told_notices reply)) where
-  pub hands_on : (a : State) → Stands old a → refusal a step ≡ None → heap_step a.world step ≡ Some asked
+  pub hands_on : (a : State) → StandsFor old a → refusal a step ≡ None → heap_step a.world step ≡ Some asked
       → HeapAcceptsAs old.profile a asked reply
       (ticked (with_world a (handed_each a.world k (map (notice_from k) (p ∷ ps)))))
       → GivesOn old.ground.heap (old.holds + length (p ∷ ps)) (with_batch old k p (p ∷ ps))
@@ -191,9 +192,10 @@ module _ (old : Judged) (k : ℕ) (p : Pending) (ps rest : List Pending) (step :
 
 -- ---- a hand of one
 
-module _ (j : Judged) (a : State) (stands : Stands j a) (k : ℕ) (free : filling_refusal j.hands (Worker k) ≡ None) where
+module _ (j : Judged) (a : State) (stands : StandsFor j a) (k : ℕ)
+    (free : free_hand_refusal j.hands (Worker k) ≡ None) where
   pub worker_is : is_worker a.world.heap k ≡ true
-  worker_is = actor_same j a stands (Worker k) ∙ (unless_passes (has_hand j.hands (Worker k)) NoSuchActor _ free).0
+  worker_is = actor_same j a stands (Worker k) ∙ (unless_passes (has_carrier j.hands (Worker k)) NoSuchActor _ free).0
 
   pub hand_refused : refusal a (steps.Hand k) ≡ hand_refusal (finder_at j k).pending a.world.heap
   hand_refused =
@@ -207,7 +209,8 @@ nothing_given a k none =
     subst (λ (ps : List Pending). HandsOn a k (one_handed k (take 1 ps)) (take 1 ps) replies.Nothing
     (ticked (with_world a a.world))) (sym none) (refl, refl)
 
-pub nothing_passes : (old : Judged) (a : State) → Stands old a → Passes old.ground.heap old.holds old.workers a a.world
+pub nothing_passes : (old : Judged) (a : State) → StandsFor old a
+    → Passes old.ground.heap old.holds old.workers a a.world
 nothing_passes old a stands = record {
   heap = stands.heap;
   same = same_itself a.world.heap;
@@ -219,7 +222,7 @@ nothing_passes old a stands = record {
   policy = refl;
 }
 
-pub handed_nothing : (old : Judged) (k : ℕ) → filling_refusal old.hands (Worker k) ≡ None
+pub handed_nothing : (old : Judged) (k : ℕ) → free_hand_refusal old.hands (Worker k) ≡ None
     → (finder_at old k).pending ≡ []
     → DoesAs old (steps.Hand k) (Ok replies.Nothing)
     (handing old old.ground.heap old.holds old.hands old.workers)
@@ -238,7 +241,7 @@ handed_nothing old k free none =
 
 -- one is handed on
 pub handed_one : (old : Judged) (k : ℕ) (p : Pending) (rest : List Pending)
-    → filling_refusal old.hands (Worker k) ≡ None → (finder_at old k).pending ≡ p ∷ rest → old.holds < 2 ^ 64 - 1
+    → free_hand_refusal old.hands (Worker k) ≡ None → (finder_at old k).pending ≡ p ∷ rest → old.holds < 2 ^ 64 - 1
     → DoesAs old (steps.Hand k) (Ok (replies.Notice p.object p.queue (Cycle p.cycle k)))
     (handing old old.ground.heap (old.holds + 1) (with_batch old k p (p ∷ [])) (with_rest_pending old k rest))
 handed_one old k p rest free pends few =
@@ -259,7 +262,7 @@ handed_one old k p rest free pends few =
     own q = grind arith
 
 -- where no more holds can be counted
-pub hand_spent : (j : Judged) (a : State) → Stands j a → (k : ℕ) → filling_refusal j.hands (Worker k) ≡ None
+pub hand_spent : (j : Judged) (a : State) → StandsFor j a → (k : ℕ) → free_hand_refusal j.hands (Worker k) ≡ None
     → (p : Pending) → first_of (finder_at j k).pending ≡ Some p → j.holds ≡ 2 ^ 64 - 1
     → refusal a (steps.Hand k) ≡ Some NumbersSpent
 hand_spent j a stands k free p first spent =
@@ -268,8 +271,8 @@ hand_spent j a stands k free p first spent =
     ∙ holds_spent j a stands spent
 
 -- what is read of a worker, with these pending, leaves the rest
-pub same_read : (j : Judged) (k i : ℕ) → i ≡ k → IsSound j → filling_refusal j.hands (Worker k) ≡ None → (f : Finder)
-    → f ≡ get_or j.workers i f → (rest : List Pending)
+pub same_read : (j : Judged) (k i : ℕ) → i ≡ k → IsOfSomeState j → free_hand_refusal j.hands (Worker k) ≡ None
+    → (f : Finder) → f ≡ get_or j.workers i f → (rest : List Pending)
     → AreSameFinders j (slice_set j.workers i (record f { pending = rest }))
 same_read j k i same sound free f read rest =
     let is : f ≡ finder_at j k = finder_read j k i f same (worker_there j k sound free) read in
@@ -280,8 +283,8 @@ same_read j k i same sound free f read rest =
 
 -- ---- as a worker is read
 
-module _ (old : Judged) (sound : IsSound old) (k i : ℕ) (same : i ≡ k)
-    (free : filling_refusal old.hands (Worker k) ≡ None) (f : Finder) (read : f ≡ get_or old.workers i f)
+module _ (old : Judged) (sound : IsOfSomeState old) (k i : ℕ) (same : i ≡ k)
+    (free : free_hand_refusal old.hands (Worker k) ≡ None) (f : Finder) (read : f ≡ get_or old.workers i f)
     (o : Option Pending) (first : o ≡ first_of f.pending) where
   read_first : first_of (finder_at old k).pending ≡ o
   read_first =

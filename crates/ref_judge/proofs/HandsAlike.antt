@@ -7,9 +7,9 @@ use Rattle.ref_base.specs.Refusals.{unless_full, empty_hand_refusal}
 use Rattle.ref_base.specs.declared.actor.Actor.{Actor}
 use Rattle.ref_base.specs.declared.actor.Actor.TheVariants.{Mutator, Worker}
 use Rattle.ref_base.specs.declared.fault.Fault.{Fault}
-use Rattle.ref_judge.specs.Judged.{Judged, Hands, no_hand, has_hand, hand_at, with_hand_at, IsHand, AreHands}
+use Rattle.ref_judge.specs.Judged.{Judged, AllHands, no_hand, has_carrier, hand_at, with_hand_at, IsHand, AreHands}
 use Rattle.ref_judge.specs.Judged.{with_rest_at, unless_carried, unless_nothing}
-use Rattle.ref_judge.specs.Standing.{Stands, IsSound}
+use Rattle.ref_judge.specs.Standing.{StandsFor, IsOfSomeState}
 use Rattle.ref_judge.specs.declared.hand.Hand.{Hand}
 use Rattle.ref_judge.proofs.LegalFacts.{legal_facts, HasSizes}
 
@@ -41,16 +41,16 @@ set_alike (h ∷ hands) (other ∷ held) (suc i) hand notices are is =
 -- ---- everybody's
 
 -- the hands are those of the world
-pub record AreAlike (hands : Hands) (w : World) : Type 0 where
+pub record AreAlike (hands : AllHands) (w : World) : Type 0 where
   pub mutators : AreHands hands.mutators w.mutator_hands
   pub workers : AreHands hands.workers w.worker_hands
 
-pub hand_is : (hands : Hands) (w : World) (who : Actor) → AreAlike hands w
+pub hand_is : (hands : AllHands) (w : World) (who : Actor) → AreAlike hands w
     → IsHand (hand_at hands who) (hand_of w who)
 hand_is hands w (Mutator m) are = hand_alike_at hands.mutators w.mutator_hands m are.mutators
 hand_is hands w (Worker k) are = hand_alike_at hands.workers w.worker_hands k are.workers
 
-pub with_hand_alike : (hands : Hands) (w : World) (who : Actor) (hand : Hand) (notices : List Notice)
+pub with_hand_alike : (hands : AllHands) (w : World) (who : Actor) (hand : Hand) (notices : List Notice)
     → AreAlike hands w → IsHand hand notices → AreAlike (with_hand_at hands who hand) (with_hand w who notices)
 with_hand_alike hands w (Mutator m) hand notices are is = record {
   mutators = set_alike hands.mutators w.mutator_hands m hand notices are.mutators is;
@@ -71,7 +71,7 @@ rest_alike hand (notice ∷ rest) is = (
       is.1).1,
 )
 
-pub with_rest_alike : (hands : Hands) (w : World) (who : Actor) → AreAlike hands w
+pub with_rest_alike : (hands : AllHands) (w : World) (who : Actor) → AreAlike hands w
     → AreAlike (with_rest_at hands who) (with_rest w who)
 with_rest_alike hands w who are =
     with_hand_alike hands w who (record (hand_at hands who) { objects = rest_of (hand_at hands who).objects })
@@ -99,7 +99,7 @@ count_same hand notices is = sym (count_objects notices) ∙ ap length is.0
 
 -- ---- of a judge
 
-module _ (j : Judged) (a : State) (stands : Stands j a) where
+module _ (j : Judged) (a : State) (stands : StandsFor j a) where
   pub are_alike : AreAlike j.hands a.world
   are_alike = record { mutators = stands.mutator_hands; workers = stands.worker_hands }
 
@@ -117,7 +117,7 @@ module _ (j : Judged) (a : State) (stands : Stands j a) where
       hands_length j.hands.workers a.world.worker_hands stands.worker_hands ∙ sizes.workers
       ∙ sym (ap (λ c. c.workers) sizes.config_is)
 
-  pub actor_same : (who : Actor) → is_actor a.world.heap who ≡ has_hand j.hands who
+  pub actor_same : (who : Actor) → is_actor a.world.heap who ≡ has_carrier j.hands who
   actor_same (Mutator m) = ap (nat_lt m) (sym mutators_same)
   actor_same (Worker k) = ap (nat_lt k) (sym workers_same)
 
@@ -126,6 +126,6 @@ module _ (j : Judged) (a : State) (stands : Stands j a) where
   hand_same who = hand_is j.hands a.world who are_alike
 
 -- a judge has as many hands of mutators as its configuration says
-pub sound_mutators : (j : Judged) → IsSound j → length j.hands.mutators ≡ j.config.mutators
+pub sound_mutators : (j : Judged) → IsOfSomeState j → length j.hands.mutators ≡ j.config.mutators
 sound_mutators j sound =
     mutators_same j sound.state sound.stands ∙ ap (λ c. c.mutators) (sizes j sound.state sound.stands).config_is

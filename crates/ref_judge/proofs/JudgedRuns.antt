@@ -6,7 +6,8 @@ use Rattle.ref_base.specs.declared.config.Config.{Config}
 use Rattle.ref_base.specs.declared.row.Row.{Row}
 use Rattle.ref_judge.specs.Judged.{Judged}
 use Rattle.ref_judge.specs.ProfiledRows.{IsRowAs, IsRunAs, IsLegalAs}
-use Rattle.ref_judge.specs.Standing.{Stands, FitsIt, LeadsOn, HasNone, IsFirst, Lawful, AreLawful, TellsOf, IsSettled}
+use Rattle.ref_judge.specs.Standing.{StandsFor, FitsIt, LeadsOn, HasNone, IsNewJudge, Lawful, AreLawful, TellsOf}
+use Rattle.ref_judge.specs.Standing.{IsSettled}
 use Rattle.ref_judge.specs.declared.stop.Stop.{Stop}
 use Rattle.std.specs.Prelude.{Err}
 use Rattle.ref_judge.specs.declared.profile.Profile.{Profile}
@@ -17,7 +18,7 @@ pub record HasTaken (p : Profile) (config : Config) (rows : List Row) (j : Judge
   pub config_is : j.config ≡ config
   pub settled : IsSettled j
   pub state : State
-  pub stands : Stands j state
+  pub stands : StandsFor j state
   pub on : (b : State) → IsRunAs p (first_state config) rows b → FitsIt j state b
   pub back : (b : State) → FitsIt j state b → IsRunAs p (first_state config) rows b
 
@@ -35,7 +36,7 @@ run_apart leads x z (first ∷ es) e run =
     let rest = run_apart leads run.0 z es e run.2 in (rest.0, (run.0, run.1, rest.1), rest.2)
 
 -- a new judge took none
-pub taken_first : (p : Profile) (config : Config) (j : Judged) → IsFirst p config j → HasTaken p config [] j
+pub taken_first : (p : Profile) (config : Config) (j : Judged) → IsNewJudge p config j → HasTaken p config [] j
 taken_first p config j first = record {
   profile = first.profile_is;
   config_is = first.config_is;
@@ -111,6 +112,6 @@ all_taken (first ∷ rows) (suc place) out = grind (arith, all_taken rows place)
 
 -- what is told of an illegal row
 pub told_illegal : (old new : Judged) (row : Row) (stop : Stop) → stop ≡ Stop.Illegal
-    → TellsOf old row (Err stop) new → (a : State) → Stands old a → HasNone old row a
+    → TellsOf old row (Err stop) new → (a : State) → StandsFor old a → HasNone old row a
 told_illegal old new row Stop.Illegal is tells = tells
 told_illegal old new row Stop.NoMemory is tells = absurd cc

@@ -21,7 +21,7 @@ use Rattle.ref_judge.specs.KeptBounds.{may_keep}
 use Rattle.ref_judge.specs.ProfiledRows.{IsRowAs}
 use Rattle.ref_judge.specs.declared.profile.Profile.{Profile}
 use Rattle.ref_judge.proofs.UnchangedRows.{plain_accepted_as}
-use Rattle.ref_judge.proofs.OtherPolicies.{under, policy_as, kept_under}
+use Rattle.ref_judge.proofs.OtherPolicies.{profiled, policy_as, kept_under}
 use Rattle.ref_judge.proofs.KnownRows.{mutator_row_under}
 
 -- what is closed under more is closed under less
@@ -42,7 +42,7 @@ module _ (p : Profile) (V : ℕ → Type 0) (a b : State) where
       → ((n : ℕ) → is_there a.world.heap.objects n ≡ true → n < a.next)
       → ((n : ℕ) → V n → EndsPath (may_keep p b.world.policy) (graph_of b.world) n)
       → IsClosed (may_keep p b.world.policy) V b.world → plain_refusal a (plain.Begin now how) ≡ None
-      → IsRowAs p a (plain_row (plain.Begin now how) reply) b → Knows V (under p b)
+      → IsRowAs p a (plain_row (plain.Begin now how) reply) b → Knows V (profiled p b)
   known_begun_as now how reply below kept closed none h =
       let (c, given, but) = plain_accepted_as p a b (plain.Begin now how) reply none h in
       let first : State = ticked (begun_to a now how) in
@@ -71,7 +71,7 @@ module _ (p : Profile) (V : ℕ → Type 0) (a b : State) where
             targets = under_closed.targets;
           };
         },
-        seen_same V c (under p b) (
+        seen_same V c (profiled p b) (
           ap (λ (s : State). s.scanned) but.1,
           ap (λ (s : State). s.born) but.1,
           ap (λ (s : State). numbers s.world.heap.objects) but.1,
@@ -79,7 +79,7 @@ module _ (p : Profile) (V : ℕ → Type 0) (a b : State) where
             (seen_begun V a c now how reply below given),
       )
 
-module _ (p : Profile) (V : ℕ → Type 0) (a b : State) (marks : a.world.phase ≡ Marking) (knows : Knows V (under p a))
+module _ (p : Profile) (V : ℕ → Type 0) (a b : State) (marks : a.world.phase ≡ Marking) (knows : Knows V (profiled p a))
   where
     -- a get brings what it answers, and what paths of what may be kept lead to from there
     pub known_got_as : (more : ℕ → Type 0) (m d s : ℕ) (reply : Reply) → ((n : ℕ) → V n → more n)
@@ -87,13 +87,13 @@ module _ (p : Profile) (V : ℕ → Type 0) (a b : State) (marks : a.world.phase
         → OfValue more (referent_got (reference_of a.world.heap (slot_at a.world.heap m s)))
         → ((n : ℕ) → more n → V n ⊎ EndsPath (may_keep p a.world.policy) (graph_of b.world) n)
         → plain_refusal a (plain.Get m d s) ≡ None → IsRowAs p a (plain_row (plain.Get m d s) reply) b
-        → Knows more (under p b)
+        → Knows more (profiled p b)
     known_got_as more m d s reply wider closed got old_or_now none h =
         let may : Allowed = may_keep p a.world.policy in
         let keeps : Allowed = is_kept (policy_as p a.world.policy) in
         let narrow : IsClosed keeps more a.world =
         closed_by keeps may more a.world (λ r is. sym (kept_under p a.world.policy r) ∙ is) closed in
-        known_got V (under p a) (under p b) marks knows more m d s reply wider
+        known_got V (profiled p a) (profiled p b) marks knows more m d s reply wider
         (record {
           slots = closed.slots;
           holds = closed.holds;
@@ -112,16 +112,16 @@ module _ (p : Profile) (V : ℕ → Type 0) (a b : State) (marks : a.world.phase
     -- a making brings the new object
     pub known_new_as : (m d k : ℕ) (reply : Reply) → is_there a.world.heap.objects a.next ≡ false
         → 16 * m + d < length a.world.heap.slots → plain_refusal a (plain.New m d k) ≡ None
-        → IsRowAs p a (plain_row (plain.New m d k) reply) b → Knows (WithNext V a) (under p b)
+        → IsRowAs p a (plain_row (plain.New m d k) reply) b → Knows (WithNext V a) (profiled p b)
     known_new_as m d k reply new within none h =
-        known_new V (under p a) (under p b) marks knows m d k reply new within none
+        known_new V (profiled p a) (profiled p b) marks knows m d k reply new within none
         (mutator_row_under p a b (plain.New m d k) reply tt none h)
 
     -- and so does one of a reference
     pub known_refer_as : (m : ℕ) (strength : Strength) (d s : ℕ) (q : Option ℕ) (k : ℕ) (reply : Reply)
         → is_there a.world.heap.objects a.next ≡ false → 16 * m + d < length a.world.heap.slots
         → plain_refusal a (plain.Refer m strength d s q k) ≡ None
-        → IsRowAs p a (plain_row (plain.Refer m strength d s q k) reply) b → Knows (WithNext V a) (under p b)
+        → IsRowAs p a (plain_row (plain.Refer m strength d s q k) reply) b → Knows (WithNext V a) (profiled p b)
     known_refer_as m strength d s q k reply new within none h =
-        known_refer V (under p a) (under p b) marks knows m strength d s q k reply new within none
+        known_refer V (profiled p a) (profiled p b) marks knows m strength d s q k reply new within none
         (mutator_row_under p a b (plain.Refer m strength d s q k) reply tt none h)

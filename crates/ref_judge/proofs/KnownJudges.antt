@@ -8,9 +8,9 @@ use Rattle.ref_base.proofs.ApartWorlds.{OfValue}
 use Rattle.ref_base.proofs.CarryRows.{all_more}
 use Rattle.ref_base.specs.Worlds.{Pending, pending_of}
 use Rattle.ref_judge.specs.Judged.{Judged}
-use Rattle.ref_judge.specs.Policies.{under}
+use Rattle.ref_judge.specs.Policies.{profiled}
 use Rattle.ref_judge.specs.ProfiledRows.{IsRowAs}
-use Rattle.ref_judge.specs.Standing.{Stands}
+use Rattle.ref_judge.specs.Standing.{StandsFor}
 use Rattle.ref_judge.proofs.KnownRows.{known_row_as}
 use Rattle.ref_judge.proofs.LegalFacts.{legal_facts}
 
@@ -22,13 +22,13 @@ is_marking Sweeping is = absurd cc
 is_marking Moving is = absurd cc
 
 -- in a mark of the judge the state is in it
-pub marks_of : (j : Judged) (a : State) → Stands j a → is_in j.phase Marking ≡ true → a.world.phase ≡ Marking
+pub marks_of : (j : Judged) (a : State) → StandsFor j a → is_in j.phase Marking ≡ true → a.world.phase ≡ Marking
 marks_of j a stands is = sym stands.phase ∙ is_marking j.phase is
 
 -- what is known of a row's state, where it brings nothing new
-pub kept_row : (old : Judged) (a b : State) (row : Row) → Stands old a → BringsNone row.step
+pub kept_row : (old : Judged) (a b : State) (row : Row) → StandsFor old a → BringsNone row.step
     → IsRowAs old.profile a row b → is_in old.phase Marking ≡ true → old.profile.keeps_more ≡ false
-    → Knows (λ n. has old.ground.marked n ≡ true) (under old.profile b)
+    → Knows (λ n. has old.ground.marked n ≡ true) (profiled old.profile b)
 kept_row old a b row stands brings h is less =
     known_row_as old.profile (λ n. has old.ground.marked n ≡ true) a b less
     (legal_facts old.profile old.config a stands.lawful).notices.counted (marks_of old a stands is)

@@ -34,13 +34,13 @@ use Rattle.ref_judge.specs.declared.profile.Profile.{Profile}
 use Rattle.ref_judge.proofs.UnchangedRows.{plain_accepted_as}
 use Rattle.ref_judge.proofs.ProfiledBases.{one_base_as}
 use Rattle.ref_judge.proofs.KeptFacts.{IsKeptSet}
-use Rattle.ref_judge.proofs.OtherPolicies.{under, policy_as, ever_under, under_ever, IsMutators, HandsOver, heap_under}
-use Rattle.ref_judge.proofs.OtherPolicies.{mutator_under, scan_under}
+use Rattle.ref_judge.proofs.OtherPolicies.{profiled, policy_as, ever_under, under_ever, IsMutators, HandsOver}
+use Rattle.ref_judge.proofs.OtherPolicies.{heap_under, mutator_under, scan_under}
 
 -- ---- what is known
 
 -- what a set has that is known under the profile's policy is just what may be kept
-pub known_kept_set : (p : Profile) (V : ℕ → Type 0) (a : State) → p.keeps_more ≡ false → Knows V (under p a)
+pub known_kept_set : (p : Profile) (V : ℕ → Type 0) (a : State) → p.keeps_more ≡ false → Knows V (profiled p a)
     → IsKeptSet p V a
 known_kept_set p V a less knows = record {
   sound = λ n is. inl (ever_under p a.world.policy a.moments n (knows.0.sound n is));
@@ -98,7 +98,7 @@ handed_under q w (steps.Release who) reply = rest_under q w who (is_done reply)
 handed_under q w step reply = refl
 
 with_handed_under : (p : Profile) (c : State) (step : Step) (reply : Reply)
-    → under p (with_handed c step reply) ≡ with_handed (under p c) step reply
+    → profiled p (with_handed c step reply) ≡ with_handed (profiled p c) step reply
 with_handed_under p c step reply =
     let w : World = handed c.world step reply in
     let policy : w.policy ≡ c.world.policy = ap (λ (v : World). v.policy) (handed_keeps c.world step reply) in
@@ -108,11 +108,11 @@ with_handed_under p c step reply =
 
 -- ---- rows of queues
 
-module _ (p : Profile) (V : ℕ → Type 0) (a b : State) (marks : a.world.phase ≡ Marking) (knows : Knows V (under p a))
+module _ (p : Profile) (V : ℕ → Type 0) (a b : State) (marks : a.world.phase ≡ Marking) (knows : Knows V (profiled p a))
   where
     -- a row that leaves such a world, and its moment, keeps what is known
     known_beside : (w : World) → but_hands w ≡ but_hands a.world → base b ≡ base (ticked (with_world a w))
-        → Knows V (under p b)
+        → Knows V (profiled p b)
     known_beside w others is =
         let c : State = with_world a w in
         let world : b.world ≡ w = ap (λ (s : State). s.world) is ∙ ticked_world c in
@@ -120,14 +120,14 @@ module _ (p : Profile) (V : ℕ → Type 0) (a b : State) (marks : a.world.phase
         let policy : b.world.policy ≡ a.world.policy = ap (λ (v : World). v.policy) beside in
         let phase : w.phase ≡ Marking = ap (λ (v : World). v.phase) others ∙ marks in
         let same = ticked_same c in (
-          one_moment V V (under p a) (under p b) knows.0 (λ n is. is)
+          one_moment V V (profiled p a) (profiled p b) knows.0 (λ n is. is)
               (ap (λ (s : State). s.moments) is ∙ ticked_moments c phase
               ∙ ap (λ (v : World). graph_of v ∷ a.moments) (sym world))
               (ap (policy_as p) policy) (λ n is. inl is)
-              (closed_same (is_kept (policy_as p a.world.policy)) V (under p a).world (under p b).world
+              (closed_same (is_kept (policy_as p a.world.policy)) V (profiled p a).world (profiled p b).world
               (ap (λ (v : World). v.heap.slots) beside) (ap (λ (v : World). v.heap.holds) beside)
               (ap (λ (v : World). v.pending) beside) (ap (λ (v : World). v.heap.objects) beside) knows.0.closed),
-          seen_same V (under p a) (under p b) (
+          seen_same V (profiled p a) (profiled p b) (
             ap (λ (s : State). s.scanned) is ∙ same.0,
             ap (λ (s : State). s.born) is ∙ same.1,
             ap (λ (v : World). numbers v.heap.objects) beside,
@@ -138,39 +138,39 @@ module _ (p : Profile) (V : ℕ → Type 0) (a b : State) (marks : a.world.phase
     -- whether it is refused after all or not
     known_queues : (step : Step) (reply : Reply)
         → base b ≡ (if refuses reply then base a else base (ticked (with_world a (after_queues a.world step reply))))
-        → Knows V (under p b)
+        → Knows V (profiled p b)
     known_queues step reply = of_refusal (refuses reply)
       where
         of_refusal : (refused : Bool)
             → base b ≡ (if refused then base a else base (ticked (with_world a (after_queues a.world step reply))))
-            → Knows V (under p b)
+            → Knows V (profiled p b)
         of_refusal true is =
-            known_told V (under p a) (under p b) (ap (λ (s : State). Told (under p s)) is) knows
+            known_told V (profiled p a) (profiled p b) (ap (λ (s : State). Told (profiled p s)) is) knows
         of_refusal false is = known_beside (after_queues a.world step reply) (queues_keep a.world step reply) is
 
 -- ---- rows of a heap
 
 -- whether a step of a mutator is refused, the policy doesn't tell
 passes_under : (p : Profile) (a : State) (step : PlainStep) → IsMutators step → plain_refusal a step ≡ None
-    → plain_refusal (under p a) step ≡ None
+    → plain_refusal (profiled p a) step ≡ None
 passes_under p a plain.EndMark inside none = absurd inside
 passes_under p a step inside none = none
 
 -- a row of a mutator is one of the abstract collector under the profile's policy
 pub mutator_row_under : (p : Profile) (a b : State) (step : PlainStep) (reply : Reply) → IsMutators step
     → plain_refusal a step ≡ None → IsRowAs p a (plain_row step reply) b
-    → IsRow (under p a) (plain_row step reply) (under p b)
+    → IsRow (profiled p a) (plain_row step reply) (profiled p b)
 mutator_row_under p a b step reply inside none h =
-    accepted_plain (under p a) (under p b) step reply (passes_under p a step inside none)
+    accepted_plain (profiled p a) (profiled p b) step reply (passes_under p a step inside none)
     (mutator_under p a b step reply inside (plain_accepted_as p a b step reply none h))
 
 -- and a scan is one, from the state that says so whether an object is left
 pub scan_row_under : (p : Profile) (a b : State) (k : ℕ) (reply : Reply) → p.keeps_more ≡ false
     → plain_refusal a (plain.Scan k) ≡ None → IsRowAs p a (plain_row (plain.Scan k) reply) b
-    → (left : Bool) × IsRow (saying (under p a) left) (plain_row (plain.Scan k) reply) (under p b)
+    → (left : Bool) × IsRow (saying (profiled p a) left) (plain_row (plain.Scan k) reply) (profiled p b)
 scan_row_under p a b k reply less none h =
     let row = scan_under p a b less k reply (plain_accepted_as p a b (plain.Scan k) reply none h) in
-    (row.0, accepted_plain (saying (under p a) row.0) (under p b) (plain.Scan k) reply none row.1)
+    (row.0, accepted_plain (saying (profiled p a) row.0) (profiled p b) (plain.Scan k) reply none row.1)
 
 module _ (p : Profile) (a b : State) where
   handing_over : (c : State) (asked : NamedStep) (reply : Reply) → HandsOver asked → HeapAcceptsAs p a asked reply c
@@ -180,25 +180,26 @@ module _ (p : Profile) (a b : State) where
 
   -- a step that hands something over
   asked_under : (asked : NamedStep) (step : Step) (reply : Reply) → HandsOver asked
-      → AcceptsAskingAs p a (Some asked) step reply b → AcceptsAsking (under p a) (Some asked) step reply (under p b)
+      → AcceptsAskingAs p a (Some asked) step reply b
+      → AcceptsAsking (profiled p a) (Some asked) step reply (profiled p b)
   asked_under asked step reply over row = (
-    under p row.0,
+    profiled p row.0,
     heap_under p a row.0 asked reply over (handing_over row.0 asked reply over row.1),
-    ap (under p) row.2 ∙ with_handed_under p row.0 step reply,
+    ap (profiled p) row.2 ∙ with_handed_under p row.0 step reply,
   )
 
   adopts_under : (m d : ℕ) (hand : List Notice) (reply : Reply)
       → AcceptsAskingAs p a (spending a.world (λ hold. heap.Adopt m d hold) hand) (steps.Adopt m d) reply b
-      → AcceptsAsking (under p a) (spending a.world (λ hold. heap.Adopt m d hold) hand) (steps.Adopt m d) reply
-      (under p b)
+      → AcceptsAsking (profiled p a) (spending a.world (λ hold. heap.Adopt m d hold) hand) (steps.Adopt m d) reply
+      (profiled p b)
   adopts_under m d [] reply row = absurd row
   adopts_under m d (notice ∷ rest) reply row =
       asked_under (heap.Adopt m d (hold_of a.world notice)) (steps.Adopt m d) reply tt row
 
   releases_under : (who : Actor) (hand : List Notice) (reply : Reply)
       → AcceptsAskingAs p a (spending a.world (λ hold. heap.Release hold) hand) (steps.Release who) reply b
-      → AcceptsAsking (under p a) (spending a.world (λ hold. heap.Release hold) hand) (steps.Release who) reply
-      (under p b)
+      → AcceptsAsking (profiled p a) (spending a.world (λ hold. heap.Release hold) hand) (steps.Release who) reply
+      (profiled p b)
   releases_under who [] reply row = absurd row
   releases_under who (notice ∷ rest) reply row =
       asked_under (heap.Release (hold_of a.world notice)) (steps.Release who) reply tt row
@@ -206,28 +207,28 @@ module _ (p : Profile) (a b : State) where
 -- ---- rows that bring nothing new
 
 module _ (p : Profile) (V : ℕ → Type 0) (a b : State) (less : p.keeps_more ≡ false) (counted : AreCounted a.world)
-    (marks : a.world.phase ≡ Marking) (knows : Knows V (under p a)) where
+    (marks : a.world.phase ≡ Marking) (knows : Knows V (profiled p a)) where
   -- by a row of the abstract collector
-  by_row : (left : Bool) (row : Row) → BringsNone row.step → IsRow (saying (under p a) left) row (under p b)
-      → Knows V (under p b)
+  by_row : (left : Bool) (row : Row) → BringsNone row.step → IsRow (saying (profiled p a) left) row (profiled p b)
+      → Knows V (profiled p b)
   by_row left row brings h =
-      known_row V (saying (under p a) left) (under p b) row counted marks brings
-      (known_told V (under p a) (saying (under p a) left) refl knows) h
+      known_row V (saying (profiled p a) left) (profiled p b) row counted marks brings
+      (known_told V (profiled p a) (saying (profiled p a) left) refl knows) h
 
   -- which isn't refused
-  by_answer : (step : Step) (reply : Reply) → BringsNone step → refusal (under p a) step ≡ None
-      → AcceptsAsking (under p a) (heap_step a.world step) step reply (under p b) → Knows V (under p b)
+  by_answer : (step : Step) (reply : Reply) → BringsNone step → refusal (profiled p a) step ≡ None
+      → AcceptsAsking (profiled p a) (heap_step a.world step) step reply (profiled p b) → Knows V (profiled p b)
   by_answer step reply brings none row =
       by_row false (record { step = step; reply = reply }) brings
-      (subst (λ (o : Option Fault). IsAnswer (under p a) o step reply (under p b)) (sym none) row)
+      (subst (λ (o : Option Fault). IsAnswer (profiled p a) o step reply (profiled p b)) (sym none) row)
 
   known_mutator : (step : PlainStep) (reply : Reply) → IsMutators step → KeepsEver (heap.Plain step)
-      → plain_refusal a step ≡ None → IsRowAs p a (plain_row step reply) b → Knows V (under p b)
+      → plain_refusal a step ≡ None → IsRowAs p a (plain_row step reply) b → Knows V (profiled p b)
   known_mutator step reply inside keeps none h =
       by_row false (plain_row step reply) keeps (mutator_row_under p a b step reply inside none h)
 
   known_plain : (step : PlainStep) (reply : Reply) → KeepsEver (heap.Plain step) → plain_refusal a step ≡ None
-      → IsRowAs p a (plain_row step reply) b → Knows V (under p b)
+      → IsRowAs p a (plain_row step reply) b → Knows V (profiled p b)
   known_plain (plain.Scan k) reply keeps none h =
       let row = scan_row_under p a b k reply less none h in
       by_row row.0 (plain_row (plain.Scan k) reply) keeps row.1
@@ -241,7 +242,7 @@ module _ (p : Profile) (V : ℕ → Type 0) (a b : State) (less : p.keeps_more �
 
   known_step : (step : Step) (reply : Reply) → BringsNone step → refusal a step ≡ None
       → AcceptsAskingAs p a (heap_step a.world step) step reply b
-      → IsRowAs p a (record { step = step; reply = reply }) b → Knows V (under p b)
+      → IsRowAs p a (record { step = step; reply = reply }) b → Knows V (profiled p b)
   known_step (steps.Plain step) reply brings none row h = known_plain step reply brings none h
   known_step (steps.Unhook m s) reply brings none row h =
       by_answer (steps.Unhook m s) reply tt none (asked_under p a b (heap.Unhook m s) (steps.Unhook m s) reply tt row)
@@ -259,10 +260,10 @@ module _ (p : Profile) (V : ℕ → Type 0) (a b : State) (less : p.keeps_more �
       (one_base_as p a b (record { step = step; reply = reply }) h)
 
   -- a row of a mark that makes and gets nothing keeps what is known
-  pub known_row_as : (row : Row) → BringsNone row.step → IsRowAs p a row b → Knows V (under p b)
+  pub known_row_as : (row : Row) → BringsNone row.step → IsRowAs p a row b → Knows V (profiled p b)
   known_row_as row brings h = of_fault (refusal a row.step) refl h
     where
       of_fault : (fault : Option Fault) → refusal a row.step ≡ fault → IsAnswerAs p a fault row.step row.reply b
-          → Knows V (under p b)
-      of_fault (Some fault) is refused = subst (λ (s : State). Knows V (under p s)) (sym refused.1) knows
+          → Knows V (profiled p b)
+      of_fault (Some fault) is refused = subst (λ (s : State). Knows V (profiled p s)) (sym refused.1) knows
       of_fault None is accepted = known_step row.step row.reply brings is accepted h

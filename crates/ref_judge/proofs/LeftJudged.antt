@@ -19,12 +19,12 @@ use Rattle.ref_base.proofs.Lookups.{is_there-has}
 use Rattle.ref_base.proofs.HasLaws.{has-append}
 use Rattle.ref_base.proofs.LeftCounts.{is_left, left_among, left_of}
 use Rattle.ref_objects.specs.Grounds.{unmarked}
-use Rattle.ref_judge.specs.Judged.{Judged, is_past_mark, unheld}
+use Rattle.ref_judge.specs.Judged.{Judged, is_behind_mark, unheld}
 use Rattle.ref_judge.specs.KeptBounds.{MayBeKept}
-use Rattle.ref_judge.specs.Policies.{under}
+use Rattle.ref_judge.specs.Policies.{profiled}
 use Rattle.ref_judge.specs.declared.profile.Profile.{Profile}
 use Rattle.ref_judge.specs.LeftCounts.{unmarked_if}
-use Rattle.ref_judge.specs.Standing.{Stands, DecidesAs}
+use Rattle.ref_judge.specs.Standing.{StandsFor, DecidesAs}
 use Rattle.ref_judge.proofs.KeptFacts.{IsKeptSet, left_decides_as}
 use Rattle.ref_judge.proofs.KnownRows.{known_kept_set}
 use Rattle.ref_judge.proofs.LegalFacts.{Facts, legal_facts}
@@ -150,17 +150,17 @@ others_counted false marked (o ∷ os) = grind (arith, others_counted false mark
 -- ---- a judge's value in a mark
 
 -- in a mark nothing is doomed: the judge has the objects of the state
-pub marking_objects : (j : Judged) (a : State) → Stands j a → is_in j.phase Marking ≡ true
+pub marking_objects : (j : Judged) (a : State) → StandsFor j a → is_in j.phase Marking ≡ true
     → j.ground.heap.objects ≡ a.world.heap.objects
 marking_objects j a stands marks =
     let facts = legal_facts j.profile j.config a stands.lawful in
-    let past : is_past_mark a.world.phase ≡ false =
+    let past : is_behind_mark a.world.phase ≡ false =
     not_past a.world.phase (subst (λ (p : Phase). is_in p Marking ≡ true) stands.phase marks) in
     ap (λ (h : Heap). h.objects) (stands.heap
     ∙ ap (λ (d : List ℕ). heap_but d (unheld a.world.heap)) (facts.names.none_doomed past)
     ∙ heap_but-none (unheld a.world.heap))
   where
-    not_past : (p : Phase) → is_in p Marking ≡ true → is_past_mark p ≡ false
+    not_past : (p : Phase) → is_in p Marking ≡ true → is_behind_mark p ≡ false
     not_past Marking is = refl
     not_past p is = absurd (false≢true is)
 
@@ -185,7 +185,7 @@ some_left (n ∷ left) few many is = grind arith
 module _ (p : Profile) (config : Config) (a : State) (facts : Facts config a)
     (marks : is_in a.world.phase Marking ≡ true) (rising : IsRising (numbers a.world.heap.objects))
     (there : IsAllThere a × IsYoungThere a) (marked : List ℕ)
-    (knows : p.keeps_more ≡ false → Knows (λ n. has marked n ≡ true) (under p a)) where
+    (knows : p.keeps_more ≡ false → Knows (λ n. has marked n ≡ true) (profiled p a)) where
   may_there : (n : ℕ) → MayBeKept p a n → is_there a.world.heap.objects n ≡ true
   may_there n (inl ever) = ever_there _ a.moments a.world.heap.objects n there.0 ever
   may_there n (inr more) = more.1
@@ -243,7 +243,7 @@ module _ (p : Profile) (config : Config) (a : State) (facts : Facts config a)
       (left_decides_as p a kept (is_kept_set more is))
 
 -- a judge tells so whether an object is left
-pub left_decides : (j : Judged) (b : State) → Stands j b → is_in j.phase Marking ≡ true
+pub left_decides : (j : Judged) (b : State) → StandsFor j b → is_in j.phase Marking ≡ true
     → DecidesAs j.profile
     (nat_lt (j.ground.next + j.scanned + unmarked_if j.profile.keeps_more j.ground)
     (length j.ground.heap.objects + j.born)) b

@@ -11,7 +11,7 @@ use Rattle.ref_base.specs.QueueLists.{enqueued}
 use Rattle.ref_base.proofs.HasLaws.{has-list_any}
 use Rattle.ref_judge.proofs.LegalFacts.{legal_facts}
 use Rattle.ref_judge.specs.Judged.{Judged, Line, IsLine, AreLines}
-use Rattle.ref_judge.specs.Standing.{Stands}
+use Rattle.ref_judge.specs.Standing.{StandsFor}
 use Rattle.ref_judge.proofs.HandsAlike.{sizes}
 
 pub lines_length : (lines : List Line) (qs : List (Lists Notice)) → AreLines lines qs → length lines ≡ length qs
@@ -36,7 +36,7 @@ set_line_alike (l ∷ lines) [] i line q are is = absurd are
 set_line_alike (l ∷ lines) (r ∷ qs) zero line q are is = (is, are.1)
 set_line_alike (l ∷ lines) (r ∷ qs) (suc i) line q are is = (are.0, set_line_alike lines qs i line q are.1 is)
 
-module _ (j : Judged) (a : State) (stands : Stands j a) where
+module _ (j : Judged) (a : State) (stands : StandsFor j a) where
   -- there are as many queues as the configuration says
   pub lines_same : length j.lines ≡ j.config.queues
   lines_same = lines_length j.lines a.world.queues stands.lines ∙ (sizes j a stands).queues
@@ -61,7 +61,7 @@ distinct_few ns count distinct below =
     (λ n h. below n (has-list_any ns n ∙ h))
 
 -- no more was ever put into a queue than there are numbers
-pub line_below : (j : Judged) (a : State) → Stands j a → (q : ℕ) (d : Line) → q < length j.lines
+pub line_below : (j : Judged) (a : State) → StandsFor j a → (q : ℕ) (d : Line) → q < length j.lines
     → (slice_index_or j.lines q d).put ≤ j.ground.next
 line_below j a stands q d within =
     let facts = legal_facts j.profile j.config a stands.lawful in

@@ -38,7 +38,7 @@ use Rattle.ref_base.proofs.SweptLists.{swept_front, numbers-shown, unscanned-sub
 use Rattle.ref_base.proofs.OutcomeParts.{outcome_phase}
 use Rattle.ref_base.specs.declared.policy.Policy.{Policy}
 use Rattle.ref_base.specs.declared.urgency.Urgency.TheVariants.{Urgent}
-use Rattle.ref_judge.specs.Judged.{is_past_mark}
+use Rattle.ref_judge.specs.Judged.{is_behind_mark}
 use Rattle.ref_judge.specs.KeptBounds.{MayDoomAs, must_keep}
 use Rattle.ref_judge.specs.declared.profile.Profile.{Profile}
 use Rattle.ref_judge.proofs.RowTurns.{IsTurnAs}
@@ -54,7 +54,7 @@ pub record LiveNames (a : State) : Type 0 where
   pub born : a.born ≤ a.next
   pub rising : IsRising (numbers a.world.heap.objects)
   pub doomed : Sub a.doomed (numbers a.world.heap.objects)
-  pub whole : is_past_mark a.world.phase ≡ false → a.doomed ≡ []
+  pub whole : is_behind_mark a.world.phase ≡ false → a.doomed ≡ []
 
 -- ---- where a row leads that is no mark's end
 
@@ -163,8 +163,8 @@ was_live a step reply no_end none idle n there live =
 
 -- nothing is doomed but past a mark
 whole_out : (a : State) (step : NamedStep) (reply : Reply) → IsNoEnd step → heap_refusal a step ≡ None
-    → (is_past_mark a.world.phase ≡ false → a.doomed ≡ [])
-    → is_past_mark (outcome a step reply).world.phase ≡ false → (outcome a step reply).doomed ≡ []
+    → (is_behind_mark a.world.phase ≡ false → a.doomed ≡ [])
+    → is_behind_mark (outcome a step reply).world.phase ≡ false → (outcome a step reply).doomed ≡ []
 whole_out a (heap.Plain (plain.Begin now how)) reply no_end none whole off = refl
 whole_out a (heap.Plain plain.EndMark) reply no_end none whole off = absurd no_end
 whole_out a (heap.Plain plain.EndSweep) reply no_end none whole off = (of_phase a (heap.Plain plain.EndSweep) none).1
@@ -172,21 +172,21 @@ whole_out a (heap.Plain plain.EndClear) reply no_end none whole off =
     of_done (is_done reply) (of_phase a (heap.Plain plain.EndClear) none).0 off
   where
     of_done : (done : Bool) → a.world.phase ≡ Clearing
-        → is_past_mark (if done then with_phase a.world Sweeping else a.world).phase ≡ false → a.doomed ≡ []
+        → is_behind_mark (if done then with_phase a.world Sweeping else a.world).phase ≡ false → a.doomed ≡ []
     of_done true clears off = absurd (true≢false off)
-    of_done false clears off = absurd (true≢false (sym (ap is_past_mark clears) ∙ off))
+    of_done false clears off = absurd (true≢false (sym (ap is_behind_mark clears) ∙ off))
 whole_out a (heap.Plain plain.Select) reply no_end none whole off =
-    whole (ap is_past_mark (of_phase a (heap.Plain plain.Select) none).0)
+    whole (ap is_behind_mark (of_phase a (heap.Plain plain.Select) none).0)
 whole_out a (heap.Plain plain.EndMove) reply no_end none whole off =
-    whole (ap is_past_mark (of_phase a (heap.Plain plain.EndMove) none))
+    whole (ap is_behind_mark (of_phase a (heap.Plain plain.EndMove) none))
 whole_out a (heap.Plain (plain.Sweep k)) (replies.Swept count) no_end none whole off =
-    absurd (true≢false (sym (ap is_past_mark (of_phase a (heap.Plain (plain.Sweep k)) none)) ∙ off))
+    absurd (true≢false (sym (ap is_behind_mark (of_phase a (heap.Plain (plain.Sweep k)) none)) ∙ off))
 whole_out a (heap.Plain (plain.Sweep k)) reply no_end none whole off = whole off
 whole_out a (heap.Plain (plain.ClearNext k)) reply no_end none whole off =
-    absurd (true≢false (sym (ap is_past_mark (outcome_phase a (heap.Plain (plain.ClearNext k)) reply tt
+    absurd (true≢false (sym (ap is_behind_mark (outcome_phase a (heap.Plain (plain.ClearNext k)) reply tt
     ∙ of_phase a (heap.Plain (plain.ClearNext k)) none)) ∙ off))
 whole_out a step reply no_end none whole off =
-    whole (sym (ap is_past_mark (outcome_phase a step reply tt)) ∙ off)
+    whole (sym (ap is_behind_mark (outcome_phase a step reply tt)) ∙ off)
 
 -- what is doomed stays listed in order
 listed_out : (a : State) (step : NamedStep) (reply : Reply) → IsNoEnd step → IsRising (numbers a.world.heap.objects)
@@ -259,7 +259,7 @@ module _ (a c : State) (step : NamedStep) (reply : Reply) (no_end : IsNoEnd step
 
   from_live : (n : ℕ) → IsLive c n → is_there a.world.heap.objects n ≡ true → IsLive a n
   from_live n live there =
-      was_live a step reply no_end none (λ is. names.whole (ap is_past_mark is)) n there
+      was_live a step reply no_end none (λ is. names.whole (ap is_behind_mark is)) n there
       (subst (λ (s : State). IsLive s n) leads live)
 
   -- no object has the next number
@@ -344,7 +344,7 @@ module _ (a c : State) (step : NamedStep) (reply : Reply) (no_end : IsNoEnd step
     whole = λ off.
         ap (λ (s : State). s.doomed) leads
         ∙ whole_out a step reply no_end none names.whole
-        (ap (λ (s : State). is_past_mark s.world.phase) (sym leads) ∙ off);
+        (ap (λ (s : State). is_behind_mark s.world.phase) (sym leads) ∙ off);
   }
 
 -- a sweep frees some of what is doomed
@@ -444,7 +444,7 @@ module _ (p : Profile) (a : State) (names : LiveNames a) (marks : a.world.phase 
   doomed = doomed_at a
 
   none_before : a.doomed ≡ []
-  none_before = names.whole (ap is_past_mark marks)
+  none_before = names.whole (ap is_behind_mark marks)
 
   -- the world under that policy
   abbrev must_world : World

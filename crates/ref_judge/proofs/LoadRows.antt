@@ -17,7 +17,7 @@ use Rattle.ref_objects.specs.Grounds.{Ground, Space, brought, ground_brought, gr
 use Rattle.ref_judge.specs.Judged.{Judged}
 use Rattle.ref_judge.specs.LeftCounts.{unmarked_if}
 use Rattle.ref_judge.specs.ProfiledRows.{IsRowAs, says_anew, AcceptsAnew, PlainAcceptsAs}
-use Rattle.ref_judge.specs.Standing.{Stands, DoesAs, Leads, IsSettled, IsSound}
+use Rattle.ref_judge.specs.Standing.{StandsFor, DoesAs, LeadsOne, IsSettled, IsOfSomeState}
 use Rattle.ref_judge.specs.declared.profile.Profile.{Profile}
 use Rattle.ref_judge.proofs.LeftJudged.{left_decides}
 use Rattle.ref_judge.proofs.SameObjects.{same_slot}
@@ -103,9 +103,9 @@ module _ (old : Judged) (m d s i : ℕ) (none : load_refusal old.ground.heap m d
       DoesAs old (Plain (plain.Load m d s i)) (Ok (replies.Object n)) (with_said h (left_with h))
   loads_anew n is marks = (refl, refl, leads)
     where
-      leads : (a : State) → Stands old a
+      leads : (a : State) → StandsFor old a
           → let h = with_slot old.ground.heap m d (Some n) in
-          Leads old (Plain (plain.Load m d s i)) (Ok (replies.Object n)) (with_said h (left_with h)) a
+          LeadsOne old (Plain (plain.Load m d s i)) (Ok (replies.Object n)) (with_said h (left_with h)) a
       leads a stands =
           let step : PlainStep = plain.Load m d s i in
           let h : Heap = with_slot old.ground.heap m d (Some n) in
@@ -120,10 +120,10 @@ module _ (old : Judged) (m d s i : ℕ) (none : load_refusal old.ground.heap m d
           let row : IsRowAs old.profile a (plain_row step (replies.Object n)) b =
           accepted_plain_as old.profile a b step (replies.Object n) passes
           (row_anew old.profile a m d s i n value now) in
-          let stands_now : Stands (judging old h) b =
+          let stands_now : StandsFor (judging old h) b =
           stands_moved old a stands h g moments false (same_slot a.world.heap m d (Some n))
           (with_slot_same old a stands m d (Some n)) refl (plain_row step (replies.Object n)) tt row in
-          let stands_said : Stands (with_said h (left_with h)) b = assumption stands_now in
+          let stands_said : StandsFor (with_said h (left_with h)) b = assumption stands_now in
           leads_anew old (with_said h (left_with h)) a b (Plain step) (Ok (replies.Object n)) row stands_said
           (simp now refl) refl (left_decides (with_said h (left_with h)) b stands_said marks)
 
@@ -172,10 +172,10 @@ module _ (old : Judged) (settled : IsSettled old) (m d s i : ℕ) (value : Optio
           (loads_anew old m d s i loaded.refused n (sym loaded.answer ∙ it) (still (Some n) it))
 
   -- the invariant holds again, whatever is said of what is left
-  pub loaded_sound : (left none : Bool) → (is_in old.phase Marking ≡ true → (left || none) ≡ true) → IsSound old
+  pub loaded_sound : (left none : Bool) → (is_in old.phase Marking ≡ true → (left || none) ≡ true) → IsOfSomeState old
       → DoesAs old (Plain (plain.Load m d s i)) (Ok (value_reply value))
       (record old { ground = ground; may_be_left = left; may_be_none = none })
-      → IsSound (record old { ground = ground; may_be_left = left; may_be_none = none })
+      → IsOfSomeState (record old { ground = ground; may_be_left = left; may_be_none = none })
   loaded_sound left none said sound does =
       let new : Judged = record old { ground = ground; may_be_left = left; may_be_none = none } in
       let leads = does.2 sound.state sound.stands in

@@ -29,9 +29,9 @@ use Rattle.ref_base.proofs.HasLaws.{has-first, has-left, has-right}
 use Rattle.ref_base.proofs.MarkEndRows.{refs_of}
 use Rattle.ref_base.proofs.PlainRows.{plain_row}
 use Rattle.ref_judge.specs.Finding.{found_from, if_pending, looked_so, pending_so, IsLookAt}
-use Rattle.ref_judge.specs.Judged.{Judged, Finder, finder_at, found_by, left_of, is_judging, unheld, AreToldCleared}
+use Rattle.ref_judge.specs.Judged.{Judged, Finder, finder_at, found_by, still_left, is_judging, unheld, AreToldCleared}
 use Rattle.ref_judge.specs.ProfiledRows.{IsRowAs}
-use Rattle.ref_judge.specs.Standing.{Stands, FitsIt, HasNone, Lawful, TellsOf, IsSound}
+use Rattle.ref_judge.specs.Standing.{StandsFor, FitsIt, HasNone, Lawful, TellsOf, IsOfSomeState}
 use Rattle.ref_judge.specs.declared.worker.Found.{Found}
 use Rattle.ref_judge.proofs.ClearingRows.{found_fits, fits_found}
 use Rattle.ref_judge.proofs.FoundNext.{GoesOn, objects, found_goes, unfound}
@@ -165,10 +165,10 @@ module _ (j : Judged) (k n : ℕ) (none : MayLook j k) (reply : Reply)
   abbrev left_here : List Found
   left_here = drop (finder_at j k).at (finder_at j k).found
 
-  left_is : objects left_here ≡ left_of j k
+  left_is : objects left_here ≡ still_left j k
   left_is = sym (drop-map (λ (f : Found). f.object) (finder_at j k).at (finder_at j k).found)
 
-  module _ (a : State) (stands : Stands j a) where
+  module _ (a : State) (stands : StandsFor j a) where
     told_here : AreToldCleared a.cleared left_here
     told_here =
         told_behind a.cleared (finder_at j k).found (finder_at j k).at
@@ -177,13 +177,13 @@ module _ (j : Judged) (k n : ℕ) (none : MayLook j k) (reply : Reply)
     -- it looks at m, in front of which there is no new clear
     abbrev LooksAt : State → ℕ → Type 0
     LooksAt t m =
-        (front : List ℕ) × (back : List ℕ) × (reply ≡ looked_at a k m) × (left_of j k ≡ front ++ m ∷ back)
-        × NoneOf a.cleared front × FitsFound (looked_to a k m) (standing_with (left_of j) k back) false t
+        (front : List ℕ) × (back : List ℕ) × (reply ≡ looked_at a k m) × (still_left j k ≡ front ++ m ∷ back)
+        × NoneOf a.cleared front × FitsFound (looked_to a k m) (standing_with (still_left j) k back) false t
 
     -- a state that fits has the row only where that is n
     looks : (s t : State) → FitsIt j a s → IsRowAs j.profile s look_row t → LooksAt t n
     looks s t fits h =
-        elim (look_fits a t (left_of j) j.some_left k (sym (work_known j a stands Clearing k) ∙ none)
+        elim (look_fits a t (still_left j) j.some_left k (sym (work_known j a stands Clearing k) ∙ none)
         (within_scanned j k none a stands) s reply (left_distinct j k none a stands)
         (found_fits j a stands (in_clearing j k none a stands) s fits) ((look_common j.profile s t k reply).0 h)) [
           | inl nothing ↦ absurd (no_nothing reply n names nothing.0)
@@ -195,7 +195,7 @@ module _ (j : Judged) (k n : ℕ) (none : MayLook j k) (reply : Reply)
         ]
 
     -- a reference that it may look at isn't doomed
-    spared : has (left_of j k) n ≡ true → has a.doomed n ≡ false
+    spared : has (still_left j k) n ≡ true → has a.doomed n ≡ false
     spared left =
         lawful_spared j.profile j.config a stands.lawful n
         (one_of_joined a.scanned k n
@@ -205,13 +205,13 @@ module _ (j : Judged) (k n : ℕ) (none : MayLook j k) (reply : Reply)
         ∙ has_behind (finder_at j k).at (found_by j k) n left)))
 
     -- so the judge has it as it is
-    reference_same : has (left_of j k) n ≡ true → reference_at j.ground.heap n ≡ reference_at a.world.heap n
+    reference_same : has (still_left j k) n ≡ true → reference_at j.ground.heap n ≡ reference_at a.world.heap n
     reference_same left =
         ap (λ (h : Heap). reference_at h n) stands.heap
         ∙ reference_of-but a.doomed (unheld a.world.heap) (Some n) (spared left)
 
   -- no state that fits has the row where the reference isn't found
-  pub not_found : found_from n (finder_at j k).at left_here ≡ None → (a : State) → Stands j a → HasNone j look_row a
+  pub not_found : found_from n (finder_at j k).at left_here ≡ None → (a : State) → StandsFor j a → HasNone j look_row a
   not_found is a stands s t fits h =
       let at = looks a stands s t fits h in
       unfound a.cleared n (finder_at j k).at left_here at.0 at.1 (told_here a stands) is (left_is ∙ at.3) at.4
@@ -231,14 +231,14 @@ module _ (j : Judged) (k n : ℕ) (none : MayLook j k) (reply : Reply)
     abbrev pub looked : Judged
     looked = record (with_finder j k looked_finder) { some_left = false }
 
-    module _ (a : State) (stands : Stands j a) where
+    module _ (a : State) (stands : StandsFor j a) where
       goes : GoesOn a.cleared n (finder_at j k).at left_here next is_cleared
       goes = found_goes a.cleared n (finder_at j k).at next is_cleared left_here (told_here a stands) found
 
-      here : left_of j k ≡ goes.front ++ n ∷ goes.back
+      here : still_left j k ≡ goes.front ++ n ∷ goes.back
       here = sym left_is ∙ goes.is
 
-      is_left : has (left_of j k) n ≡ true
+      is_left : has (still_left j k) n ≡ true
       is_left =
           ap (λ (ns : List ℕ). has ns n) here ∙ has-right goes.front (n ∷ goes.back) n (has-first n goes.back)
 
@@ -278,26 +278,26 @@ module _ (j : Judged) (k n : ℕ) (none : MayLook j k) (reply : Reply)
           ∙ sym (drop-drop (suc (length goes.front)) (finder_at j k).at (found_by j k))
           ∙ ap (λ (ns : List ℕ). drop (suc (length goes.front)) ns) (sym left_is) ∙ sym goes.behind
 
-      left_looked : (i : ℕ) → left_of looked i ≡ standing_with (left_of j) k goes.back i
+      left_looked : (i : ℕ) → still_left looked i ≡ standing_with (still_left j) k goes.back i
       left_looked =
           each_finder j k looked_finder
-          (λ i w. drop w.at (map (λ (f : Found). f.object) w.found) ≡ standing_with (left_of j) k goes.back i)
+          (λ i w. drop w.at (map (λ (f : Found). f.object) w.found) ≡ standing_with (still_left j) k goes.back i)
           (within_workers j k none a stands) (let own : (k == k) ≡ true = eq-eqb k k refl in simp own behind)
           (λ i other. simp other refl)
 
       fits_looked_on : (t : State) (lists : List (List ℕ))
-          → FitsFound (looked_to a k n) (standing_with (left_of j) k goes.back) false t
-          → FitsFound (after lists) (left_of looked) false t
+          → FitsFound (looked_to a k n) (standing_with (still_left j) k goes.back) false t
+          → FitsFound (after lists) (still_left looked) false t
       fits_looked_on t lists fits =
-          subst (λ (u : State). FitsFound u (left_of looked) false t) looked_after
-          (fits_refs (looked_to a k n) t (standing_with (left_of j) k goes.back) (left_of looked) false
+          subst (λ (u : State). FitsFound u (still_left looked) false t) looked_after
+          (fits_refs (looked_to a k n) t (standing_with (still_left j) k goes.back) (still_left looked) false
           (λ i. sym (left_looked i)) fits)
 
-      looked_on_fits : (t : State) (lists : List (List ℕ)) → FitsFound (after lists) (left_of looked) false t
-          → FitsFound (looked_to a k n) (standing_with (left_of j) k goes.back) false t
+      looked_on_fits : (t : State) (lists : List (List ℕ)) → FitsFound (after lists) (still_left looked) false t
+          → FitsFound (looked_to a k n) (standing_with (still_left j) k goes.back) false t
       looked_on_fits t lists fits =
-          fits_refs (looked_to a k n) t (left_of looked) (standing_with (left_of j) k goes.back) false left_looked
-          (subst (λ (u : State). FitsFound u (left_of looked) false t) (sym looked_after) fits)
+          fits_refs (looked_to a k n) t (still_left looked) (standing_with (still_left j) k goes.back) false left_looked
+          (subst (λ (u : State). FitsFound u (still_left looked) false t) (sym looked_after) fits)
 
       -- ---- the state
 
@@ -321,7 +321,7 @@ module _ (j : Judged) (k n : ℕ) (none : MayLook j k) (reply : Reply)
       in_phase = in_clearing j k none a stands
 
       stands_looked : (lists : List (List ℕ)) → Lawful j.profile j.config (after lists)
-          → Stands looked (after lists)
+          → StandsFor looked (after lists)
       stands_looked lists lawful =
           let s = stands in
           let told = s.finders in
@@ -362,11 +362,11 @@ module _ (j : Judged) (k n : ℕ) (none : MayLook j k) (reply : Reply)
 
       -- each that fits then comes from one that fits
       comes_from : reply ≡ answer → (t : State)
-          → FitsFound (looked_to a k n) (standing_with (left_of j) k goes.back) false t
+          → FitsFound (looked_to a k n) (standing_with (still_left j) k goes.back) false t
           → (s : State) × FitsIt j a s × IsRowAs j.profile s look_row t
       comes_from legal t fits =
           let from =
-          fits_looked a t (left_of j) j.some_left k (sym (work_known j a stands Clearing k) ∙ none)
+          fits_looked a t (still_left j) j.some_left k (sym (work_known j a stands Clearing k) ∙ none)
           (within_scanned j k none a stands) n goes.front goes.back here goes.none fits in (
             from.0,
             fits_found j a from.0 in_phase from.1,
@@ -376,7 +376,7 @@ module _ (j : Judged) (k n : ℕ) (none : MayLook j k) (reply : Reply)
           )
 
       -- beyond the workers nothing is left
-      left_beyond : (i : ℕ) → length a.scanned ≤ i → standing_with (left_of j) k goes.back i ≡ []
+      left_beyond : (i : ℕ) → length a.scanned ≤ i → standing_with (still_left j) k goes.back i ≡ []
       left_beyond i beyond =
           elim (cases_Bool (i == k)) [
             | inl same ↦
@@ -393,23 +393,23 @@ module _ (j : Judged) (k n : ℕ) (none : MayLook j k) (reply : Reply)
 
       -- some state fits then
       some_looked : (lists : List (List ℕ)) × (length lists ≡ length a.scanned)
-          × MayHaveFound (standing_with (left_of j) k goes.back) a.cleared false lists
+          × MayHaveFound (standing_with (still_left j) k goes.back) a.cleared false lists
       some_looked =
-          some_fit (standing_with (left_of j) k goes.back) a.cleared false (length a.scanned) left_beyond
+          some_fit (standing_with (still_left j) k goes.back) a.cleared false (length a.scanned) left_beyond
           (λ said. absurd (false≢true said))
 
-      fits_after : FitsFound (looked_to a k n) (standing_with (left_of j) k goes.back) false
+      fits_after : FitsFound (looked_to a k n) (standing_with (still_left j) k goes.back) false
           (finding (looked_to a k n) some_looked.0)
       fits_after = (some_looked.0, refl, some_looked.1, some_looked.2)
 
       -- what the row leaves is what stands behind n
-      back_same : (front back : List ℕ) → left_of j k ≡ front ++ n ∷ back → back ≡ goes.back
+      back_same : (front back : List ℕ) → still_left j k ≡ front ++ n ∷ back → back ≡ goes.back
       back_same front back is =
           sym (same_behind goes.front goes.back front back n
           (subst AreDistinct here (left_distinct j k none a stands)) (sym here ∙ is))
 
     -- no state that fits has another answer
-    pub other_answer : (reply ≡ answer → ⊥) → (a : State) → Stands j a → HasNone j look_row a
+    pub other_answer : (reply ≡ answer → ⊥) → (a : State) → StandsFor j a → HasNone j look_row a
     other_answer differ a stands s t fits h =
         differ ((looks a stands s t fits h).2 ∙ sym (answer_known a stands))
 
@@ -423,7 +423,7 @@ module _ (j : Judged) (k n : ℕ) (none : MayLook j k) (reply : Reply)
           let b : State = after a stands lists in
           let is : finding (looked_to a k n) lists ≡ b =
           ap (λ (u : State). finding u lists) (looked_after a stands) in
-          let next_stands : Stands looked b =
+          let next_stands : StandsFor looked b =
           stands_looked a stands lists
           (subst (λ (u : State). Lawful j.profile j.config u) is
           (lawful_row j.profile j.config from.0 (finding (looked_to a k n) lists) look_row (lawful from.0 from.1)
@@ -435,7 +435,7 @@ module _ (j : Judged) (k n : ℕ) (none : MayLook j k) (reply : Reply)
                 let at = looks a stands s t fits h in
                 fits_found looked b t (in_phase a stands)
                 (fits_looked_on a stands t lists
-                (subst (λ (back : List ℕ). FitsFound (looked_to a k n) (standing_with (left_of j) k back) false t)
+                (subst (λ (back : List ℕ). FitsFound (looked_to a k n) (standing_with (still_left j) k back) false t)
                 (back_same a stands at.0 at.1 at.3) at.5));
             back = λ t fits.
                 comes_from a stands legal t
@@ -443,7 +443,7 @@ module _ (j : Judged) (k n : ℕ) (none : MayLook j k) (reply : Reply)
           },
     )
 
-    pub looked_sound : IsSound j → reply ≡ answer → IsSound looked
+    pub looked_sound : IsOfSomeState j → reply ≡ answer → IsOfSomeState looked
     looked_sound sound legal =
         let settled = sound.settled in
         sound_told j looked look_row sound (looked_told legal)
@@ -470,10 +470,10 @@ so_answers false None n = inr (inr refl)
 
 -- a worker that is not refused tells that none is left for it, or looks at one
 module _ (j : Judged) (k : ℕ) (none : MayLook j k) (reply : Reply) where
-  pub no_answer : (reply ≡ replies.Nothing → ⊥) → ((n : ℕ) → IsLookAt reply n → ⊥) → (a : State) → Stands j a
+  pub no_answer : (reply ≡ replies.Nothing → ⊥) → ((n : ℕ) → IsLookAt reply n → ⊥) → (a : State) → StandsFor j a
       → HasNone j (plain_row (plain.ClearNext k) reply) a
   no_answer not_nothing no_look a stands s t fits h =
-      elim (look_fits a t (left_of j) j.some_left k (sym (work_known j a stands Clearing k) ∙ none)
+      elim (look_fits a t (still_left j) j.some_left k (sym (work_known j a stands Clearing k) ∙ none)
       (within_scanned j k none a stands) s reply (left_distinct j k none a stands)
       (found_fits j a stands (in_clearing j k none a stands) s fits) ((look_common j.profile s t k reply).0 h)) [
         | inl nothing ↦ not_nothing nothing.0
@@ -490,7 +490,7 @@ pub unwritten : (ws : List Finder) (i : ℕ) (v new : Finder) → v ≡ slice_in
     → slice_set ws i new ≡ ws
 unwritten ws i v new read same = ap (λ (w : Finder). slice_set ws i w) (same ∙ read) ∙ set-get_or ws i v
 
-module _ (j : Judged) (sound : IsSound j) (k i n : ℕ) (none : MayLook j k)
+module _ (j : Judged) (sound : IsOfSomeState j) (k i n : ℕ) (none : MayLook j k)
     (reply : Reply) (names : IsLookAt reply n) (same : i ≡ k) (w : Finder) (read : w ≡ slice_index_or j.workers i w)
     (found : Option (ℕ × Bool)) (finds : found ≡ found_from n w.at (drop w.at w.found)) where
   finder_is : (v : Finder) → v ≡ slice_index_or j.workers i v → v ≡ finder_at j k
@@ -499,11 +499,11 @@ module _ (j : Judged) (sound : IsSound j) (k i n : ℕ) (none : MayLook j k)
   found_is : found_from n (finder_at j k).at (drop (finder_at j k).at (finder_at j k).found) ≡ found
   found_is = ap (λ (v : Finder). found_from n v.at (drop v.at v.found)) (sym (finder_is w read)) ∙ sym finds
 
-  pub none_tells : found ≡ None → (a : State) → Stands j a → HasNone j (plain_row (plain.ClearNext k) reply) a
+  pub none_tells : found ≡ None → (a : State) → StandsFor j a → HasNone j (plain_row (plain.ClearNext k) reply) a
   none_tells is = not_found j k n none reply names (found_is ∙ is)
 
   module _ (next : ℕ) (is_cleared : Bool) (is : found ≡ Some (next, is_cleared)) where
-    pub other_tells : (answer_by j is_cleared n ≡ reply → ⊥) → (a : State) → Stands j a
+    pub other_tells : (answer_by j is_cleared n ≡ reply → ⊥) → (a : State) → StandsFor j a
         → HasNone j (plain_row (plain.ClearNext k) reply) a
     other_tells differ =
         other_answer j k n none reply names next is_cleared (found_is ∙ is) (λ so. differ (sym so))
@@ -529,7 +529,7 @@ module _ (j : Judged) (sound : IsSound j) (k i n : ℕ) (none : MayLook j k)
             subst (λ (x : Judged). TellsOf j (plain_row (plain.ClearNext k) reply) (Ok tt) x) next_is
             (looked_told j k n none reply names next is_cleared (found_is ∙ is) (sym legal))
 
-        pub look_sound : IsSound (record j { workers = slice_set j.workers i new; some_left = false })
+        pub look_sound : IsOfSomeState (record j { workers = slice_set j.workers i new; some_left = false })
         look_sound =
-            subst IsSound next_is
+            subst IsOfSomeState next_is
             (looked_sound j k n none reply names next is_cleared (found_is ∙ is) sound (sym legal))

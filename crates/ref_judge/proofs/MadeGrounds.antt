@@ -9,7 +9,7 @@ use Rattle.ref_base.proofs.OneMore.{has-one_more}
 use Rattle.ref_space.specs.Tables.{Tag}
 use Rattle.ref_objects.specs.Grounds.{Ground, ground_marked, with_new_object, with_new_tag, cleared_in_at, link_at}
 use Rattle.ref_objects.specs.Grounds.{marks_with_new}
-use Rattle.ref_judge.specs.Judged.{is_past_mark, is_going}
+use Rattle.ref_judge.specs.Judged.{is_behind_mark, is_going}
 use Rattle.ref_judge.specs.MadeGrounds.{kept_made}
 
 -- ---- marks
@@ -23,7 +23,7 @@ last_there [] o = grind arith
 last_there (p ∷ os) o = grind (arith, last_there os o)
 
 -- in a cycle what was made is marked, and nothing else anew
-pub has_made : (phase : Phase) (g : Ground) (m d : ℕ) (o : Object) → g.condemning ≡ is_past_mark phase
+pub has_made : (phase : Phase) (g : Ground) (m d : ℕ) (o : Object) → g.condemning ≡ is_behind_mark phase
     → is_going phase ≡ true → (k : ℕ)
     → has (kept_made phase (with_new_object g m d o) o.no).marked k ≡ ((o.no == k) || has g.marked k)
 has_made Idle g m d o condemns going k = absurd (false≢true going)

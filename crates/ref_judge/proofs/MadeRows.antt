@@ -26,12 +26,12 @@ use Rattle.ref_base.proofs.LegalMarks.{slot_within}
 use Rattle.ref_base.proofs.RowForms.{unless_passes}
 use Rattle.ref_base.proofs.PlainRows.{plain_row, accepted_plain}
 use Rattle.ref_objects.specs.Grounds.{Ground, with_new_object, IsWellFormed}
-use Rattle.ref_judge.specs.Judged.{has_one_answer, Judged, is_past_mark, is_going, is_judging}
+use Rattle.ref_judge.specs.Judged.{has_one_answer, Judged, is_behind_mark, is_going, is_judging}
 use Rattle.ref_judge.specs.MadeGrounds.{kept_made}
-use Rattle.ref_judge.specs.Policies.{under}
+use Rattle.ref_judge.specs.Policies.{profiled}
 use Rattle.ref_judge.specs.ProfiledRows.{IsRowAs}
-use Rattle.ref_judge.specs.Standing.{Stands, TagsTell, FindersTell, MarksLive, DoesAs, Leads, IsSettled, IsSound}
-use Rattle.ref_judge.specs.Standing.{is_anew}
+use Rattle.ref_judge.specs.Standing.{StandsFor, TagsTell, FindersTell, MarksLive, DoesAs, LeadsOne, IsSettled}
+use Rattle.ref_judge.specs.Standing.{IsOfSomeState, is_anew}
 use Rattle.ref_judge.proofs.BegunCycles.{lawful_begun}
 use Rattle.ref_judge.proofs.KnownGains.{known_new_as, known_refer_as}
 use Rattle.ref_judge.proofs.KnownJudges.{known_alike, marks_of}
@@ -58,7 +58,7 @@ judging_goes Clearing is = refl
 judging_goes Sweeping is = refl
 judging_goes Moving is = is
 
-past_goes : (phase : Phase) → is_past_mark phase ≡ true → is_going phase ≡ true
+past_goes : (phase : Phase) → is_behind_mark phase ≡ true → is_going phase ≡ true
 past_goes Idle is = is
 past_goes Marking is = refl
 past_goes Clearing is = refl
@@ -85,7 +85,7 @@ one_of_joined [] k n within = absurd (false≢true within)
 one_of_joined (ns ∷ rest) zero n within = has-left ns (joined rest) n within
 one_of_joined (ns ∷ rest) (suc k) n within = has-right ns (joined rest) n (one_of_joined rest k n within)
 
-module _ (old : Judged) (a : State) (stands : Stands old a) (formed : IsWellFormed old.ground) (m d : ℕ) (o : Object)
+module _ (old : Judged) (a : State) (stands : StandsFor old a) (formed : IsWellFormed old.ground) (m d : ℕ) (o : Object)
     (number : o.no ≡ a.next) (marks : List ℕ) (marked : MarksMade old o.no marks) (moments : List Graph) where
   facts : Facts old.config a
   facts = legal_facts old.profile old.config a stands.lawful
@@ -169,8 +169,8 @@ module _ (old : Judged) (a : State) (stands : Stands old a) (formed : IsWellForm
 
   stands_made : (row : Row) → IsRowAs old.profile a row (made_to a m d o moments)
       → (is_in old.phase Marking ≡ true → old.profile.keeps_more ≡ false
-      → Knows (WithNext (λ n. has old.ground.marked n ≡ true) a) (under old.profile (made_to a m d o moments)))
-      → Stands (making old m d o marks) (made_to a m d o moments)
+      → Knows (WithNext (λ n. has old.ground.marked n ≡ true) a) (profiled old.profile (made_to a m d o moments)))
+      → StandsFor (making old m d o marks) (made_to a m d o moments)
   stands_made row accepted knows = record {
     lawful = lawful_row old.profile old.config a (made_to a m d o moments) row stands.lawful accepted;
     heap = made_same old a stands m d o kept;
@@ -189,7 +189,7 @@ module _ (old : Judged) (a : State) (stands : Stands old a) (formed : IsWellForm
     kept = λ is less.
         let with_it = marked (marking_goes old.phase is) in
         known_alike (WithNext (λ n. has old.ground.marked n ≡ true) a) (λ n. has marks n ≡ true)
-        (under old.profile (made_to a m d o moments))
+        (profiled old.profile (made_to a m d o moments))
         (λ n within.
         elim within [
           | inl was ↦ with_it n ∙ or_right (o.no == n) (has old.ground.marked n) was
@@ -228,28 +228,28 @@ ticked_made : (a : State) (m d : ℕ) (o : Object)
 ticked_made a m d o =
     elim (cases_Bool (is_in a.world.phase Marking)) [ inl marks ↦ simp marks refl | inr other ↦ simp other refl ]
 
-module _ (old : Judged) (a : State) (stands : Stands old a) (settled : IsSettled old) (formed : IsWellFormed old.ground)
-    (m d : ℕ) (step : PlainStep) (none : plain_refusal a step ≡ None) where
+module _ (old : Judged) (a : State) (stands : StandsFor old a) (settled : IsSettled old)
+    (formed : IsWellFormed old.ground) (m d : ℕ) (step : PlainStep) (none : plain_refusal a step ≡ None) where
   made_leads : (o p : Object) → o.no ≡ a.next → p ≡ o
       → IsRow a (plain_row step (replies.Object a.next)) (ticked (after_made a m d o))
       → IsCommonRow a (plain_row step (replies.Object a.next))
       → is_anew a (Plain step) (Ok (replies.Object a.next)) ≡ false
       → (is_in old.phase Marking ≡ true → old.profile.keeps_more ≡ false → (b : State)
       → IsRowAs old.profile a (plain_row step (replies.Object a.next)) b
-      → Knows (WithNext (λ n. has old.ground.marked n ≡ true) a) (under old.profile b))
-      → Leads old (Plain step) (Ok (replies.Object old.ground.next)) (with_made old m d p) a
+      → Knows (WithNext (λ n. has old.ground.marked n ≡ true) a) (profiled old.profile b))
+      → LeadsOne old (Plain step) (Ok (replies.Object old.ground.next)) (with_made old m d p) a
   made_leads o p number same accepted common anew knows =
       let b : State = made_to a m d o (ticked (after_made a m d o)).moments in
       let row : Row = plain_row step (replies.Object a.next) in
       let accepts : IsRowAs old.profile a row b =
       row_common old.profile a b row common (subst (IsRow a row) (ticked_made a m d o) accepted) in
-      let stands_now : Stands (making old m d o (marks_made old m d o)) b =
+      let stands_now : StandsFor (making old m d o (marks_made old m d o)) b =
       stands_made old a stands formed m d o number (marks_made old m d o)
       (has_made old.phase old.ground m d o settled.condemning) (ticked (after_made a m d o)).moments row accepts
       (λ is less. knows is less b accepts) in
-      subst (λ (n : ℕ). Leads old (Plain step) (Ok (replies.Object n)) (with_made old m d p) a) (sym stands.next)
-      (subst (λ (x : Object). Leads old (Plain step) (Ok (replies.Object a.next)) (with_made old m d x) a) (sym same)
-      (subst (λ (new : Judged). Leads old (Plain step) (Ok (replies.Object a.next)) new a)
+      subst (λ (n : ℕ). LeadsOne old (Plain step) (Ok (replies.Object n)) (with_made old m d p) a) (sym stands.next)
+      (subst (λ (x : Object). LeadsOne old (Plain step) (Ok (replies.Object a.next)) (with_made old m d x) a) (sym same)
+      (subst (λ (new : Judged). LeadsOne old (Plain step) (Ok (replies.Object a.next)) new a)
       (sym (with_made_is old m d o))
       (leads_same old (making old m d o (marks_made old m d o)) a b (Plain step) (Ok (replies.Object a.next)) accepts
       stands_now anew (record { left = refl; none = refl; some = refl; finders = λ k. refl }))))
@@ -270,8 +270,8 @@ module _ (old : Judged) (settled : IsSettled old) (formed : IsWellFormed old.gro
       (with_made old m d (plain_object old.ground.next (nulls k)))
   makes m d k none = (refl, refl, leads)
     where
-      leads : (a : State) → Stands old a
-          → Leads old (Plain (plain.New m d k)) (Ok (replies.Object old.ground.next))
+      leads : (a : State) → StandsFor old a
+          → LeadsOne old (Plain (plain.New m d k)) (Ok (replies.Object old.ground.next))
           (with_made old m d (plain_object old.ground.next (nulls k))) a
       leads a stands =
           let step : PlainStep = plain.New m d k in
@@ -293,9 +293,9 @@ module _ (old : Judged) (settled : IsSettled old) (formed : IsWellFormed old.gro
       (with_made old m d (new_reference h old.ground.next strength (slot_at h m s) q k))
   refers m strength d s q k none = (refl, refl, leads)
     where
-      leads : (a : State) → Stands old a
+      leads : (a : State) → StandsFor old a
           → let h = old.ground.heap in
-          Leads old (Plain (plain.Refer m strength d s q k)) (Ok (replies.Object old.ground.next))
+          LeadsOne old (Plain (plain.Refer m strength d s q k)) (Ok (replies.Object old.ground.next))
           (with_made old m d (new_reference h old.ground.next strength (slot_at h m s) q k)) a
       leads a stands =
           let step : PlainStep = plain.Refer m strength d s q k in
@@ -315,9 +315,9 @@ module _ (old : Judged) (settled : IsSettled old) (formed : IsWellFormed old.gro
           (within old a stands settled formed m d step passes slot) passes row)
 
 -- the invariant holds again
-pub made_sound : (old : Judged) (m d : ℕ) (o : Object) (step : PlainStep) (reply : Reply) → IsSound old
+pub made_sound : (old : Judged) (m d : ℕ) (o : Object) (step : PlainStep) (reply : Reply) → IsOfSomeState old
     → DoesAs old (Plain step) (Ok reply) (with_made old m d o) → has_one_answer step ≡ true
-    → IsSound (with_made old m d o)
+    → IsOfSomeState (with_made old m d o)
 made_sound old m d o step reply sound does one =
     let leads = does.2 sound.state sound.stands in
     sound_after old (with_made old m d o) (Plain step) (Ok reply) one sound does

@@ -15,7 +15,7 @@ use Rattle.ref_base.proofs.Fitting.{Fits, refused_end}
 use Rattle.ref_base.proofs.FreeRows.{freed}
 use Rattle.ref_base.proofs.RowForms.{unless_passes}
 use Rattle.ref_judge.specs.Judged.{Judged}
-use Rattle.ref_judge.specs.Standing.{Stands, IsSound, FitsIn, FitsIt, HasNone, TellsOf}
+use Rattle.ref_judge.specs.Standing.{StandsFor, IsOfSomeState, FitsIn, FitsIt, HasNone, TellsOf}
 use Rattle.ref_judge.specs.declared.stop.Stop.{Stop}
 use Rattle.ref_judge.specs.declared.stop.Stop.TheVariants as stop
 use Rattle.ref_judge.proofs.ClearingRows.{refused_first}
@@ -49,7 +49,7 @@ pub in_marking : (p : Phase) → unless (is_in p Marking) WrongPhase None ≡ No
 in_marking p none = (unless_passes (is_in p Marking) WrongPhase None none).0
 
 -- in another phase it is refused
-pub mark_refused : (j : Judged) (a : State) (fault : Fault) → Stands j a
+pub mark_refused : (j : Judged) (a : State) (fault : Fault) → StandsFor j a
     → unless (is_in j.phase Marking) WrongPhase None ≡ Some fault → (left : Bool) (found : List (List ℕ))
     → refusal (freed a left found) (steps.Plain plain.EndMark) ≡ Some fault
 mark_refused j a fault stands is left found =
@@ -59,7 +59,7 @@ mark_refused j a fault stands is left found =
 -- ---- the answers
 
 -- what may be said of what is left is no part of a state
-stands_left : (j : Judged) (a : State) → Stands j a → Stands (record j { may_be_none = false }) a
+stands_left : (j : Judged) (a : State) → StandsFor j a → StandsFor (record j { may_be_none = false }) a
 stands_left j a s = record {
   lawful = s.lawful;
   heap = s.heap;
@@ -117,7 +117,7 @@ module _ (j : Judged) (marks : is_in j.phase Marking ≡ true) where
     },
   )
 
-  pub grey_sound : IsSound j → j.may_be_left ≡ true → IsSound (record j { may_be_none = false })
+  pub grey_sound : IsOfSomeState j → j.may_be_left ≡ true → IsOfSomeState (record j { may_be_none = false })
   grey_sound sound said =
       let settled = sound.settled in
       sound_told j (record j { may_be_none = false }) refused_end sound (grey_told said)
@@ -135,7 +135,7 @@ module _ (j : Judged) (marks : is_in j.phase Marking ≡ true) where
         waits = settled.waits;
       })
 
-  pub grey_none : j.may_be_left ≡ false → (a : State) → Stands j a → HasNone j refused_end a
+  pub grey_none : j.may_be_left ≡ false → (a : State) → StandsFor j a → HasNone j refused_end a
   grey_none said a stands s t fits h =
       let now =
       grey_fits_as j.profile a t j.may_be_left j.may_be_none (in_mark j a stands marks) s (mark_fits a s fits) h in
@@ -143,7 +143,7 @@ module _ (j : Judged) (marks : is_in j.phase Marking ≡ true) where
 
   -- no other answer is one of a mark's end
   pub other_none : (reply : Reply) → (reply ≡ replies.Refused GreyLeft → ⊥)
-      → ((count : ℕ) → reply ≡ replies.Doomed count → ⊥) → (a : State) → Stands j a
+      → ((count : ℕ) → reply ≡ replies.Doomed count → ⊥) → (a : State) → StandsFor j a
       → HasNone j (record { step = steps.Plain plain.EndMark; reply = reply }) a
   other_none reply no_grey no_count a stands s t fits h =
       let free = mark_fits a s fits in

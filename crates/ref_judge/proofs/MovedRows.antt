@@ -19,8 +19,8 @@ use Rattle.ref_base.proofs.PlainRows.{plain_row}
 use Rattle.ref_judge.specs.ProfiledRows.{IsRowAs}
 use Rattle.ref_base.specs.declared.heap_step.HeapStep.TheVariants as heap
 use Rattle.ref_base.proofs.PhaseLaws.{of_phase}
-use Rattle.ref_judge.specs.Judged.{Judged, is_past_mark}
-use Rattle.ref_judge.specs.Standing.{Stands, FitsIt, HasNone, LeadsOn, IsSound, TellsOf}
+use Rattle.ref_judge.specs.Judged.{Judged, is_behind_mark}
+use Rattle.ref_judge.specs.Standing.{StandsFor, FitsIt, HasNone, LeadsOn, IsOfSomeState, TellsOf}
 use Rattle.ref_judge.proofs.ProfiledBases.{one_left_as}
 use Rattle.ref_judge.proofs.UnchangedRows.{plain_accepted_as, accepted_plain_as}
 use Rattle.ref_judge.proofs.TestedRows.{Stays, fits_freed, fits_itself, itself_fits, phase_known, select_known}
@@ -35,7 +35,7 @@ abbrev pub IsAlone : Judged → Type 0
 IsAlone j = (is_in j.phase Marking ≡ false) × (is_in j.phase Clearing ≡ false)
 
 -- a row of the one state that fits leads to the one that fits then
-pub alone_leads : (j new : Judged) (row : Row) (a b : State) → IsAlone j → IsAlone new → Stands new b
+pub alone_leads : (j new : Judged) (row : Row) (a b : State) → IsAlone j → IsAlone new → StandsFor new b
     → KeepsRow a row → IsRowAs j.profile a row b → LeadsOn j new row a
 alone_leads j new row a b old then stands keeps h = record {
   state = b;
@@ -51,7 +51,7 @@ alone_leads j new row a b old then stands keeps h = record {
   );
 }
 
-module _ (j : Judged) (a s t : State) (stands : Stands j a) (fits : FitsIt j a s) where
+module _ (j : Judged) (a s t : State) (stands : StandsFor j a) (fits : FitsIt j a s) where
   -- a state that fits refuses no step that the judge's value does not
   pub select_accepted : (reply : Reply) → select_refusal j.phase j.was_chosen ≡ None
       → IsRowAs j.profile s (plain_row plain.Select reply) t → Selects s reply t
@@ -68,7 +68,7 @@ module _ (j : Judged) (a s t : State) (stands : Stands j a) (fits : FitsIt j a s
   end_accepted reply none = plain_accepted_as j.profile s t plain.EndMove reply
       (rw ((fits_freed j a s fits).2) (sym (phase_known j a stands Moving) ∙ none))
 
-module _ (j : Judged) (a : State) (stands : Stands j a) where
+module _ (j : Judged) (a : State) (stands : StandsFor j a) where
   -- where a choice is not refused, no cycle goes on
   pub idle : select_refusal j.phase j.was_chosen ≡ None → j.phase ≡ Idle
   idle none = stands.phase ∙ (of_phase a (heap.Plain plain.Select) (sym (select_known j a stands) ∙ none)).0
@@ -119,32 +119,32 @@ module _ (j : Judged) (a : State) (stands : Stands j a) where
       (tt, inr tt) ended
 
 -- the judge is sound then
-module _ (j : Judged) (sound : IsSound j) where
+module _ (j : Judged) (sound : IsOfSomeState j) where
   pub selected_told : (count : ℕ) → select_refusal j.phase j.was_chosen ≡ None
       → TellsOf j (plain_row plain.Select (replies.Selected count)) (Ok tt) (rephased j Moving true j.ground.condemning)
   selected_told count none = (refl, refl, λ a stands lawful. selected_leads j a stands count none)
 
   pub selected_sound : select_refusal j.phase j.was_chosen ≡ None
-      → IsSound (rephased j Moving true j.ground.condemning)
+      → IsOfSomeState (rephased j Moving true j.ground.condemning)
   selected_sound none =
       let now : j.phase ≡ Idle = idle j sound.state sound.stands none in
       sound_told j (rephased j Moving true j.ground.condemning) (plain_row plain.Select (replies.Selected 0)) sound
       (selected_told 0 none)
       (settled_rephased j Moving true j.ground.condemning refl refl sound.settled (λ going. absurd cc)
-      (ap (λ (p : Phase). is_in p Marking) now) (sound.settled.condemning ∙ ap is_past_mark now))
+      (ap (λ (p : Phase). is_in p Marking) now) (sound.settled.condemning ∙ ap is_behind_mark now))
 
   pub end_told : unless (is_in j.phase Moving) WrongPhase None ≡ None
       → TellsOf j (plain_row plain.EndMove replies.Done) (Ok tt) (rephased j Idle j.was_chosen j.ground.condemning)
   end_told none = (refl, refl, λ a stands lawful. end_leads j a stands none)
 
   pub end_sound : unless (is_in j.phase Moving) WrongPhase None ≡ None
-      → IsSound (rephased j Idle j.was_chosen j.ground.condemning)
+      → IsOfSomeState (rephased j Idle j.was_chosen j.ground.condemning)
   end_sound none =
       let now : j.phase ≡ Moving = moving j sound.state sound.stands none in
       sound_told j (rephased j Idle j.was_chosen j.ground.condemning) (plain_row plain.EndMove replies.Done) sound
       (end_told none)
       (settled_rephased j Idle j.was_chosen j.ground.condemning refl refl sound.settled (λ going. absurd cc)
-      (ap (λ (p : Phase). is_in p Marking) now) (sound.settled.condemning ∙ ap is_past_mark now))
+      (ap (λ (p : Phase). is_in p Marking) now) (sound.settled.condemning ∙ ap is_behind_mark now))
 
 -- ---- answers that leave the state as it was
 
@@ -176,7 +176,7 @@ module _ (j : Judged) where
 
   -- and for no other fault
   pub no_choice : (fault : Fault) → (fault ≡ NoRoom → ⊥) → (fault ≡ AddressesSpent → ⊥)
-      → select_refusal j.phase j.was_chosen ≡ None → (a : State) → Stands j a
+      → select_refusal j.phase j.was_chosen ≡ None → (a : State) → StandsFor j a
       → HasNone j (plain_row plain.Select (replies.Refused fault)) a
   no_choice fault room spent none a stands s t fits h =
       elim (select_accepted j a s t stands fits (replies.Refused fault) none h) [
@@ -202,7 +202,7 @@ module _ (j : Judged) where
 
   -- an object that isn't there doesn't
   pub no_move : (k n : ℕ) → (is_there j.ground.heap.objects n ≡ true → ⊥)
-      → work_refusal j.ground.heap j.phase Moving k ≡ None → (a : State) → Stands j a
+      → work_refusal j.ground.heap j.phase Moving k ≡ None → (a : State) → StandsFor j a
       → HasNone j (plain_row (plain.MoveNext k) (replies.Moved n)) a
   no_move k n none_there none a stands s t fits h =
       none_there (there_known j a stands n

@@ -24,7 +24,7 @@ use Rattle.ref_base.specs.declared.reply.Reply.{Reply}
 use Rattle.ref_base.specs.declared.reply.Reply.TheVariants as replies
 use Rattle.ref_judge.specs.KeptBounds.{EverEnds, MayBeKept, may_keep}
 use Rattle.ref_judge.specs.ProfiledRows.{IsLeftAs, says_anew, AcceptsAnew, ScansAs, PlainAcceptsAs}
-pub use Rattle.ref_judge.specs.Policies.{soft_policy, policy_as, under}
+pub use Rattle.ref_judge.specs.Policies.{soft_policy, policy_as, profiled}
 use Rattle.ref_judge.specs.declared.profile.Profile.{Profile}
 use Rattle.ref_judge.proofs.FittingRows.{ticked_as_said}
 
@@ -89,11 +89,11 @@ HandsOver (heap.Plain step) = ⊥
 HandsOver step = Unit {0}
 
 -- a moment more of a mark, and the policy, in either order
-under_ticked : (p : Profile) (c : State) → under p (ticked c) ≡ ticked (under p c)
+under_ticked : (p : Profile) (c : State) → profiled p (ticked c) ≡ ticked (profiled p c)
 under_ticked p c =
     elim (cases_Bool (is_in c.world.phase Marking)) [ inl marks ↦ simp marks refl | inr other ↦ simp other refl ]
 
-under_said : (p : Profile) (c : State) → under p (ticked c) ≡ saying (ticked (under p c)) false
+under_said : (p : Profile) (c : State) → profiled p (ticked c) ≡ saying (ticked (profiled p c)) false
 under_said p c =
     elim (cases_Bool (is_in c.world.phase Marking)) [ inl marks ↦ simp marks refl | inr other ↦ simp other refl ]
 
@@ -105,18 +105,19 @@ each_under policy k (notice ∷ rest) w = each_under policy k rest (handed_on w 
 
 module _ (p : Profile) (a b : State) where
   -- one answer
-  gives_under : (c : State) (answer reply : Reply) → Gives answer c reply b → Gives answer (under p c) reply (under p b)
-  gives_under c answer reply row = (row.0, ap (under p) row.1 ∙ under_ticked p c)
+  gives_under : (c : State) (answer reply : Reply) → Gives answer c reply b
+      → Gives answer (profiled p c) reply (profiled p b)
+  gives_under c answer reply row = (row.0, ap (profiled p) row.1 ∙ under_ticked p c)
 
   -- an answer that may say something anew says that none is left
   anew_under : (c : State) (marks : Bool) (answer reply : Reply) → GivesAnewIf marks answer c reply b
-      → GivesAnewIf marks answer (under p c) reply (under p b)
+      → GivesAnewIf marks answer (profiled p c) reply (profiled p b)
   anew_under c true answer reply row =
-      (row.0, (false, ap (under p) row.1.1 ∙ under_said p c, λ no. absurd (false≢true no)))
+      (row.0, (false, ap (profiled p) row.1.1 ∙ under_said p c, λ no. absurd (false≢true no)))
   anew_under c false answer reply row = gives_under c answer reply row
 
   loads_under : (m d : ℕ) (value : Option ℕ) (reply : Reply) → Loads a m d value reply b
-      → Loads (under p a) m d value reply (under p b)
+      → Loads (profiled p a) m d value reply (profiled p b)
   loads_under m d None reply row =
       gives_under (on_heap a (with_slot a.world.heap m d None)) replies.Null reply row
   loads_under m d (Some n) reply row =
@@ -124,25 +125,26 @@ module _ (p : Profile) (a b : State) where
       reply row
 
   gets_under : (m d s : ℕ) (value : Option ℕ) (reply : Reply) → Gets a m d s value reply b
-      → Gets (under p a) m d s value reply (under p b)
+      → Gets (profiled p a) m d s value reply (profiled p b)
   gets_under m d s None reply row = gives_under (on_heap a (got a.world.heap m d s None)) replies.Null reply row
   gets_under m d s (Some n) reply row =
       anew_under (on_heap a (got a.world.heap m d s (Some n))) (is_in a.world.phase Marking) (replies.Object n) reply
       row
 
   unhooks_under : (m s : ℕ) (held queue : Option ℕ) (reply : Reply) → Unhooks a m s held queue reply b
-      → Unhooks (under p a) m s held queue reply (under p b)
+      → Unhooks (profiled p a) m s held queue reply (profiled p b)
   unhooks_under m s None queue reply row = gives_under (on_heap a (cut a.world.heap m s)) replies.Nothing reply row
   unhooks_under m s (Some n) None reply row = gives_under (on_heap a (cut a.world.heap m s)) replies.Nothing reply row
   unhooks_under m s (Some n) (Some q) reply row =
       gives_under (on_heap a (with_hold (cut a.world.heap m s) n)) (replies.Notice n q Own) reply row
 
-  holds_under : (held : Option ℕ) (reply : Reply) → Holds a held reply b → Holds (under p a) held reply (under p b)
+  holds_under : (held : Option ℕ) (reply : Reply) → Holds a held reply b
+      → Holds (profiled p a) held reply (profiled p b)
   holds_under None reply row = absurd row
   holds_under (Some n) reply row = gives_under (on_heap a (with_hold a.world.heap n)) (replies.Object n) reply row
 
   hands_under : (k : ℕ) (answer : Reply) (some : List Pending) (reply : Reply) → HandsOn a k answer some reply b
-      → HandsOn (under p a) k answer some reply (under p b)
+      → HandsOn (profiled p a) k answer some reply (profiled p b)
   hands_under k answer some reply row =
       let notices : List Notice = map (notice_from k) some in
       let w : World = handed_each a.world k notices in
@@ -156,7 +158,7 @@ module _ (p : Profile) (a b : State) where
 
   -- what a step of the abstract collector leaves in a mark, but a scan
   pub plain_under : (step : PlainStep) (reply : Reply) → IsMutators step → PlainAccepts a step reply b
-      → PlainAccepts (under p a) step reply (under p b)
+      → PlainAccepts (profiled p a) step reply (profiled p b)
   plain_under (plain.New m d k) reply inside row =
       gives_under (outcome a (heap.Plain (plain.New m d k)) (replies.Object a.next)) (replies.Object a.next) reply row
   plain_under (plain.Refer m strength d s q k) reply inside row =
@@ -178,7 +180,7 @@ module _ (p : Profile) (a b : State) where
 
   -- and a step that hands something over
   pub heap_under : (step : NamedStep) (reply : Reply) → HandsOver step → HeapAccepts a step reply b
-      → HeapAccepts (under p a) step reply (under p b)
+      → HeapAccepts (profiled p a) step reply (profiled p b)
   heap_under (heap.Plain step) reply over row = absurd over
   heap_under (heap.Unhook m s) reply over row = unhooks_under m s _ _ reply row
   heap_under (heap.Hold m s) reply over row = holds_under (slot_at a.world.heap m s) reply row
@@ -196,29 +198,29 @@ module _ (p : Profile) (a b : State) where
 module _ (p : Profile) (a b : State) where
   -- a step of a mutator, whether it says anew that an object is left or not
   anew_accepted : (anew : Bool) (step : PlainStep) (reply : Reply) → IsMutators step → AcceptsAnew p anew a step reply b
-      → PlainAccepts (under p a) step reply (under p b)
+      → PlainAccepts (profiled p a) step reply (profiled p b)
   anew_accepted true step reply inside row =
-      subst (λ (s : State). PlainAccepts (under p a) step reply s) (sym (ap (under p) row.2.1))
+      subst (λ (s : State). PlainAccepts (profiled p a) step reply s) (sym (ap (profiled p) row.2.1))
       (plain_under p a row.0 step reply inside row.1)
   anew_accepted false step reply inside row = plain_under p a b step reply inside row
 
   pub mutator_under : (step : PlainStep) (reply : Reply) → IsMutators step → PlainAcceptsAs p a step reply b
-      → PlainAccepts (under p a) step reply (under p b)
+      → PlainAccepts (profiled p a) step reply (profiled p b)
   mutator_under (plain.Scan k) reply inside row = absurd inside
   mutator_under plain.EndMark reply inside row = absurd inside
   mutator_under step reply inside row = anew_accepted (says_anew a step reply) step reply inside row
 
   -- what is left for the profile is left under its policy, where no more is kept
-  pub left_under : p.keeps_more ≡ false → (n : ℕ) → IsLeftAs p a n → IsLeft (under p a) n
+  pub left_under : p.keeps_more ≡ false → (n : ℕ) → IsLeftAs p a n → IsLeft (profiled p a) n
   left_under less n left = (kept left.0, left.1, left.2)
     where
-      kept : MayBeKept p a n → EverKept (under p a).world.policy a.moments n
+      kept : MayBeKept p a n → EverKept (profiled p a).world.policy a.moments n
       kept (inl ever) = under_ever p a.world.policy a.moments n ever
       kept (inr more) = absurd (false≢true (sym less ∙ more.0))
 
   -- a scan, from the state that says so whether an object is left
   pub scan_under : p.keeps_more ≡ false → (k : ℕ) (reply : Reply) → ScansAs p a k reply b
-      → (left : Bool) × Scans (saying (under p a) left) k reply (under p b)
+      → (left : Bool) × Scans (saying (profiled p a) left) k reply (profiled p b)
   scan_under less k (replies.Scanned n) row =
       let c : State = with_scanned a k n in (
         true,
@@ -227,8 +229,8 @@ module _ (p : Profile) (a b : State) where
           left_under less n row.1,
           (
             false,
-            ap (under p) row.2.1 ∙ under_said p c
-                ∙ ap (λ (s : State). saying s false) (sym (ticked_as_said (under p c) true)),
+            ap (profiled p) row.2.1 ∙ under_said p c
+                ∙ ap (λ (s : State). saying s false) (sym (ticked_as_said (profiled p c) true)),
             λ no. absurd (false≢true no),
           ),
         ),

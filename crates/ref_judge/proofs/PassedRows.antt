@@ -25,9 +25,10 @@ use Rattle.ref_base.proofs.PhaseLaws.{of_phase}
 use Rattle.ref_base.proofs.PlainRows.{plain_row}
 use Rattle.ref_base.proofs.RowForms.{unless_passes}
 use Rattle.ref_judge.specs.Finding.{has_cleared_left, others_from}
-use Rattle.ref_judge.specs.Judged.{Judged, Finder, no_finder, finder_at, found_by, left_of, is_judging, AreToldCleared}
+use Rattle.ref_judge.specs.Judged.{Judged, Finder, no_finder, finder_at, found_by, still_left, is_judging}
+use Rattle.ref_judge.specs.Judged.{AreToldCleared}
 use Rattle.ref_judge.specs.ProfiledRows.{IsRowAs}
-use Rattle.ref_judge.specs.Standing.{Stands, FitsIt, HasNone, TellsOf, IsSound}
+use Rattle.ref_judge.specs.Standing.{StandsFor, FitsIt, HasNone, TellsOf, IsOfSomeState}
 use Rattle.ref_judge.specs.declared.worker.Found.{Found}
 use Rattle.ref_judge.proofs.ClearingRows.{found_fits, fits_found, none_cleared, cleared_none, more_left}
 use Rattle.ref_judge.proofs.LegalFacts.{legal_facts}
@@ -85,14 +86,14 @@ pending_kept (v ∷ ws) zero w same = ap (λ p. p ∷ map (λ (x : Finder). x.pe
 pending_kept (v ∷ ws) (suc k) w same = ap (λ l. v.pending ∷ l) (pending_kept ws k w same)
 
 module _ (j : Judged) (k : ℕ) (none : work_refusal j.ground.heap j.phase Clearing k ≡ None) where
-  pub in_clearing : (a : State) → Stands j a → j.phase ≡ Clearing
+  pub in_clearing : (a : State) → StandsFor j a → j.phase ≡ Clearing
   in_clearing a stands =
       stands.phase ∙ of_phase a (heap.Plain (plain.ClearNext k)) (sym (work_known j a stands Clearing k) ∙ none)
 
   is_one : k < j.ground.heap.config.workers
   is_one = ltb-true k j.ground.heap.config.workers (unless_passes (is_worker j.ground.heap k) _ _ none).0
 
-  pub within_config : (a : State) → Stands j a → k < j.config.workers
+  pub within_config : (a : State) → StandsFor j a → k < j.config.workers
   within_config a stands =
       let is = ap (λ (h : Heap). h.config.workers) stands.heap in
       let sizes = (legal_facts j.profile j.config a stands.lawful).sizes in
@@ -100,7 +101,7 @@ module _ (j : Judged) (k : ℕ) (none : work_refusal j.ground.heap j.phase Clear
       let own = is_one in
       omega (arith, is, config, own)
 
-  pub within_workers : (a : State) → Stands j a → k < length j.workers
+  pub within_workers : (a : State) → StandsFor j a → k < length j.workers
   within_workers a stands =
       let sizes = (legal_facts j.profile j.config a stands.lawful).sizes in
       let pending = sizes.pending in
@@ -109,14 +110,14 @@ module _ (j : Judged) (k : ℕ) (none : work_refusal j.ground.heap j.phase Clear
       let own = within_config a stands in
       omega (arith, pending, all, same, own)
 
-  pub within_scanned : (a : State) → Stands j a → k < length a.scanned
+  pub within_scanned : (a : State) → StandsFor j a → k < length a.scanned
   within_scanned a stands =
       let scanned = (legal_facts j.profile j.config a stands.lawful).sizes.scanned in
       let own = within_config a stands in
       omega (arith, scanned, own)
 
   -- none stands twice in what is left
-  pub left_distinct : (a : State) → Stands j a → AreDistinct (left_of j k)
+  pub left_distinct : (a : State) → StandsFor j a → AreDistinct (still_left j k)
   left_distinct a stands =
       let at : ℕ = (finder_at j k).at in
       let refs : List ℕ = found_by j k in
@@ -143,10 +144,10 @@ module _ (j : Judged) (k : ℕ) (none : work_refusal j.ground.heap j.phase Clear
   none_row = plain_row (plain.ClearNext k) replies.Nothing
 
   -- a state that fits tells that none is left only where the mark's end cleared none of it
-  pub nothing_left : (a s t : State) → Stands j a → FitsIt j a s → IsRowAs j.profile s none_row t
-      → NoneOf a.cleared (left_of j k) × FitsFound a (standing_with (left_of j) k []) j.some_left t
+  pub nothing_left : (a s t : State) → StandsFor j a → FitsIt j a s → IsRowAs j.profile s none_row t
+      → NoneOf a.cleared (still_left j k) × FitsFound a (standing_with (still_left j) k []) j.some_left t
   nothing_left a s t stands fits h =
-      elim (look_fits a t (left_of j) j.some_left k (sym (work_known j a stands Clearing k) ∙ none)
+      elim (look_fits a t (still_left j) j.some_left k (sym (work_known j a stands Clearing k) ∙ none)
       (within_scanned a stands)
       s replies.Nothing (left_distinct a stands) (found_fits j a stands (in_clearing a stands) s fits)
       ((look_common j.profile s t k replies.Nothing).0 h)) [
@@ -163,7 +164,7 @@ module _ (j : Judged) (k : ℕ) (none : work_refusal j.ground.heap j.phase Clear
   passed = with_finder j k passed_finder
 
   -- each has what it found
-  module _ (a : State) (stands : Stands j a) (i : ℕ) where
+  module _ (a : State) (stands : StandsFor j a) (i : ℕ) where
     finder_passed : (i == k) ≡ true → finder_at passed i ≡ passed_finder
     finder_passed same =
         ap (λ (n : ℕ). finder_at passed n) (eqb-true i k same)
@@ -192,7 +193,7 @@ module _ (j : Judged) (k : ℕ) (none : work_refusal j.ground.heap j.phase Clear
               subst (λ (w : Finder). w.at ≤ length w.found) (sym (apart_passed other)) (stands.finders.within i)
         ]
 
-    left_passed : left_of passed i ≡ standing_with (left_of j) k [] i
+    left_passed : still_left passed i ≡ standing_with (still_left j) k [] i
     left_passed =
         elim (cases_Bool (i == k)) [
           | inl same ↦
@@ -208,7 +209,7 @@ module _ (j : Judged) (k : ℕ) (none : work_refusal j.ground.heap j.phase Clear
         all_passed : length (map (λ (f : Found). f.object) (finder_at j k).found) ≤ length (finder_at j k).found
         all_passed = let is = length-map (finder_at j k).found (λ (f : Found). f.object) in omega (arith, is)
 
-  stands_passed : (a : State) → Stands j a → Stands passed a
+  stands_passed : (a : State) → StandsFor j a → StandsFor passed a
   stands_passed a s = record {
     lawful = s.lawful;
     heap = s.heap;
@@ -251,14 +252,14 @@ module _ (j : Judged) (k : ℕ) (none : work_refusal j.ground.heap j.phase Clear
           stands = after;
           on = λ s t fits h.
               fits_found passed a t phase
-              (fits_refs a t (standing_with (left_of j) k []) (left_of passed) j.some_left
+              (fits_refs a t (standing_with (still_left j) k []) (still_left passed) j.some_left
               (λ i. sym (left_passed a stands i)) (nothing_left a s t stands fits h).1);
           back = λ t fits.
               let from =
-              fits_none_looked a t (left_of j) j.some_left k (sym (work_known j a stands Clearing k) ∙ none)
+              fits_none_looked a t (still_left j) j.some_left k (sym (work_known j a stands Clearing k) ∙ none)
               (within_scanned a stands) (none_cleared j a stands phase k clean)
-              (fits_refs a t (left_of passed) (standing_with (left_of j) k []) j.some_left (λ i. left_passed a stands i)
-              (found_fits passed a after phase t fits)) in (
+              (fits_refs a t (still_left passed) (standing_with (still_left j) k []) j.some_left
+              (λ i. left_passed a stands i) (found_fits passed a after phase t fits)) in (
                 from.0,
                 fits_found j a from.0 phase from.1,
                 (look_common j.profile from.0 t k replies.Nothing).1 from.2,
@@ -268,24 +269,24 @@ module _ (j : Judged) (k : ℕ) (none : work_refusal j.ground.heap j.phase Clear
 
   -- ---- where none of it is so
 
-  pub some_cleared : has_cleared_left (finder_at j k) ≡ true → (a : State) → Stands j a → HasNone j none_row a
+  pub some_cleared : has_cleared_left (finder_at j k) ≡ true → (a : State) → StandsFor j a → HasNone j none_row a
   some_cleared cleared a stands s t fits h =
       true≢false (sym cleared
       ∙ cleared_none j a stands (in_clearing a stands) k (nothing_left a s t stands fits h).0)
 
   -- it was said that one has one left, and no other may
-  pub none_waits : j.some_left ≡ true → others_from k 0 j.workers ≡ false → (a : State) → Stands j a
+  pub none_waits : j.some_left ≡ true → others_from k 0 j.workers ≡ false → (a : State) → StandsFor j a
       → HasNone j none_row a
   none_waits said others a stands s t fits h =
       let after =
-      subst (λ (some : Bool). FitsFound a (standing_with (left_of j) k []) some t) said
+      subst (λ (some : Bool). FitsFound a (standing_with (still_left j) k []) some t) said
       (nothing_left a s t stands fits h).1 in
-      let at = fit_some (standing_with (left_of j) k []) a.cleared after.0 after.3 in
+      let at = fit_some (standing_with (still_left j) k []) a.cleared after.0 after.3 in
       elim (cases_Bool (at.0 == k)) [
-        | inl same ↦ true≢false (ap (λ (b : Bool). is_empty (if b then [] else left_of j at.0)) (sym same) ∙ at.1)
+        | inl same ↦ true≢false (ap (λ (b : Bool). is_empty (if b then [] else still_left j at.0)) (sym same) ∙ at.1)
         | inr other ↦
-            let left : is_empty (left_of j at.0) ≡ false =
-            ap (λ (b : Bool). is_empty (if b then [] else left_of j at.0)) (sym other) ∙ at.1 in
+            let left : is_empty (still_left j at.0) ≡ false =
+            ap (λ (b : Bool). is_empty (if b then [] else still_left j at.0)) (sym other) ∙ at.1 in
             true≢false
             (sym (more_left j at.0 left)
             ∙ no_other k 0 j.workers others at.0 (λ same. true≢false (sym (eq-eqb at.0 k (own at.0 same)) ∙ other)))
@@ -294,8 +295,8 @@ module _ (j : Judged) (k : ℕ) (none : work_refusal j.ground.heap j.phase Clear
       own : (i : ℕ) → (0 + i) ≡ k → i ≡ k
       own i same = omega (arith, same)
 
-  pub passed_sound : IsSound j → has_cleared_left (finder_at j k) ≡ false
-      → (j.some_left ≡ true → others_from k 0 j.workers ≡ true) → IsSound passed
+  pub passed_sound : IsOfSomeState j → has_cleared_left (finder_at j k) ≡ false
+      → (j.some_left ≡ true → others_from k 0 j.workers ≡ true) → IsOfSomeState passed
   passed_sound sound clean waits =
       let settled = sound.settled in
       sound_told j passed none_row sound (passed_told clean)

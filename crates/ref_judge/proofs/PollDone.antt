@@ -16,11 +16,11 @@ use Rattle.ref_base.specs.declared.reply.Reply.{Reply}
 use Rattle.ref_base.specs.declared.reply.Reply.TheVariants as replies
 use Rattle.ref_base.specs.declared.step.Step.TheVariants as steps
 use Rattle.ref_base.proofs.RowForms.{unless_passes}
-use Rattle.ref_judge.specs.Judged.{Judged, Hands, Line, has_hand, hand_at, with_hand_at, calling_refusal}
-use Rattle.ref_judge.specs.Judged.{filling_refusal, polling_refusal, unless_carried}
+use Rattle.ref_judge.specs.Judged.{Judged, AllHands, Line, has_carrier, hand_at, with_hand_at, naming_refusal}
+use Rattle.ref_judge.specs.Judged.{free_hand_refusal, polling_refusal, unless_carried}
 use Rattle.ref_judge.specs.ProfiledRows.{IsRowAs, IsAnswerAs, PollsAs}
 use Rattle.ref_judge.specs.Queueing.{MayTakeNos, TellsNone, without_each}
-use Rattle.ref_judge.specs.Standing.{Stands, IsSettled, IsSound, TellsOf}
+use Rattle.ref_judge.specs.Standing.{StandsFor, IsSettled, IsOfSomeState, TellsOf}
 use Rattle.ref_judge.specs.declared.stop.Stop.{Stop}
 use Rattle.ref_judge.proofs.HandsAlike.{sizes, hand_same, carried_same, count_same, sound_mutators}
 use Rattle.ref_judge.proofs.LinesAlike.{lines_same}
@@ -38,7 +38,7 @@ one_refusal old m q =
     unless (nat_lt m old.config.mutators) NoSuchActor
     (unless (nat_lt q old.config.queues) BadQueue (unless_carried (hand_at old.hands (Mutator m)).objects None))
 
-poll_refusal : (old : Judged) (a : State) → Stands old a → (m q : ℕ)
+poll_refusal : (old : Judged) (a : State) → StandsFor old a → (m q : ℕ)
     → refusal a (steps.Poll m q) ≡ one_refusal old m q
 poll_refusal old a stands m q =
     ap (λ (c : Config). unless (nat_lt m c.mutators) NoSuchActor (unless (nat_lt q c.queues) BadQueue
@@ -48,7 +48,7 @@ poll_refusal old a stands m q =
     (carried_same (hand_at old.hands (Mutator m)) (hand_of a.world (Mutator m)) None
     (hand_same old a stands (Mutator m)))
 
-polls_refusal : (old : Judged) (a : State) → Stands old a → (m q max : ℕ)
+polls_refusal : (old : Judged) (a : State) → StandsFor old a → (m q max : ℕ)
     → refusal a (steps.Polls m q max) ≡ polling_refusal old m q max
 polls_refusal old a stands m q max =
     let same = hand_same old a stands (Mutator m) in
@@ -69,24 +69,24 @@ called_refused false b later fault is = is
 called_refused true false later fault is = is
 called_refused true true later fault is = absurd cc
 
-filled_same : (old : Judged) (m q : ℕ) (later : Option Fault) → calling_refusal old.config m q ≡ None
-    → unless (has_hand old.hands (Mutator m)) NoSuchActor
+filled_same : (old : Judged) (m q : ℕ) (later : Option Fault) → naming_refusal old.config m q ≡ None
+    → unless (has_carrier old.hands (Mutator m)) NoSuchActor
     (unless_carried (hand_at old.hands (Mutator m)).objects None) ≡ later
-    → has_hand old.hands (Mutator m) ≡ true → one_refusal old m q ≡ later
+    → has_carrier old.hands (Mutator m) ≡ true → one_refusal old m q ≡ later
 filled_same old m q later none filled there =
     let mutator = unless_passes (nat_lt m old.config.mutators) NoSuchActor _ none in
     let queue = unless_passes (nat_lt q old.config.queues) BadQueue None mutator.1 in
     rw (mutator.0, queue.0) (rw there at filled)
 
 -- a mutator that a judge calls by has a hand
-pub mutator_hand : (old : Judged) → IsSound old → (m q : ℕ) → calling_refusal old.config m q ≡ None
-    → has_hand old.hands (Mutator m) ≡ true
+pub mutator_hand : (old : Judged) → IsOfSomeState old → (m q : ℕ) → naming_refusal old.config m q ≡ None
+    → has_carrier old.hands (Mutator m) ≡ true
 mutator_hand old sound m q none =
     ap (nat_lt m) (sound_mutators old sound)
     ∙ (unless_passes (nat_lt m old.config.mutators) NoSuchActor _ none).0
 
 -- and there is the queue
-pub queue_called : (old : Judged) → IsSound old → (m q i : ℕ) → i ≡ q → calling_refusal old.config m q ≡ None
+pub queue_called : (old : Judged) → IsOfSomeState old → (m q i : ℕ) → i ≡ q → naming_refusal old.config m q ≡ None
     → i < length old.lines
 queue_called old sound m q i is none =
     let mutator = unless_passes (nat_lt m old.config.mutators) NoSuchActor _ none in
@@ -94,7 +94,7 @@ queue_called old sound m q i is none =
     (ltb-true q old.config.queues (unless_passes (nat_lt q old.config.queues) BadQueue None mutator.1).0)
 
 pub poll_called : (old : Judged) (m q : ℕ) (fault : Fault) (reply : Reply) (verdict : Result (Unit {0}) Stop)
-    → calling_refusal old.config m q ≡ Some fault
+    → naming_refusal old.config m q ≡ Some fault
     → MatchResult verdict (λ done. replies.Refused fault ≡ reply)
     (λ stop. (stop ≡ Stop.Illegal) × (replies.Refused fault ≡ reply → ⊥))
     → TellsOf old (record { step = steps.Poll m q; reply = reply }) verdict old
@@ -107,7 +107,7 @@ poll_called old m q fault reply verdict refused told =
     )) told
 
 pub poll_filled : (old : Judged) (m q : ℕ) (fault : Fault) (reply : Reply) (verdict : Result (Unit {0}) Stop)
-    → IsSound old → calling_refusal old.config m q ≡ None → filling_refusal old.hands (Mutator m) ≡ Some fault
+    → IsOfSomeState old → naming_refusal old.config m q ≡ None → free_hand_refusal old.hands (Mutator m) ≡ Some fault
     → MatchResult verdict (λ done. replies.Refused fault ≡ reply)
     (λ stop. (stop ≡ Stop.Illegal) × (replies.Refused fault ≡ reply → ⊥))
     → TellsOf old (record { step = steps.Poll m q; reply = reply }) verdict old
@@ -130,7 +130,7 @@ polls_called old m q max fault reply verdict refused told =
 
 -- what isn't refused of several calls rightly
 polls_call : (old : Judged) (m q max : ℕ) → polling_refusal old m q max ≡ None
-    → (calling_refusal old.config m q ≡ None) × (1 ≤ max)
+    → (naming_refusal old.config m q ≡ None) × (1 ≤ max)
 polls_call old m q max none =
     let mutator = unless_passes (nat_lt m old.config.mutators) NoSuchActor _ none in
     let queue = unless_passes (nat_lt q old.config.queues) BadQueue _ mutator.1 in
@@ -138,19 +138,19 @@ polls_call old m q max none =
     (rw (mutator.0, queue.0) refl, leb-true 1 max (and_parts (nat_le 1 max) _ some.0).0)
 
 -- and calls by a mutator and for a queue that are there
-pub polls_sound : (old : Judged) → IsSound old → (m q max : ℕ) → polling_refusal old m q max ≡ None
-    → calling_refusal old.config m q ≡ None
+pub polls_sound : (old : Judged) → IsOfSomeState old → (m q max : ℕ) → polling_refusal old m q max ≡ None
+    → naming_refusal old.config m q ≡ None
 polls_sound old sound m q max none = (polls_call old m q max none).0
 
 -- ---- what is written
 
-module _ (old : Judged) (sound : IsSound old) (row : Row) (m q : ℕ) (line : Line)
+module _ (old : Judged) (sound : IsOfSomeState old) (row : Row) (m q : ℕ) (line : Line)
     (line_is : line ≡ slice_index_or old.lines q line) (there : q < length old.lines) (ns : List ℕ)
     (told : TellsOf old row (Ok tt)
     (queued old old.ground.tags (with_hand_at old.hands (Mutator m) (record { queue = q; objects = ns }))
     (slice_set old.lines q (record line { stands = without_each line.stands ns }))))
     (i : ℕ) (i_is : i ≡ q) (also : Line) (also_is : also ≡ slice_index_or old.lines i also) (new : Line)
-    (new_is : new ≡ record also { stands = without_each also.stands ns }) (hands : Hands)
+    (new_is : new ≡ record also { stands = without_each also.stands ns }) (hands : AllHands)
     (hands_is : hands ≡ with_hand_at old.hands (Mutator m) (record { queue = q; objects = ns })) where
   same_read : also ≡ line
   same_read =
@@ -165,7 +165,7 @@ module _ (old : Judged) (sound : IsSound old) (row : Row) (m q : ℕ) (line : Li
   pub took_told : TellsOf old row (Ok tt) (record old { hands = hands; lines = slice_set old.lines i new })
   took_told = subst (TellsOf old row (Ok tt)) (sym written_is) told
 
-  pub took_sound : IsSound (record old { hands = hands; lines = slice_set old.lines i new })
+  pub took_sound : IsOfSomeState (record old { hands = hands; lines = slice_set old.lines i new })
   took_sound =
       sound_told old (record old { hands = hands; lines = slice_set old.lines i new }) row sound took_told
       (subst IsSettled (sym written_is) (settled_queued old _ _ _ sound.settled))
@@ -182,20 +182,20 @@ shut_replies true ns is = absurd cc
 shut_replies false ns is = absurd cc
 
 module _ (old : Judged) (m q : ℕ) (line : Line) (line_is : line ≡ slice_index_or old.lines q line)
-    (there : q < length old.lines) (sound : IsSound old) (none : calling_refusal old.config m q ≡ None)
-    (free : filling_refusal old.hands (Mutator m) ≡ None) where
-  one_accepted : (a : State) → Stands old a → refusal a (steps.Poll m q) ≡ None
+    (there : q < length old.lines) (sound : IsOfSomeState old) (none : naming_refusal old.config m q ≡ None)
+    (free : free_hand_refusal old.hands (Mutator m) ≡ None) where
+  one_accepted : (a : State) → StandsFor old a → refusal a (steps.Poll m q) ≡ None
   one_accepted a stands =
       poll_refusal old a stands m q ∙ filled_same old m q None none free (mutator_hand old sound m q none)
 
-  one_rows : (a : State) → Stands old a → (reply : Reply) (b : State)
+  one_rows : (a : State) → StandsFor old a → (reply : Reply) (b : State)
       → PollsAs old.profile.order a m q 1 one_taken reply b
       → IsRowAs old.profile a (record { step = steps.Poll m q; reply = reply }) b
   one_rows a stands reply b row =
       subst (λ (o : Option Fault). IsAnswerAs old.profile a o (steps.Poll m q) reply b)
       (sym (one_accepted a stands)) row
 
-  one_only : (a : State) → Stands old a → (reply : Reply) (b : State)
+  one_only : (a : State) → StandsFor old a → (reply : Reply) (b : State)
       → IsRowAs old.profile a (record { step = steps.Poll m q; reply = reply }) b
       → PollsAs old.profile.order a m q 1 one_taken reply b
   one_only a stands reply b h =
@@ -245,18 +245,18 @@ module _ (old : Judged) (m q : ℕ) (line : Line) (line_is : line ≡ slice_inde
 -- ---- a poll of several
 
 module _ (old : Judged) (m q max : ℕ) (line : Line) (line_is : line ≡ slice_index_or old.lines q line)
-    (sound : IsSound old) (none : polling_refusal old m q max ≡ None) where
+    (sound : IsOfSomeState old) (none : polling_refusal old m q max ≡ None) where
   there : q < length old.lines
   there = queue_called old sound m q q refl (polls_call old m q max none).0
 
-  some_rows : (a : State) → Stands old a → (reply : Reply) (b : State)
+  some_rows : (a : State) → StandsFor old a → (reply : Reply) (b : State)
       → PollsAs old.profile.order a m q max replies.TookSome reply b
       → IsRowAs old.profile a (record { step = steps.Polls m q max; reply = reply }) b
   some_rows a stands reply b row =
       subst (λ (o : Option Fault). IsAnswerAs old.profile a o (steps.Polls m q max) reply b)
       (sym (polls_refusal old a stands m q max ∙ none)) row
 
-  some_only : (a : State) → Stands old a → (reply : Reply) (b : State)
+  some_only : (a : State) → StandsFor old a → (reply : Reply) (b : State)
       → IsRowAs old.profile a (record { step = steps.Polls m q max; reply = reply }) b
       → PollsAs old.profile.order a m q max replies.TookSome reply b
   some_only a stands reply b h =

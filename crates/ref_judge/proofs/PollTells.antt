@@ -17,7 +17,7 @@ use Rattle.ref_base.proofs.MarkEndRows.{distinct_behind}
 use Rattle.ref_judge.specs.Judged.{Judged, Line, IsLine, with_hand_at}
 use Rattle.ref_judge.specs.ProfiledRows.{IsRowAs, PollsAs, MayTake}
 use Rattle.ref_judge.specs.Queueing.{MayTakeNos, TellsNone, without_each}
-use Rattle.ref_judge.specs.Standing.{Stands, TellsOf, LeadsOn}
+use Rattle.ref_judge.specs.Standing.{StandsFor, TellsOf, LeadsOn}
 use Rattle.ref_judge.specs.declared.order.Order.{Order}
 use Rattle.ref_judge.specs.declared.order.Order.TheVariants.{First, Last, Any}
 use Rattle.ref_judge.specs.declared.stop.Stop.{Stop}
@@ -72,14 +72,14 @@ no_names (x ∷ xs) is = absurd cc
 module _ (old : Judged) (step : Step) (m q count : ℕ) (tell : List ℕ → Reply) (some : 1 ≤ count)
     (brings : BringsNone step)
     (keeps : (a : State) (reply : Reply) → KeepsRow a (record { step = step; reply = reply }))
-    (rows : (a : State) → Stands old a → (reply : Reply) (b : State)
+    (rows : (a : State) → StandsFor old a → (reply : Reply) (b : State)
     → PollsAs old.profile.order a m q count tell reply b
     → IsRowAs old.profile a (record { step = step; reply = reply }) b)
-    (only : (a : State) → Stands old a → (reply : Reply) (b : State)
+    (only : (a : State) → StandsFor old a → (reply : Reply) (b : State)
     → IsRowAs old.profile a (record { step = step; reply = reply }) b
     → PollsAs old.profile.order a m q count tell reply b)
     (there : q < length old.lines) (line : Line) (line_is : line ≡ slice_index_or old.lines q line) where
-  module _ (a : State) (stands : Stands old a) where
+  module _ (a : State) (stands : StandsFor old a) where
     abbrev lists : Lists Notice
     lists = queue_at a.world q
 
@@ -145,11 +145,11 @@ module _ (old : Judged) (step : Step) (m q count : ℕ) (tell : List ℕ → Rep
         )
 
     still_stands : (reply : Reply) → IsRowAs old.profile a (record { step = step; reply = reply }) (ticked a)
-        → Stands old (ticked a)
+        → StandsFor old (ticked a)
     still_stands reply h =
         let row : Row = record { step = step; reply = reply } in
         let same = ticked_queued a a.world a.world.queues in
-        subst (Stands old) (sym same)
+        subst (StandsFor old) (sym same)
         (queued_stands old a stands old.ground.tags old.hands old.lines a.world a.world.queues (ticked a).moments row
         brings (subst (IsRowAs old.profile a row) same h) (are_alike old a stands) stands.lines (λ k. refl)
         stands.tags.put)

@@ -18,10 +18,10 @@ use Rattle.ref_base.specs.Refusals.{unless}
 use Rattle.ref_base.specs.declared.fault.Fault.{Fault}
 use Rattle.ref_base.specs.declared.fault.Fault.TheVariants.{NoSuchActor}
 use Rattle.std.proofs.Common.{◌<◌}
-use Rattle.ref_judge.specs.Judged.{has_hand, unless_nothing, Judged, Hands, Line, hand_at, with_hand_at, with_rest_at}
-use Rattle.ref_judge.specs.Judged.{emptying_refusal, is_put}
+use Rattle.ref_judge.specs.Judged.{has_carrier, unless_nothing, Judged, AllHands, Line, hand_at, with_hand_at}
+use Rattle.ref_judge.specs.Judged.{with_rest_at, first_notice_refusal, is_put}
 use Rattle.ref_judge.specs.Queueing.{told_put, may_become, may_become_each, linked_each, line_with}
-use Rattle.ref_judge.specs.Standing.{IsSettled, IsSound, TellsOf}
+use Rattle.ref_judge.specs.Standing.{IsSettled, IsOfSomeState, TellsOf}
 use Rattle.ref_judge.specs.declared.stop.Stop.{Stop}
 use Rattle.ref_judge.proofs.PutOneTells.{added_tells, other_tells, put_none, put_room}
 use Rattle.ref_judge.proofs.PutStates.{into_there}
@@ -43,7 +43,7 @@ written_back lines q line new is same =
 
 -- what the code read: the hand has a first notice, and this is its queue
 pub record Reads (old : Judged) (who : Actor) (n q : ℕ) (line : Line) : Type 0 where
-  pub accepted : emptying_refusal old.hands who ≡ None
+  pub accepted : first_notice_refusal old.hands who ≡ None
   pub first : first_of (hand_at old.hands who).objects ≡ Some n
   pub into : q ≡ (hand_at old.hands who).queue
   pub read : line ≡ slice_index_or old.lines q line
@@ -53,12 +53,12 @@ module _ (old : Judged) (who : Actor) (n q : ℕ) (line : Line) (reads : Reads o
   own_line = subst (λ (r : ℕ). line ≡ slice_index_or old.lines r line) reads.into reads.read
 
   -- the queue is there
-  pub reads_within : IsSound old → q < length old.lines
+  pub reads_within : IsOfSomeState old → q < length old.lines
   reads_within sound =
       subst (λ (r : ℕ). r < length old.lines) (sym reads.into)
       (into_there old sound.state sound.stands who n reads.first)
 
-  module _ (sound : IsSound old) (also : Line) (also_is : also ≡ slice_index_or old.lines q also)
+  module _ (sound : IsOfSomeState old) (also : Line) (also_is : also ≡ slice_index_or old.lines q also)
       (formed : IsWellFormed old.ground) where
     same_line : also ≡ line
     same_line = read_twice old.lines q also line (reads_within sound) also_is reads.read
@@ -75,7 +75,7 @@ module _ (old : Judged) (who : Actor) (n q : ℕ) (line : Line) (reads : Reads o
 
       module _ (left : List ℕ) (left_is : left ≡ not_added (hand_at old.hands who).objects outs.done) (ground : Ground)
           (ground_is : ground ≡ record old.ground { tags = linked_each old.ground.tags added }) (new : Line)
-          (new_is : new ≡ line_with also added) (r : ℕ) (r_is : r ≡ (hand_at old.hands who).queue) (hands : Hands)
+          (new_is : new ≡ line_with also added) (r : ℕ) (r_is : r ≡ (hand_at old.hands who).queue) (hands : AllHands)
           (hands_is : hands ≡ with_hand_at old.hands who (record { queue = r; objects = left })) where
         after_is : record old { ground = ground; hands = hands; lines = slice_set old.lines q new }
             ≡ queued old (linked_each old.ground.tags (added_among (hand_at old.hands who).objects outs.done))
@@ -101,7 +101,8 @@ module _ (old : Judged) (who : Actor) (n q : ℕ) (line : Line) (reads : Reads o
             (line_with line (added_among (hand_at old.hands who).objects outs.done))))) (sym reply_is)
             (puts_tells old who n reads.accepted reads.first line own_line formed outs before may))
 
-        pub puts_sound : IsSound (record old { ground = ground; hands = hands; lines = slice_set old.lines q new })
+        pub puts_sound :
+            IsOfSomeState (record old { ground = ground; hands = hands; lines = slice_set old.lines q new })
         puts_sound =
             sound_told old (record old { ground = ground; hands = hands; lines = slice_set old.lines q new })
             (record { step = steps.Puts who; reply = reply }) sound puts_told
@@ -126,7 +127,8 @@ module _ (old : Judged) (who : Actor) (n q : ℕ) (line : Line) (reads : Reads o
 
       module _ (ground : Ground)
           (ground_is : ground ≡ record old.ground { tags = linked_each old.ground.tags (n ∷ []) }) (new : Line)
-          (new_is : new ≡ line_with also (n ∷ [])) (hands : Hands) (hands_is : hands ≡ with_rest_at old.hands who) where
+          (new_is : new ≡ line_with also (n ∷ [])) (hands : AllHands)
+          (hands_is : hands ≡ with_rest_at old.hands who) where
         one_is : record old { ground = ground; hands = hands; lines = slice_set old.lines q new }
             ≡ queued old (linked_each old.ground.tags (n ∷ [])) (with_rest_at old.hands who)
             (slice_set old.lines (hand_at old.hands who).queue (line_with line (n ∷ [])))
@@ -139,7 +141,7 @@ module _ (old : Judged) (who : Actor) (n q : ℕ) (line : Line) (reads : Reads o
             (added_tells old who n reads.accepted reads.first line own_line formed reply
             (told ∙ ap (λ (e : Done). Some e) (one_added d is)) added_may)
 
-        pub put_sound : IsSound (record old { ground = ground; hands = hands; lines = slice_set old.lines q new })
+        pub put_sound : IsOfSomeState (record old { ground = ground; hands = hands; lines = slice_set old.lines q new })
         put_sound =
             sound_told old (record old { ground = ground; hands = hands; lines = slice_set old.lines q new })
             (record { step = steps.Put who; reply = reply }) sound put_told
@@ -147,7 +149,7 @@ module _ (old : Judged) (who : Actor) (n q : ℕ) (line : Line) (reads : Reads o
 
     -- the judge as it was, where memory was refused
     pub refused_sound : (ground : Ground) → ground ≡ old.ground → (new : Line) → new ≡ also
-        → IsSound (record old { ground = ground; lines = slice_set old.lines q new })
+        → IsOfSomeState (record old { ground = ground; lines = slice_set old.lines q new })
     refused_sound ground ground_is new new_is =
         rw (ground_is, written_back old.lines q also new also_is new_is) sound
 
@@ -187,7 +189,7 @@ module _ (old : Judged) (who : Actor) (n q : ℕ) (line : Line) (reads : Reads o
 
 -- what is read so
 pub reading : (old : Judged) (who : Actor) (n q r : ℕ) (line seen : Line) → q ≡ r
-    → r ≡ (hand_at old.hands who).queue → emptying_refusal old.hands who ≡ None
+    → r ≡ (hand_at old.hands who).queue → first_notice_refusal old.hands who ≡ None
     → first_of (hand_at old.hands who).objects ≡ Some n → line ≡ seen → seen ≡ slice_index_or old.lines q seen
     → Reads old who n q line
 reading old who n q r line seen named is accepted first view read = record {
@@ -198,14 +200,15 @@ reading old who n q r line seen named is accepted first view read = record {
 }
 
 -- the queue of a hand's first notice is there
-pub queue_there : (old : Judged) → IsSound old → (who : Actor) (n q r : ℕ) → q ≡ r
+pub queue_there : (old : Judged) → IsOfSomeState old → (who : Actor) (n q r : ℕ) → q ≡ r
     → r ≡ (hand_at old.hands who).queue → first_of (hand_at old.hands who).objects ≡ Some n → q < length old.lines
 queue_there old sound who n q r named is first =
     subst (λ (k : ℕ). k < length old.lines) (sym (named ∙ is)) (into_there old sound.state sound.stands who n first)
 
 -- an actor that isn't refused is there
-pub hand_accepted : (hands : Hands) (who : Actor) → emptying_refusal hands who ≡ None → has_hand hands who ≡ true
-hand_accepted hands who accepted = passes (has_hand hands who) (unless_nothing (hand_at hands who).objects) accepted
+pub hand_accepted : (hands : AllHands) (who : Actor) → first_notice_refusal hands who ≡ None
+    → has_carrier hands who ≡ true
+hand_accepted hands who accepted = passes (has_carrier hands who) (unless_nothing (hand_at hands who).objects) accepted
   where
     passes : (is : Bool) (later : Option Fault) → unless is NoSuchActor later ≡ None → is ≡ true
     passes true later none = refl

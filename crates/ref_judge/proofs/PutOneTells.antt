@@ -20,10 +20,10 @@ use Rattle.ref_base.specs.declared.reply.Reply.{Reply}
 use Rattle.ref_base.specs.declared.reply.Reply.TheVariants as replies
 use Rattle.ref_base.specs.declared.step.Step.TheVariants as steps
 use Rattle.ref_objects.specs.Grounds.{IsWellFormed}
-use Rattle.ref_judge.specs.Judged.{Judged, Line, hand_at, with_hand_at, emptying_refusal, is_put}
+use Rattle.ref_judge.specs.Judged.{Judged, Line, hand_at, with_hand_at, first_notice_refusal, is_put}
 use Rattle.ref_judge.specs.ProfiledRows.{IsRowAs, IsAnswerAs}
 use Rattle.ref_judge.specs.Queueing.{told_put, may_become, linked_each, line_with}
-use Rattle.ref_judge.specs.Standing.{Stands, TellsOf, LeadsOn}
+use Rattle.ref_judge.specs.Standing.{StandsFor, TellsOf, LeadsOn}
 use Rattle.ref_judge.specs.declared.stop.Stop.{Stop}
 use Rattle.ref_judge.proofs.HandsAlike.{are_alike}
 use Rattle.ref_judge.proofs.PutRows.{IsLinked}
@@ -102,7 +102,7 @@ module _ (a : State) (who : Actor) (notice : Notice) (rest : List Notice) (put :
         | inr refused ↦ (Refused NoMemory, ap (told_put put) refused.0, refl)
       ]
 
-module _ (old : Judged) (who : Actor) (n : ℕ) (accepted : emptying_refusal old.hands who ≡ None)
+module _ (old : Judged) (who : Actor) (n : ℕ) (accepted : first_notice_refusal old.hands who ≡ None)
     (first : first_of (hand_at old.hands who).objects ≡ Some n) (line : Line)
     (line_is : line ≡ slice_index_or old.lines (hand_at old.hands who).queue line) where
   abbrev ns : List ℕ
@@ -111,7 +111,7 @@ module _ (old : Judged) (who : Actor) (n : ℕ) (accepted : emptying_refusal old
   abbrev q : ℕ
   q = (hand_at old.hands who).queue
 
-  module _ (a : State) (stands : Stands old a) where
+  module _ (a : State) (stands : StandsFor old a) where
     abbrev notice : Notice
     notice = (full old who n accepted first line line_is a stands).0
 
@@ -172,11 +172,11 @@ module _ (old : Judged) (who : Actor) (n : ℕ) (accepted : emptying_refusal old
 
     -- a moment more is the same state for the judge
     ticked_stands : (reply : Reply)
-        → IsRowAs old.profile a (record { step = steps.Put who; reply = reply }) (ticked a) → Stands old (ticked a)
+        → IsRowAs old.profile a (record { step = steps.Put who; reply = reply }) (ticked a) → StandsFor old (ticked a)
     ticked_stands reply h =
         let row : Row = record { step = steps.Put who; reply = reply } in
         let same = ticked_queued a a.world a.world.queues in
-        subst (Stands old) (sym same)
+        subst (StandsFor old) (sym same)
         (queued_stands old a stands old.ground.tags old.hands old.lines a.world a.world.queues (ticked a).moments row tt
         (subst (IsRowAs old.profile a row) same h) (are_alike old a stands) stands.lines (λ m. refl) stands.tags.put)
 
@@ -200,7 +200,7 @@ module _ (old : Judged) (who : Actor) (n : ℕ) (accepted : emptying_refusal old
       all_left (m ∷ ms) = refl
 
   added_leads : IsWellFormed old.ground → may_become (is_put old.ground.tags n) line.closed Added ≡ true → (a : State)
-      → Stands old a
+      → StandsFor old a
       → LeadsOn old (put_with (n ∷ []) (rest_of ns))
       (record { step = steps.Put who; reply = replies.Added line.put }) a
   added_leads formed may a stands =
@@ -229,7 +229,7 @@ module _ (old : Judged) (who : Actor) (n : ℕ) (accepted : emptying_refusal old
   )
 
   other_leads : (d : Done) → may_become (is_put old.ground.tags n) line.closed d ≡ true → is_added d ≡ false
-      → (a : State) → Stands old a
+      → (a : State) → StandsFor old a
       → LeadsOn old old (record { step = steps.Put who; reply = reply_of line.put d }) a
   other_leads Added may isnt a stands = absurd cc
   other_leads Already may isnt a stands =
@@ -263,7 +263,7 @@ module _ (old : Judged) (who : Actor) (n : ℕ) (accepted : emptying_refusal old
       (λ b h. let told = put_only a stands reply b h in none told.0 told.1 told.2)
 
   pub put_room : IsWellFormed old.ground → may_become (is_put old.ground.tags n) line.closed Added ≡ true
-      → (a : State) → Stands old a → line.put + 1 ≤ old.ground.next
+      → (a : State) → StandsFor old a → line.put + 1 ≤ old.ground.next
   put_room formed may a stands =
       let leads = added_leads formed may a stands in
       set_line_below old line q (line_with line (n ∷ [])) (linked_each old.ground.tags (n ∷ []))

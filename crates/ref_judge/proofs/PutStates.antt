@@ -26,7 +26,7 @@ use Rattle.ref_objects.specs.Grounds.{IsWellFormed}
 use Rattle.ref_judge.specs.Judged.{Judged, Line, IsLine, IsHand, hand_at, with_hand_at, is_put}
 use Rattle.ref_judge.specs.ProfiledRows.{IsRowAs}
 use Rattle.ref_judge.specs.Queueing.{linked_each, line_with}
-use Rattle.ref_judge.specs.Standing.{Stands}
+use Rattle.ref_judge.specs.Standing.{StandsFor}
 use Rattle.ref_judge.proofs.HandsAlike.{are_alike, hand_same, sizes, with_hand_alike}
 use Rattle.ref_judge.proofs.LegalFacts.{legal_facts, NoticesRight, IsRegistered}
 use Rattle.ref_judge.proofs.LinesAlike.{lines_same, lines_length, line_same, set_line_alike}
@@ -120,7 +120,7 @@ there_but : (d : List ℕ) (os : List Object) (m : ℕ) → is_there os m ≡ tr
 there_but d [] m there = there
 there_but d (o ∷ os) m there = grind (arith, there_but d os m)
 
-module _ (old : Judged) (a : State) (stands : Stands old a) (who : Actor) where
+module _ (old : Judged) (a : State) (stands : StandsFor old a) (who : Actor) where
   pub notices : NoticesRight a
   notices = (legal_facts old.profile old.config a stands.lawful).notices
 
@@ -266,9 +266,9 @@ module _ (old : Judged) (a : State) (stands : Stands old a) (who : Actor) where
     -- it stands for the state that the row leaves
     pub put_stands : (row : Row) → BringsNone row.step
         → IsRowAs old.profile a row (ticked (with_world a (put_in a.world who (d ∷ ds))))
-        → Stands put_to (ticked (with_world a (put_in a.world who (d ∷ ds))))
+        → StandsFor put_to (ticked (with_world a (put_in a.world who (d ∷ ds))))
     put_stands row brings h =
-        subst (Stands put_to) (sym put_state_is)
+        subst (StandsFor put_to) (sym put_state_is)
         (queued_stands old a stands (linked_each old.ground.tags added)
         (with_hand_at old.hands who (record { queue = into; objects = not_added held (d ∷ ds) }))
         (slice_set old.lines into (line_with line added)) (with_hand a.world who back) qs

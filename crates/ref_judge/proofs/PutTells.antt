@@ -18,10 +18,10 @@ use Rattle.ref_base.specs.declared.reply.Reply.TheVariants as replies
 use Rattle.ref_base.specs.declared.step.Step.TheVariants as steps
 use Rattle.ref_base.proofs.SoundWorlds.{IsOwn}
 use Rattle.ref_objects.specs.Grounds.{IsWellFormed}
-use Rattle.ref_judge.specs.Judged.{Judged, Line, Hands, IsLine, hand_at, with_hand_at, emptying_refusal}
+use Rattle.ref_judge.specs.Judged.{Judged, Line, AllHands, IsLine, hand_at, with_hand_at, first_notice_refusal}
 use Rattle.ref_judge.specs.ProfiledRows.{IsRowAs, IsAnswerAs}
 use Rattle.ref_judge.specs.Queueing.{may_become_each, linked_each, line_with}
-use Rattle.ref_judge.specs.Standing.{Stands, TellsOf, LeadsOn}
+use Rattle.ref_judge.specs.Standing.{StandsFor, TellsOf, LeadsOn}
 use Rattle.ref_judge.specs.declared.stop.Stop.{Stop}
 use Rattle.ref_judge.proofs.HandsAlike.{hand_same}
 use Rattle.ref_judge.proofs.LinesAlike.{line_same, line_below}
@@ -36,15 +36,15 @@ use Rattle.ref_judge.proofs.QueuedStates.{queued, queued_says}
 use Rattle.ref_judge.proofs.ToldRows.{kept_leads}
 
 -- a queue that was set has no more than there are numbers
-pub set_line_below : (old : Judged) (line : Line) (q : ℕ) (new : Line) (ts : List Tag) (hands : Hands)
-    → q < length old.lines → (b : State) → Stands (queued old ts hands (slice_set old.lines q new)) b
+pub set_line_below : (old : Judged) (line : Line) (q : ℕ) (new : Line) (ts : List Tag) (hands : AllHands)
+    → q < length old.lines → (b : State) → StandsFor (queued old ts hands (slice_set old.lines q new)) b
     → new.put ≤ old.ground.next
 set_line_below old line q new ts hands there b stands =
     subst (λ (l : Line). l.put ≤ old.ground.next) (get_or-set_same old.lines q new line there)
     (line_below (queued old ts hands (slice_set old.lines q new)) b stands q line
     (subst (λ (k : ℕ). q < k) (sym (length-set old.lines q new)) there))
 
-module _ (old : Judged) (who : Actor) (n : ℕ) (accepted : emptying_refusal old.hands who ≡ None)
+module _ (old : Judged) (who : Actor) (n : ℕ) (accepted : first_notice_refusal old.hands who ≡ None)
     (first : first_of (hand_at old.hands who).objects ≡ Some n) (line : Line)
     (line_is : line ≡ slice_index_or old.lines (hand_at old.hands who).queue line) where
   -- what the hand holds, and the queue that it is for
@@ -58,7 +58,7 @@ module _ (old : Judged) (who : Actor) (n : ℕ) (accepted : emptying_refusal old
   abbrev pub may_all : List Done → Bool
   may_all ds = may_become_each old.ground.tags [] line.closed ns ds
 
-  module _ (a : State) (stands : Stands old a) where
+  module _ (a : State) (stands : StandsFor old a) where
     abbrev hand : List Notice
     hand = hand_of a.world who
 
@@ -147,7 +147,7 @@ module _ (old : Judged) (who : Actor) (n : ℕ) (accepted : emptying_refusal old
       (slice_set old.lines q (line_with line (added_among ns ds)))
 
   puts_lead : IsWellFormed old.ground → (before : ℕ) (ds : List Done) → before ≡ line.put → may_all ds ≡ true
-      → (a : State) → Stands old a → LeadsOn old (puts_to ds)
+      → (a : State) → StandsFor old a → LeadsOn old (puts_to ds)
       (record { step = steps.Puts who; reply = replies.Outs (record { before = before; done = ds }) }) a
   puts_lead formed before [] is may a stands = absurd (none_tried ns first may)
     where
@@ -185,7 +185,7 @@ module _ (old : Judged) (who : Actor) (n : ℕ) (accepted : emptying_refusal old
       none told.0 told.1 told.2 told.3)
 
   pub puts_room : IsWellFormed old.ground → (outs : Outs) → outs.before ≡ line.put → may_all outs.done ≡ true
-      → (a : State) → Stands old a → line.put + length (added_among ns outs.done) ≤ old.ground.next
+      → (a : State) → StandsFor old a → line.put + length (added_among ns outs.done) ≤ old.ground.next
   puts_room formed outs is may a stands =
       let leads = puts_lead formed outs.before outs.done is may a stands in
       set_line_below old line q (line_with line (added_among ns outs.done))

@@ -13,9 +13,9 @@ use Rattle.ref_base.specs.declared.fault.Fault.TheVariants.{NoSuchActor}
 use Rattle.ref_base.specs.declared.phase.Phase.TheVariants.{Marking, Clearing}
 use Rattle.ref_base.specs.declared.row.Row.{Row}
 use Rattle.ref_base.specs.declared.step.Step.TheVariants as steps
-use Rattle.ref_judge.specs.Judged.{Judged, has_hand, hand_at, emptying_refusal}
+use Rattle.ref_judge.specs.Judged.{Judged, has_carrier, hand_at, first_notice_refusal}
 use Rattle.ref_judge.specs.ProfiledRows.{IsRowAs}
-use Rattle.ref_judge.specs.Standing.{Stands, HasNone, TellsOf}
+use Rattle.ref_judge.specs.Standing.{StandsFor, HasNone, TellsOf}
 use Rattle.ref_judge.proofs.HandsAlike.{actor_same, hand_same, nothing_same}
 use Rattle.ref_judge.proofs.KeepingRows.{free_row_as}
 use Rattle.ref_judge.proofs.ToldRows.{fits_free, refused_tells}
@@ -31,16 +31,16 @@ none_fits old a row keeps none s t fits h =
     none (like t a) all.0
 
 -- a put is refused where the hand is empty, or isn't there
-pub put_refusal : (old : Judged) (a : State) (who : Actor) → Stands old a
+pub put_refusal : (old : Judged) (a : State) (who : Actor) → StandsFor old a
     → unless (is_actor a.world.heap who) NoSuchActor (empty_hand_refusal (hand_of a.world who))
-    ≡ emptying_refusal old.hands who
+    ≡ first_notice_refusal old.hands who
 put_refusal old a who stands =
     ap (λ (is : Bool). unless is NoSuchActor (empty_hand_refusal (hand_of a.world who))) (actor_same old a stands who)
-    ∙ ap (λ (later : Option Fault). unless (has_hand old.hands who) NoSuchActor later)
+    ∙ ap (λ (later : Option Fault). unless (has_carrier old.hands who) NoSuchActor later)
     (nothing_same (hand_at old.hands who) (hand_of a.world who) (hand_same old a stands who))
 
 pub put_refused : (old : Judged) (who : Actor) (fault : Fault) (reply : Reply) (verdict : Result (Unit {0}) Stop)
-    → emptying_refusal old.hands who ≡ Some fault
+    → first_notice_refusal old.hands who ≡ Some fault
     → MatchResult verdict (λ done. replies.Refused fault ≡ reply)
     (λ stop. (stop ≡ Stop.Illegal) × (replies.Refused fault ≡ reply → ⊥))
     → TellsOf old (record { step = steps.Put who; reply = reply }) verdict old
@@ -49,7 +49,7 @@ put_refused old who fault reply verdict refused told =
     told
 
 pub puts_refused : (old : Judged) (who : Actor) (fault : Fault) (reply : Reply) (verdict : Result (Unit {0}) Stop)
-    → emptying_refusal old.hands who ≡ Some fault
+    → first_notice_refusal old.hands who ≡ Some fault
     → MatchResult verdict (λ done. replies.Refused fault ≡ reply)
     (λ stop. (stop ≡ Stop.Illegal) × (replies.Refused fault ≡ reply → ⊥))
     → TellsOf old (record { step = steps.Puts who; reply = reply }) verdict old

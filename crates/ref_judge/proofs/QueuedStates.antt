@@ -13,15 +13,15 @@ use Rattle.ref_base.specs.declared.row.Row.{Row}
 use Rattle.ref_base.proofs.EverWorlds.{BringsNone}
 use Rattle.ref_space.specs.Tables.{Tag}
 use Rattle.ref_objects.specs.Grounds.{cleared_in_at}
-use Rattle.ref_judge.specs.Judged.{Judged, Hands, Line, AreLines, is_put}
+use Rattle.ref_judge.specs.Judged.{Judged, AllHands, Line, AreLines, is_put}
 use Rattle.ref_judge.specs.ProfiledRows.{IsRowAs}
-use Rattle.ref_judge.specs.Standing.{Stands, IsSettled, SaysTheSame}
+use Rattle.ref_judge.specs.Standing.{StandsFor, IsSettled, SaysTheSame}
 use Rattle.ref_judge.proofs.HandsAlike.{AreAlike}
 use Rattle.ref_judge.proofs.KnownJudges.{kept_row}
 use Rattle.ref_judge.proofs.LegalFacts.{lawful_row}
 
 -- the judge with these links, hands and queues
-abbrev pub queued : Judged → List Tag → Hands → List Line → Judged
+abbrev pub queued : Judged → List Tag → AllHands → List Line → Judged
 queued j ts hands lines = record j { ground = record j.ground { tags = ts }; hands = hands; lines = lines }
 
 -- the world with those hands and these queues
@@ -46,7 +46,7 @@ pub set_both : (w : World) (who : Actor) (hand : List Notice) (q : ℕ) (l : Lis
 set_both w (Mutator m) hand q l = refl
 set_both w (Worker k) hand q l = refl
 
-module _ (old : Judged) (a : State) (stands : Stands old a) (ts : List Tag) (hands : Hands) (lines : List Line)
+module _ (old : Judged) (a : State) (stands : StandsFor old a) (ts : List Tag) (hands : AllHands) (lines : List Line)
     (held : World) (qs : List (Lists Notice)) (moments : List Graph) where
   abbrev after : State
   after = queued_to a (others_of a.world held qs) moments
@@ -55,7 +55,7 @@ module _ (old : Judged) (a : State) (stands : Stands old a) (ts : List Tag) (han
       → AreLines lines qs → ((n : ℕ) → cleared_in_at ts n ≡ cleared_in_at old.ground.tags n)
       → ((n q : ℕ) → registered_in (reference_at a.world.heap n) ≡ Some q
       → is_put ts n ≡ has (enqueued object_of (slice_index_or qs q (new_queue q))) n)
-      → Stands (queued old ts hands lines) after
+      → StandsFor (queued old ts hands lines) after
   queued_stands row brings h alike are cleared put = record {
     lawful = lawful_row old.profile old.config a after row stands.lawful h;
     heap = stands.heap;
@@ -87,11 +87,11 @@ module _ (old : Judged) (a : State) (stands : Stands old a) (ts : List Tag) (han
   }
 
 -- the invariant says nothing of them
-pub settled_queued : (old : Judged) (ts : List Tag) (hands : Hands) (lines : List Line) → IsSettled old
+pub settled_queued : (old : Judged) (ts : List Tag) (hands : AllHands) (lines : List Line) → IsSettled old
     → IsSettled (queued old ts hands lines)
 settled_queued old ts hands lines settled = assumption (settled)
 
 -- nor does what is said of what is free
-pub queued_says : (old : Judged) (ts : List Tag) (hands : Hands) (lines : List Line)
+pub queued_says : (old : Judged) (ts : List Tag) (hands : AllHands) (lines : List Line)
     → SaysTheSame old (queued old ts hands lines)
 queued_says old ts hands lines = record { left = refl; none = refl; some = refl; finders = λ k. refl }

@@ -3,8 +3,8 @@ use Rattle.ref_base.proofs.Common.{arith, ◌≡◌, ℕ, Bool, true, false, Lis
 use Rattle.ref_base.proofs.Common.{false≢true}
 use Rattle.ref_base.specs.declared.phase.Phase.{Phase}
 use Rattle.ref_base.specs.declared.phase.Phase.TheVariants.{Marking, Clearing}
-use Rattle.ref_judge.specs.Judged.{Judged, is_past_mark, is_judging, is_going}
-use Rattle.ref_judge.specs.Standing.{Lawful, Stands, IsSettled}
+use Rattle.ref_judge.specs.Judged.{Judged, is_behind_mark, is_judging, is_going}
+use Rattle.ref_judge.specs.Standing.{Lawful, StandsFor, IsSettled}
 
 -- it, whether objects were chosen to move, and whether what isn't marked is condemned
 abbrev pub rephased : Judged → Phase → Bool → Bool → Judged
@@ -23,9 +23,9 @@ module _ (j : Judged) (phase : Phase) (chosen condemning : Bool) (no_mark : is_i
 
   -- it is of the state so
   pub stands_rephased : (a : State) (found : List (List ℕ))
-      → Lawful j.profile j.config (state_rephased a phase chosen found) → Stands j a
-      → (is_past_mark phase ≡ true → is_past_mark j.phase ≡ true)
-      → Stands (rephased j phase chosen condemning) (state_rephased a phase chosen found)
+      → Lawful j.profile j.config (state_rephased a phase chosen found) → StandsFor j a
+      → (is_behind_mark phase ≡ true → is_behind_mark j.phase ≡ true)
+      → StandsFor (rephased j phase chosen condemning) (state_rephased a phase chosen found)
   stands_rephased a found lawful s past = record {
     lawful = lawful;
     heap = s.heap;
@@ -54,7 +54,7 @@ module _ (j : Judged) (phase : Phase) (chosen condemning : Bool) (no_mark : is_i
 
   -- and it is settled
   pub settled_rephased : IsSettled j → (is_going phase ≡ true → is_going j.phase ≡ true)
-      → is_in j.phase Marking ≡ false → condemning ≡ is_past_mark phase
+      → is_in j.phase Marking ≡ false → condemning ≡ is_behind_mark phase
       → IsSettled (rephased j phase chosen condemning)
   settled_rephased s going old condemns = record {
     none_grey = s.none_grey;

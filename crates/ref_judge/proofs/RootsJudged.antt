@@ -8,8 +8,8 @@ use Rattle.ref_base.specs.CountedHolds.{tally, in_hands, in_queues, reported}
 use Rattle.ref_base.specs.declared.config.Config.{Config}
 use Rattle.ref_base.proofs.HasLaws.{has-append}
 use Rattle.ref_judge.specs.Judged.{Judged, Line, Finder, AreHands, AreLines}
-use Rattle.ref_judge.specs.Spreading.{reported_by, reported_in, pending_in, roots_of, without_found}
-use Rattle.ref_judge.specs.Standing.{Stands, Lawful}
+use Rattle.ref_judge.specs.Spreading.{reported_by, reported_in, pending_among, judged_roots, without_found}
+use Rattle.ref_judge.specs.Standing.{StandsFor, Lawful}
 use Rattle.ref_judge.specs.declared.hand.Hand.{Hand}
 use Rattle.ref_judge.specs.declared.profile.Profile.{Profile}
 use Rattle.ref_judge.proofs.AllReported.{lawful_reported}
@@ -32,11 +32,11 @@ lines_same (line ∷ lines) [] are = absurd are
 lines_same (line ∷ lines) (q ∷ qs) are =
     ap (λ ns. ns ++ in_queues qs) are.0.stands ∙ ap (λ ns. line.stands ++ ns) (lines_same lines qs are.1)
 
-pending_same : (ws : List Finder) → pending_numbers (map (λ (w : Finder). w.pending) ws) ≡ pending_in ws
+pending_same : (ws : List Finder) → pending_numbers (map (λ (w : Finder). w.pending) ws) ≡ pending_among ws
 pending_same [] = refl
 pending_same (w ∷ ws) = ap (λ ns. map (λ (p : Pending). p.object) w.pending ++ ns) (pending_same ws)
 
-pub pending_kept : (ws : List Finder) → pending_in (map without_found ws) ≡ pending_in ws
+pub pending_kept : (ws : List Finder) → pending_among (map without_found ws) ≡ pending_among ws
 pending_kept [] = refl
 pending_kept (w ∷ ws) = ap (λ ns. map (λ (p : Pending). p.object) w.pending ++ ns) (pending_kept ws)
 
@@ -66,7 +66,7 @@ held_reported p config a lawful n h =
 
 -- ---- the roots
 
-module _ (j : Judged) (a : State) (stands : Stands j a) where
+module _ (j : Judged) (a : State) (stands : StandsFor j a) where
   reported_same : reported a.world
       ≡ reported_by j.hands.mutators ++ reported_by j.hands.workers ++ reported_in j.lines
   reported_same =
@@ -77,21 +77,21 @@ module _ (j : Judged) (a : State) (stands : Stands j a) where
       ∙ ap (λ ns. reported_by j.hands.mutators ++ reported_by j.hands.workers ++ ns)
       (lines_same j.lines a.world.queues stands.lines)
 
-  waiting_same : pending_numbers a.world.pending ≡ pending_in j.workers
+  waiting_same : pending_numbers a.world.pending ≡ pending_among j.workers
   waiting_same = ap pending_numbers (sym stands.finders.pending) ∙ pending_same j.workers
 
-  abbrev judged_roots : List ℕ
-  judged_roots = roots_of j.ground.heap j.hands j.lines j.workers
+  abbrev counted_roots : List ℕ
+  counted_roots = judged_roots j.ground.heap j.hands j.lines j.workers
 
-  roots_are : judged_roots ≡ present a.world.heap.slots ++ reported a.world ++ pending_numbers a.world.pending
+  roots_are : counted_roots ≡ present a.world.heap.slots ++ reported a.world ++ pending_numbers a.world.pending
   roots_are =
       let slots : List ℕ = present j.ground.heap.slots in
       let m : List ℕ = reported_by j.hands.mutators in
       let w : List ℕ = reported_by j.hands.workers in
       let l : List ℕ = reported_in j.lines in
-      ap (λ ns. ns ++ l ++ pending_in j.workers) (append_assoc slots m w)
-      ∙ ap (λ ns. ns ++ pending_in j.workers) (append_assoc slots (m ++ w) l)
-      ∙ ap (λ ns. slots ++ ns ++ pending_in j.workers) (sym reported_same)
+      ap (λ ns. ns ++ l ++ pending_among j.workers) (append_assoc slots m w)
+      ∙ ap (λ ns. ns ++ pending_among j.workers) (append_assoc slots (m ++ w) l)
+      ∙ ap (λ ns. slots ++ ns ++ pending_among j.workers) (sym reported_same)
       ∙ ap (λ ns. slots ++ reported a.world ++ ns) (sym waiting_same)
       ∙ ap (λ (h : Heap). present h.slots ++ reported a.world ++ pending_numbers a.world.pending) stands.heap
 
@@ -104,7 +104,7 @@ module _ (j : Judged) (a : State) (stands : Stands j a) where
   of_three xs ys zs n either = grind (arith, has-append)
 
   -- each root of the state is one that the judge counts
-  pub root_judged : (n : ℕ) → has (graph_of a.world).roots n ≡ true → has judged_roots n ≡ true
+  pub root_judged : (n : ℕ) → has (graph_of a.world).roots n ≡ true → has counted_roots n ≡ true
   root_judged n root =
       let slots : List ℕ = present a.world.heap.slots in
       let pending : List ℕ = pending_numbers a.world.pending in
@@ -119,7 +119,7 @@ module _ (j : Judged) (a : State) (stands : Stands j a) where
       ])
 
   -- and back
-  pub judged_root : (n : ℕ) → has judged_roots n ≡ true → has (graph_of a.world).roots n ≡ true
+  pub judged_root : (n : ℕ) → has counted_roots n ≡ true → has (graph_of a.world).roots n ≡ true
   judged_root n judged =
       let slots : List ℕ = present a.world.heap.slots in
       let pending : List ℕ = pending_numbers a.world.pending in

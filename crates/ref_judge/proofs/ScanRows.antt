@@ -27,10 +27,10 @@ use Rattle.ref_base.proofs.PlainRows.{plain_row}
 use Rattle.ref_space.specs.Tables.{Tag}
 use Rattle.ref_objects.specs.Grounds.{IsWellFormed, cleared_in_at, link_at, with_cleared_tag}
 use Rattle.ref_judge.specs.Finding.{if_found, noted}
-use Rattle.ref_judge.specs.Judged.{Judged, Finder, no_finder, finder_at, found_by, is_past_mark, is_left_in}
+use Rattle.ref_judge.specs.Judged.{Judged, Finder, no_finder, finder_at, found_by, is_behind_mark, is_left_in}
 use Rattle.ref_judge.specs.LeftCounts.{unmarked_if}
 use Rattle.ref_judge.specs.ProfiledRows.{IsRowAs, IsLeftAs, ScansAs}
-use Rattle.ref_judge.specs.Standing.{Stands, AreLawful, IsSound, FitsIt, HasNone, LeadsOn, TellsOf}
+use Rattle.ref_judge.specs.Standing.{StandsFor, AreLawful, IsOfSomeState, FitsIt, HasNone, LeadsOn, TellsOf}
 use Rattle.ref_judge.specs.Standing.{Lawful, DecidesAs}
 use Rattle.ref_judge.specs.declared.worker.Found.{Found}
 use Rattle.ref_judge.proofs.AnewRows.{alike, back_alike, decides_alike}
@@ -52,7 +52,7 @@ use Rattle.ref_judge.proofs.TestedRows.{work_known}
 use Rattle.ref_judge.proofs.UnchangedRows.{plain_accepted_as, accepted_plain_as}
 
 -- who marks is past no mark, and clears nothing
-marks_alone : (q : Phase) → is_in q Marking ≡ true → (is_past_mark q ≡ false) × (is_in q Clearing ≡ false)
+marks_alone : (q : Phase) → is_in q Marking ≡ true → (is_behind_mark q ≡ false) × (is_in q Clearing ≡ false)
 marks_alone Marking is = (refl, refl)
 marks_alone q is = absurd (false≢true is)
 
@@ -110,7 +110,7 @@ found_last os fs ns n same =
 
 -- ---- what is left
 
-module _ (j : Judged) (a : State) (stands : Stands j a) (marks : is_in j.phase Marking ≡ true) where
+module _ (j : Judged) (a : State) (stands : StandsFor j a) (marks : is_in j.phase Marking ≡ true) where
   kept_set : IsKeptSet j.profile
       (λ n. has (kept_if j.profile.keeps_more j.ground.marked a.world.heap.objects) n ≡ true) a
   kept_set =
@@ -165,8 +165,8 @@ module _ (j : Judged) (a : State) (stands : Stands j a) (marks : is_in j.phase M
           (subst (λ (said : Bool). may said j.may_be_left j.may_be_none ≡ true) row.0 ok, row.1)
 
 -- what is said of what is left is no part of what a judge's value is of
-stands_saying : (j : Judged) (a : State) → Stands j a → (left : Bool) → Lawful j.profile j.config (saying a left)
-    → Stands j (saying a left)
+stands_saying : (j : Judged) (a : State) → StandsFor j a → (left : Bool) → Lawful j.profile j.config (saying a left)
+    → StandsFor j (saying a left)
 stands_saying j a s left lawful = record {
   lawful = lawful;
   heap = s.heap;
@@ -204,7 +204,7 @@ scanned_judge j k n left = record j {
   may_be_none = true;
 }
 
-module _ (j : Judged) (k n : ℕ) (a : State) (stands : Stands j a) (fits : AreLawful j a)
+module _ (j : Judged) (k n : ℕ) (a : State) (stands : StandsFor j a) (fits : AreLawful j a)
     (marks : is_in j.phase Marking ≡ true) (none : work_refusal j.ground.heap j.phase Marking k ≡ None)
     (said : j.may_be_left ≡ true) (is : is_left_in j n ≡ true) (formed : IsWellFormed j.ground) where
   marking : is_in a.world.phase Marking ≡ true
@@ -223,7 +223,7 @@ module _ (j : Judged) (k n : ℕ) (a : State) (stands : Stands j a) (fits : AreL
   says_lawful : Lawful j.profile j.config says
   says_lawful = fits says (fits_mark j marks a says (true, refl, said))
 
-  says_stands : Stands j says
+  says_stands : StandsFor j says
   says_stands = stands_saying j a stands true says_lawful
 
   -- the state that the scan leaves
@@ -350,7 +350,7 @@ module _ (j : Judged) (k n : ℕ) (a : State) (stands : Stands j a) (fits : AreL
         length-append (finder_at j k).found (if_found (is_some (reference_at j.ground.heap n)) n) in
         let least = stands.finders.within k in omega (arith, long, least)) stands.finders.within
 
-    pub stands_scanned : Stands new after
+    pub stands_scanned : StandsFor new after
     stands_scanned = record {
       lawful = lawful;
       heap = stands.heap;
@@ -429,10 +429,11 @@ module _ (j : Judged) (k n : ℕ) (none : work_refusal j.ground.heap j.phase Mar
   scanned_told bit said is formed told =
       (refl, refl, λ a stands fits. leads_scanned j k n a stands fits marks none said is formed bit told)
 
-  pub scanned_sound : (bit : Bool) → IsSound j → j.may_be_left ≡ true → is_left_in j n ≡ true → IsWellFormed j.ground
+  pub scanned_sound : (bit : Bool) → IsOfSomeState j → j.may_be_left ≡ true → is_left_in j n ≡ true
+      → IsWellFormed j.ground
       → bit ≡ nat_lt (j.ground.next + (j.scanned + 1) + unmarked_if j.profile.keeps_more j.ground)
       (length j.ground.heap.objects + j.born)
-      → IsSound (scanned_judge j k n bit)
+      → IsOfSomeState (scanned_judge j k n bit)
   scanned_sound bit sound said is formed told =
       let settled = sound.settled in
       sound_told j (scanned_judge j k n bit) (plain_row (plain.Scan k) (replies.Scanned n)) sound
@@ -456,7 +457,7 @@ module _ (j : Judged) (k n : ℕ) (none : work_refusal j.ground.heap j.phase Mar
       or_true false = refl
 
   -- of a scan of one that isn't, or where none may be left
-  pub scanned_none : (j.may_be_left ≡ false) ⊎ (is_left_in j n ≡ false) → (a : State) → Stands j a
+  pub scanned_none : (j.may_be_left ≡ false) ⊎ (is_left_in j n ≡ false) → (a : State) → StandsFor j a
       → HasNone j (plain_row (plain.Scan k) (replies.Scanned n)) a
   scanned_none refuses a stands s t fits h =
       let parts = scanned_parts j a stands marks s t k n (sym (work_known j a stands Marking k) ∙ none) fits h in
@@ -466,7 +467,7 @@ module _ (j : Judged) (k n : ℕ) (none : work_refusal j.ground.heap j.phase Mar
       ]
 
   -- fewer were scanned than there are objects
-  pub scanned_few : IsSound j → is_left_in j n ≡ true → j.scanned + 1 ≤ length j.ground.heap.objects
+  pub scanned_few : IsOfSomeState j → is_left_in j n ≡ true → j.scanned + 1 ≤ length j.ground.heap.objects
   scanned_few sound is =
       let a : State = sound.state in
       let stands = sound.stands in
@@ -480,7 +481,7 @@ module _ (j : Judged) (k n : ℕ) (none : work_refusal j.ground.heap j.phase Mar
       let same = ap (λ (os : List Object). length os) (objects_same j a stands marks) in
       omega (arith, all, many, count, same)
     where
-      each : (a : State) → Stands j a → (facts : Facts j.config a) → IsLeftAs j.profile a n → (m : ℕ)
+      each : (a : State) → StandsFor j a → (facts : Facts j.config a) → IsLeftAs j.profile a n → (m : ℕ)
           → has (n ∷ joined a.scanned) m ≡ true → is_there a.world.heap.objects m ≡ true
       each a stands facts left m h =
           elim (or_cases (n == m) (has (joined a.scanned) m) h) [
@@ -488,7 +489,7 @@ module _ (j : Judged) (k n : ℕ) (none : work_refusal j.ground.heap j.phase Mar
             | inr before ↦ facts.scanned.there (in_mark j a stands marks) m before
           ]
         where
-          there : (a : State) → Stands j a → is_there a.world.heap.objects n ≡ true
+          there : (a : State) → StandsFor j a → is_there a.world.heap.objects n ≡ true
           there a stands =
               ap (λ os. is_there os n) (sym (objects_same j a stands marks))
               ∙ (and_parts (is_there j.ground.heap.objects n) (j.profile.keeps_more || has j.ground.marked n)
@@ -503,7 +504,7 @@ none_row k = plain_row (plain.Scan k) replies.Nothing
 abbrev pub none_left : Judged → Judged
 none_left j = record j { may_be_left = false }
 
-module _ (j : Judged) (k : ℕ) (a : State) (stands : Stands j a) (fits : AreLawful j a)
+module _ (j : Judged) (k : ℕ) (a : State) (stands : StandsFor j a) (fits : AreLawful j a)
     (marks : is_in j.phase Marking ≡ true) (none : work_refusal j.ground.heap j.phase Marking k ≡ None)
     (may_none : j.may_be_none ≡ true) where
   may_scan : plain_refusal a (plain.Scan k) ≡ None
@@ -528,12 +529,12 @@ module _ (j : Judged) (k : ℕ) (a : State) (stands : Stands j a) (fits : AreLaw
   first_lawful : Lawful j.profile j.config first.0
   first_lawful = fits first.0 (fits_mark j marks a first.0 first.1)
 
-  first_stands : Stands j first.0
+  first_stands : StandsFor j first.0
   first_stands =
-      subst (Stands j) (sym first.1.1)
+      subst (StandsFor j) (sym first.1.1)
       (stands_saying j a stands first.1.0 (subst (Lawful j.profile j.config) first.1.1 first_lawful))
 
-  stands_later : Stands (none_left j) later
+  stands_later : StandsFor (none_left j) later
   stands_later = record {
     lawful = lawful_row j.profile j.config first.0 later (none_row k) first_lawful first.2;
     heap = stands.heap;
@@ -584,7 +585,7 @@ module _ (j : Judged) (k : ℕ) (none : work_refusal j.ground.heap j.phase Marki
   pub none_told : j.may_be_none ≡ true → TellsOf j (none_row k) (Ok tt) (none_left j)
   none_told may_none = (refl, refl, λ a stands fits. leads_later j k a stands fits marking_now none may_none)
 
-  pub none_sound : IsSound j → j.may_be_none ≡ true → IsSound (none_left j)
+  pub none_sound : IsOfSomeState j → j.may_be_none ≡ true → IsOfSomeState (none_left j)
   none_sound sound may_none =
       let settled = sound.settled in
       sound_told j (none_left j) (none_row k) sound (none_told may_none)
@@ -603,7 +604,7 @@ module _ (j : Judged) (k : ℕ) (none : work_refusal j.ground.heap j.phase Marki
       })
 
   -- and doesn't, where it may not be said
-  pub none_none : j.may_be_none ≡ false → (a : State) → Stands j a → HasNone j (none_row k) a
+  pub none_none : j.may_be_none ≡ false → (a : State) → StandsFor j a → HasNone j (none_row k) a
   none_none refuses a stands s t fit h =
       let now =
       scan_none_fits_as j.profile a t k j.may_be_left j.may_be_none (sym (work_known j a stands Marking k) ∙ none) s
@@ -612,7 +613,7 @@ module _ (j : Judged) (k : ℕ) (none : work_refusal j.ground.heap j.phase Marki
 
   -- no other answer is one of a scan
   pub others_none : (reply : Reply) → (reply ≡ replies.Nothing → ⊥) → ((n : ℕ) → reply ≡ replies.Scanned n → ⊥)
-      → (a : State) → Stands j a → HasNone j (plain_row (plain.Scan k) reply) a
+      → (a : State) → StandsFor j a → HasNone j (plain_row (plain.Scan k) reply) a
   others_none reply no_none no_object a stands s t fit h =
       let free = mark_fits j marking_now a s fit in
       let passes : plain_refusal s (plain.Scan k) ≡ None =

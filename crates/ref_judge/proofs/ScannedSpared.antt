@@ -12,7 +12,7 @@ use Rattle.ref_base.specs.declared.plain_step.PlainStep.TheVariants as plain
 use Rattle.ref_base.proofs.HasLaws.{has-right}
 use Rattle.ref_base.proofs.Outcomes.{IsNoEnd, outcome, heap_outcome}
 use Rattle.ref_base.proofs.PhaseLaws.{of_phase}
-use Rattle.ref_judge.specs.Judged.{is_past_mark}
+use Rattle.ref_judge.specs.Judged.{is_behind_mark}
 use Rattle.ref_judge.specs.Standing.{Lawful}
 use Rattle.ref_judge.specs.declared.profile.Profile.{Profile}
 use Rattle.ref_judge.proofs.LawfulRuns.{lawful_holds}
@@ -44,7 +44,7 @@ seen_spared (o ∷ os) born scanned n seen = grind (arith, seen_spared os born s
 module _ (a : State) (names : LiveNames a) (spared : AreSpared a) where
   -- while objects are scanned, none is doomed
   none_doomed : (k : ℕ) → plain_refusal a (plain.Scan k) ≡ None → a.doomed ≡ []
-  none_doomed k none = names.whole (ap is_past_mark (of_phase a (heap.Plain (plain.Scan k)) none))
+  none_doomed k none = names.whole (ap is_behind_mark (of_phase a (heap.Plain (plain.Scan k)) none))
 
   outcome_spared : (step : NamedStep) (reply : Reply) → IsNoEnd step → heap_refusal a step ≡ None
       → AreSpared (outcome a step reply)

@@ -12,8 +12,8 @@ use Rattle.ref_base.proofs.FoundFits.{MayFind}
 use Rattle.ref_base.proofs.FoundRows.{FitsFound, finding}
 use Rattle.ref_base.proofs.Subsequences.{sub_all}
 use Rattle.ref_base.specs.Worlds.{Pending}
-use Rattle.ref_judge.specs.Judged.{Judged, Finder, finder_at, found_by, left_of, no_finder}
-use Rattle.ref_judge.specs.Standing.{Stands, IsSettled, FitsIn, FitsIt}
+use Rattle.ref_judge.specs.Judged.{Judged, Finder, finder_at, found_by, still_left, no_finder}
+use Rattle.ref_judge.specs.Standing.{StandsFor, IsSettled, FitsIn, FitsIt}
 use Rattle.ref_judge.proofs.LegalFacts.{legal_facts}
 
 -- one of two bits stands where the second does
@@ -70,29 +70,29 @@ some_behind (n ∷ ns) zero within = refl
 some_behind (n ∷ ns) (suc at) within = some_behind ns at (omega arith)
 
 module _ (j : Judged) (a : State) (settled : IsSettled j) (many : ℕ) (workers : length a.scanned ≡ many)
-    (none_behind : (k : ℕ) → (k < many → ⊥) → left_of j k ≡ []) where
+    (none_behind : (k : ℕ) → (k < many → ⊥) → still_left j k ≡ []) where
   abbrev all_left : List (List ℕ)
-  all_left = all_lists (left_of j) many 0
+  all_left = all_lists (still_left j) many 0
 
-  left_listed : (k : ℕ) → list_at all_left k ≡ left_of j k
+  left_listed : (k : ℕ) → list_at all_left k ≡ still_left j k
   left_listed k = of_test (cases_Bool (nat_lt k many))
     where
-      of_test : (nat_lt k many ≡ true) ⊎ (nat_lt k many ≡ false) → list_at all_left k ≡ left_of j k
+      of_test : (nat_lt k many ≡ true) ⊎ (nat_lt k many ≡ false) → list_at all_left k ≡ still_left j k
       of_test (inl is) =
-          list_in (left_of j) many 0 k (ltb-true k many is) ∙ ap (left_of j) (grind arith)
+          list_in (still_left j) many 0 k (ltb-true k many is) ∙ ap (still_left j) (grind arith)
       of_test (inr not) =
           let out : k < many → ⊥ = (λ within. true≢false (sym (lt-ltb k many within) ∙ not)) in
-          list_out (left_of j) many 0 k out ∙ sym (none_behind k out)
+          list_out (still_left j) many 0 k out ∙ sym (none_behind k out)
 
   -- in clearing what each worker may have found, all of it
-  some_found : is_in j.phase Clearing ≡ true → FitsFound a (left_of j) j.some_left (finding a all_left)
+  some_found : is_in j.phase Clearing ≡ true → FitsFound a (still_left j) j.some_left (finding a all_left)
   some_found clears = (
     all_left,
     refl,
-    length_lists (left_of j) many 0 ∙ sym workers,
+    length_lists (still_left j) many 0 ∙ sym workers,
     record {
-      each = λ k. subst (λ (ns : List ℕ). MayFind (left_of j k) a.cleared ns) (sym (left_listed k))
-          (finds_all (left_of j k) a.cleared);
+      each = λ k. subst (λ (ns : List ℕ). MayFind (still_left j k) a.cleared ns) (sym (left_listed k))
+          (finds_all (still_left j k) a.cleared);
       left = λ says.
           let (k, more) = settled.waits clears says in
           joined_some all_left k
@@ -118,13 +118,13 @@ behind_end [] k out = refl
 behind_end (f ∷ fs) zero out = absurd (out (omega arith))
 behind_end (f ∷ fs) (suc k) out = behind_end fs k (λ within. out (omega arith))
 
-none_left : (j : Judged) (many : ℕ) → length j.workers ≡ many → (k : ℕ) → (k < many → ⊥) → left_of j k ≡ []
+none_left : (j : Judged) (many : ℕ) → length j.workers ≡ many → (k : ℕ) → (k < many → ⊥) → still_left j k ≡ []
 none_left j many same k out =
     ap (λ (f : Finder). drop f.at (map (λ o. o.object) f.found))
     (behind_end j.workers k (λ within. out (subst (λ (n : ℕ). k < n) same within)))
 
 -- between two rows some state fits
-pub between : (j : Judged) (a : State) → Stands j a → IsSettled j → (s : State) × FitsIt j a s
+pub between : (j : Judged) (a : State) → StandsFor j a → IsSettled j → (s : State) × FitsIt j a s
 between j a stands settled =
     let sizes = (legal_facts j.profile j.config a stands.lawful).sizes in
     let workers : length j.workers ≡ j.config.workers =

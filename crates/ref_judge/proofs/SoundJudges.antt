@@ -9,8 +9,8 @@ use Rattle.ref_base.specs.declared.step.Step.{Step}
 use Rattle.ref_base.specs.declared.step.Step.TheVariants as steps
 use Rattle.ref_judge.specs.Judged.{Judged}
 use Rattle.ref_judge.specs.ProfiledRows.{IsRowAs, IsAnswerAs, says_anew}
-use Rattle.ref_judge.specs.Standing.{Stands, IsSettled, IsSound, DoesAs, Leads, SaysTheSame, SaysRightly, is_anew}
-use Rattle.ref_judge.specs.Standing.{answered, DecidesAs, Lawful, AreLawful, LeadsOn, TellsOf}
+use Rattle.ref_judge.specs.Standing.{StandsFor, IsSettled, IsOfSomeState, DoesAs, LeadsOne, SaysTheSame, SaysRightly}
+use Rattle.ref_judge.specs.Standing.{is_anew, reply_of_result, DecidesAs, Lawful, AreLawful, LeadsOn, TellsOf}
 use Rattle.ref_judge.specs.declared.profile.Profile.{Profile}
 use Rattle.ref_base.specs.declared.config.Config.{Config}
 use Rattle.ref_base.specs.declared.row.Row.{Row}
@@ -30,8 +30,8 @@ lawful_on old new row a profile config fits leads t fits_new =
     (lawful_row old.profile old.config from.0 t row (fits from.0 from.1) from.2))
 
 -- a value that tells of a row is sound
-pub sound_told : (old new : Judged) (row : Row) → IsSound old → TellsOf old row (Ok tt) new → IsSettled new
-    → IsSound new
+pub sound_told : (old new : Judged) (row : Row) → IsOfSomeState old → TellsOf old row (Ok tt) new → IsSettled new
+    → IsOfSomeState new
 sound_told old new row sound tells settled =
     let leads = tells.2 sound.state sound.stands sound.fits in
     record {
@@ -42,8 +42,8 @@ sound_told old new row sound tells settled =
     }
 
 -- and so is one after the row of a step with one answer
-pub sound_after : (old new : Judged) (step : Step) (result : Result Reply Fault) → has_one step ≡ true → IsSound old
-    → DoesAs old step result new → IsSettled new → IsSound new
+pub sound_after : (old new : Judged) (step : Step) (result : Result Reply Fault) → has_one step ≡ true
+    → IsOfSomeState old → DoesAs old step result new → IsSettled new → IsOfSomeState new
 sound_after old new step result one sound does settled =
     let a : State = sound.state in
     let leads = told old new sound.settled a sound.stands step result one (does.2 a sound.stands) in
@@ -51,7 +51,8 @@ sound_after old new step result one sound does settled =
       settled = settled;
       state = leads.state;
       stands = leads.stands;
-      fits = lawful_on old new (record { step = step; reply = answered result }) a does.0 does.1 sound.fits leads;
+      fits =
+          lawful_on old new (record { step = step; reply = reply_of_result result }) a does.0 does.1 sound.fits leads;
     }
 
 -- ---- what a row leads to
@@ -61,8 +62,8 @@ says_itself j = record { left = refl; none = refl; some = refl; finders = λ k. 
 
 -- a row that leaves such a state, and says nothing anew
 pub leads_same : (old new : Judged) (a b : State) (step : Step) (result : Result Reply Fault)
-    → IsRowAs old.profile a (record { step = step; reply = answered result }) b → Stands new b
-    → is_anew a step result ≡ false → SaysTheSame old new → Leads old step result new a
+    → IsRowAs old.profile a (record { step = step; reply = reply_of_result result }) b → StandsFor new b
+    → is_anew a step result ≡ false → SaysTheSame old new → LeadsOne old step result new a
 leads_same old new a b step result row stands anew same = record {
   state = b;
   row = row;
@@ -72,9 +73,9 @@ leads_same old new a b step result row stands anew same = record {
 
 -- a row that leaves such a state, and says anew whether an object is left
 pub leads_anew : (old new : Judged) (a b : State) (step : Step) (result : Result Reply Fault)
-    → IsRowAs old.profile a (record { step = step; reply = answered result }) b → Stands new b
+    → IsRowAs old.profile a (record { step = step; reply = reply_of_result result }) b → StandsFor new b
     → is_anew a step result ≡ true → new.may_be_none ≡ true → DecidesAs old.profile new.may_be_left b
-    → Leads old step result new a
+    → LeadsOne old step result new a
 leads_anew old new a b step result row stands anew none decides = record {
   state = b;
   row = row;
@@ -94,14 +95,14 @@ refused_anew a (steps.Plain step) fault = refl
 refused_anew a step fault = refl
 
 -- a row that is refused leaves what was there
-pub refused_leads : (old : Judged) (a : State) (step : Step) (fault : Fault) → Stands old a
-    → refusal a step ≡ Some fault → Leads old step (Err fault) old a
+pub refused_leads : (old : Judged) (a : State) (step : Step) (fault : Fault) → StandsFor old a
+    → refusal a step ≡ Some fault → LeadsOne old step (Err fault) old a
 refused_leads old a step fault stands refused =
     leads_same old old a a step (Err fault)
     (subst (λ (o : Option Fault). IsAnswerAs old.profile a o step (Refused fault) a) (sym refused) (refl, refl)) stands
     (refused_anew a step fault) (says_itself old)
 
 pub refused_does : (old : Judged) (step : Step) (fault : Fault)
-    → ((a : State) → Stands old a → refusal a step ≡ Some fault) → DoesAs old step (Err fault) old
+    → ((a : State) → StandsFor old a → refusal a step ≡ Some fault) → DoesAs old step (Err fault) old
 refused_does old step fault refused =
     (refl, refl, λ a stands. refused_leads old a step fault stands (refused a stands))

@@ -6,7 +6,7 @@ use Rattle.ref_base.proofs.Forgetting.{forgotten-shape}
 use Rattle.ref_base.proofs.Reshaping.{is_there-reshaped}
 use Rattle.ref_objects.specs.Grounds.{is_spared}
 use Rattle.ref_judge.specs.Judged.{Judged}
-use Rattle.ref_judge.specs.Standing.{Stands, IsSettled}
+use Rattle.ref_judge.specs.Standing.{StandsFor, IsSettled}
 use Rattle.ref_judge.proofs.LegalFacts.{legal_facts}
 
 -- what is there is spared where it is marked whenever what isn't marked is condemned
@@ -18,13 +18,13 @@ spared_by false true marked is live = refl
 spared_by condemning false marked is live = is
 
 -- the same objects are there
-pub there_same : (j : Judged) (a : State) → Stands j a → (n : ℕ)
+pub there_same : (j : Judged) (a : State) → StandsFor j a → (n : ℕ)
     → is_there j.ground.heap.objects n ≡ is_there a.world.heap.objects n
 there_same j a stands n =
     ap (λ (h : Heap). is_there h.objects n) stands.heap
     ∙ is_there-reshaped (λ o. forgotten a.doomed o) (forgotten-shape a.doomed) a.world.heap.objects n
 
-pub root_spared : (j : Judged) (a : State) → Stands j a → IsSettled j → (n : ℕ)
+pub root_spared : (j : Judged) (a : State) → StandsFor j a → IsSettled j → (n : ℕ)
     → has (graph_of a.world).roots n ≡ true → is_spared j.ground n ≡ true
 root_spared j a stands settled n root =
     let named = (legal_facts j.profile j.config a stands.lawful).names.roots n root in

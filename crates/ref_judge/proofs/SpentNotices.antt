@@ -17,8 +17,8 @@ use Rattle.ref_base.specs.declared.heap_step.HeapStep.TheVariants as heap
 use Rattle.ref_base.specs.declared.reply.Reply.TheVariants as replies
 use Rattle.ref_base.specs.declared.step.Step.TheVariants as steps
 use Rattle.std.specs.Prelude.{Ok}
-use Rattle.ref_judge.specs.Judged.{Judged, has_hand, hand_at, with_rest_at, emptying_refusal}
-use Rattle.ref_judge.specs.Standing.{Stands, DoesAs, IsSound, IsSettled}
+use Rattle.ref_judge.specs.Judged.{Judged, has_carrier, hand_at, with_rest_at, first_notice_refusal}
+use Rattle.ref_judge.specs.Standing.{StandsFor, DoesAs, IsOfSomeState, IsSettled}
 use Rattle.ref_judge.proofs.HandsAlike.{actor_same, hand_same, nothing_same, with_rest_alike}
 use Rattle.ref_judge.proofs.LegalFacts.{legal_facts}
 use Rattle.ref_judge.proofs.SameObjects.{SameObjects}
@@ -56,17 +56,17 @@ first_object hand (notice ∷ rest) n is first = (notice, rest, refl, some (ap f
     some : Some notice.object ≡ Some n → notice.object ≡ n
     some same = cc
 
-module _ (j : Judged) (a : State) (stands : Stands j a) (who : Actor) where
+module _ (j : Judged) (a : State) (stands : StandsFor j a) (who : Actor) where
   -- a judge refuses it as the state does
   pub emptying_same : unless (is_actor a.world.heap who) NoSuchActor (empty_hand_refusal (hand_of a.world who))
-      ≡ emptying_refusal j.hands who
+      ≡ first_notice_refusal j.hands who
   emptying_same =
       ap (λ test. unless test NoSuchActor (empty_hand_refusal (hand_of a.world who))) (actor_same j a stands who)
-      ∙ ap (unless (has_hand j.hands who) NoSuchActor)
+      ∙ ap (unless (has_carrier j.hands who) NoSuchActor)
       (nothing_same (hand_at j.hands who) (hand_of a.world who) (hand_same j a stands who))
 
   -- what the hand's first notice reports is held
-  pub first_held : (n : ℕ) → emptying_refusal j.hands who ≡ None → first_of (hand_at j.hands who).objects ≡ Some n
+  pub first_held : (n : ℕ) → first_notice_refusal j.hands who ≡ None → first_of (hand_at j.hands who).objects ≡ Some n
       → FirstHeld a who n
   first_held n none first =
       let found = first_object (hand_at j.hands who).objects (hand_of a.world who) n (hand_same j a stands who).0 first
@@ -76,7 +76,7 @@ module _ (j : Judged) (a : State) (stands : Stands j a) (who : Actor) where
         rest = found.1;
         is = found.2;
         object = found.3;
-        there = actor_same j a stands who ∙ (unless_passes (has_hand j.hands who) NoSuchActor _ none).0;
+        there = actor_same j a stands who ∙ (unless_passes (has_carrier j.hands who) NoSuchActor _ none).0;
         held =
             subst (λ m. has a.world.heap.holds m ≡ true) found.3
             (counted_hand a.world who found.0 found.1 (holding_hand a.world who found.0 found.1 found.2) found.2
@@ -84,7 +84,7 @@ module _ (j : Judged) (a : State) (stands : Stands j a) (who : Actor) where
       }
 
 -- so there is a hold
-pub one_held : (j : Judged) (who : Actor) (n : ℕ) → IsSound j → emptying_refusal j.hands who ≡ None
+pub one_held : (j : Judged) (who : Actor) (n : ℕ) → IsOfSomeState j → first_notice_refusal j.hands who ≡ None
     → first_of (hand_at j.hands who).objects ≡ Some n → 1 ≤ j.holds
 one_held j who n sound none first =
     let held = (first_held j sound.state sound.stands who n none first).held in
@@ -103,7 +103,7 @@ heap_hand : (w : World) (h : Heap) (who : Actor) → hand_of (with_heap w h) who
 heap_hand w h (Mutator m) = refl
 heap_hand w h (Worker k) = refl
 
-pub released : (old : Judged) (who : Actor) (n : ℕ) → emptying_refusal old.hands who ≡ None
+pub released : (old : Judged) (who : Actor) (n : ℕ) → first_notice_refusal old.hands who ≡ None
     → first_of (hand_at old.hands who).objects ≡ Some n
     → DoesAs old (steps.Release who) (Ok replies.Done)
     (handing old old.ground.heap (old.holds - 1) (with_rest_at old.hands who) old.workers)
@@ -111,7 +111,7 @@ released old who n none first =
     hands_does old old.ground.heap (old.holds - 1) (with_rest_at old.hands who) old.workers (λ k. refl)
     (steps.Release who) replies.Done tt (λ a. refl) on
   where
-    on : (a : State) → Stands old a
+    on : (a : State) → StandsFor old a
         → HandsOn old.ground.heap (old.holds - 1) (with_rest_at old.hands who) old.workers old.profile
         (steps.Release who) replies.Done a
     on a stands =
@@ -154,7 +154,7 @@ fails_first : (x : Bool) (fault first : Fault) (later : Option Fault) → unless
 fails_first true fault first later fails = absurd cc
 fails_first false fault first later fails = fails
 
-module _ (j : Judged) (a : State) (stands : Stands j a) (m d : ℕ) where
+module _ (j : Judged) (a : State) (stands : StandsFor j a) (m d : ℕ) where
   has_slot_same : has_slot j.ground.heap m d ≡ has_slot a.world.heap m d
   has_slot_same = ap (λ (h : Heap). has_slot h m d) stands.heap
 
@@ -174,13 +174,13 @@ module _ (j : Judged) (a : State) (stands : Stands j a) (m d : ℕ) where
       (ap (λ test. unless test NoSuchActor None) (sym has_slot_same) ∙ passes)
 
   pub adopt_refusal : drop_refusal j.ground.heap m d ≡ None
-      → refusal a (steps.Adopt m d) ≡ emptying_refusal j.hands (Mutator m)
+      → refusal a (steps.Adopt m d) ≡ first_notice_refusal j.hands (Mutator m)
   adopt_refusal passes =
       slot_passes (empty_hand_refusal (hand_of a.world (Mutator m))) passes ∙ emptying_same j a stands (Mutator m)
 
 -- the slot holds what the notice reports, which is spared
 pub adopted : (old : Judged) (m d n : ℕ) → IsSettled old → drop_refusal old.ground.heap m d ≡ None
-    → emptying_refusal old.hands (Mutator m) ≡ None → first_of (hand_at old.hands (Mutator m)).objects ≡ Some n
+    → first_notice_refusal old.hands (Mutator m) ≡ None → first_of (hand_at old.hands (Mutator m)).objects ≡ Some n
     → DoesAs old (steps.Adopt m d) (Ok (replies.Object n))
     (handing old (with_slot old.ground.heap m d (spared_only old.ground (Some n))) (old.holds - 1)
     (with_rest_at old.hands (Mutator m)) old.workers)
@@ -188,7 +188,7 @@ adopted old m d n settled slot none first =
     hands_does old (with_slot old.ground.heap m d (spared_only old.ground (Some n))) (old.holds - 1)
     (with_rest_at old.hands (Mutator m)) old.workers (λ k. refl) (steps.Adopt m d) (replies.Object n) tt (λ a. refl) on
   where
-    on : (a : State) → Stands old a
+    on : (a : State) → StandsFor old a
         → HandsOn (with_slot old.ground.heap m d (spared_only old.ground (Some n))) (old.holds - 1)
         (with_rest_at old.hands (Mutator m)) old.workers old.profile (steps.Adopt m d) (replies.Object n) a
     on a stands =

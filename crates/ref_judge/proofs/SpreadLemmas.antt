@@ -13,7 +13,7 @@ use Rattle.ref_space.specs.Worklists.{Worklist, with_last}
 use Rattle.ref_objects.specs.Grounds.{Ground, MayGrow, IsWellFormed, is_unmarked, ground_marked, newly_marked}
 use Rattle.ref_objects.specs.Grounds.{ground_marked_if_any}
 use Rattle.ref_judge.specs.Judged.{Line, Finder}
-use Rattle.ref_judge.specs.Spreading.{IsButMarks, Spread, Shades, reported_by, reported_in, pending_in}
+use Rattle.ref_judge.specs.Spreading.{IsButMarks, Spread, Shades, reported_by, reported_in, pending_among}
 use Rattle.ref_judge.specs.declared.hand.Hand.{Hand}
 
 -- ---- paths
@@ -201,11 +201,11 @@ lines-parts [] ys = refl
 lines-parts (x ∷ xs) ys =
     ap (λ ns. x.stands ++ ns) (lines-parts xs ys) ∙ sym (append_assoc x.stands (reported_in xs) (reported_in ys))
 
-pub pending-parts : (xs ys : List Finder) → pending_in (xs ++ ys) ≡ pending_in xs ++ pending_in ys
+pub pending-parts : (xs ys : List Finder) → pending_among (xs ++ ys) ≡ pending_among xs ++ pending_among ys
 pending-parts [] ys = refl
 pending-parts (x ∷ xs) ys =
     let own = map (λ (p : Pending). p.object) x.pending in
-    ap (λ ns. own ++ ns) (pending-parts xs ys) ∙ sym (append_assoc own (pending_in xs) (pending_in ys))
+    ap (λ ns. own ++ ns) (pending-parts xs ys) ∙ sym (append_assoc own (pending_among xs) (pending_among ys))
 
 -- ---- what a slot holds
 

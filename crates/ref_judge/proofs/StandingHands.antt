@@ -19,11 +19,11 @@ use Rattle.ref_base.specs.declared.step.Step.TheVariants as steps
 use Rattle.ref_base.proofs.EverWorlds.{BringsNone}
 use Rattle.std.specs.Prelude.{Ok}
 use Rattle.ref_base.specs.declared.phase.Phase.TheVariants.{Clearing}
-use Rattle.ref_judge.specs.Judged.{Judged, Finder, Hands, finder_at, left_of, no_finder, unheld, AreLines}
+use Rattle.ref_judge.specs.Judged.{Judged, Finder, AllHands, finder_at, still_left, no_finder, unheld, AreLines}
 use Rattle.ref_judge.specs.Judged.{AreToldCleared}
 use Rattle.ref_judge.specs.ProfiledRows.{IsRowAs, IsAnswerAs, AcceptsAskingAs, HeapAcceptsAs}
-use Rattle.ref_judge.specs.Standing.{Stands, TagsTell, FindersTell, Leads, IsSettled, IsSound, SaysTheSame, DoesAs}
-use Rattle.ref_judge.specs.Standing.{is_anew}
+use Rattle.ref_judge.specs.Standing.{StandsFor, TagsTell, FindersTell, LeadsOne, IsSettled, IsOfSomeState, SaysTheSame}
+use Rattle.ref_judge.specs.Standing.{DoesAs, is_anew}
 use Rattle.ref_judge.specs.declared.profile.Profile.{Profile}
 use Rattle.ref_judge.proofs.HandsAlike.{AreAlike}
 use Rattle.ref_judge.proofs.KnownJudges.{kept_row}
@@ -33,7 +33,7 @@ use Rattle.ref_judge.proofs.OneAnswers.{has_one}
 use Rattle.ref_judge.proofs.SoundJudges.{leads_same, sound_after}
 
 -- the judge with this heap, these holds, hands and workers
-abbrev pub handing : Judged → Heap → ℕ → Hands → List Finder → Judged
+abbrev pub handing : Judged → Heap → ℕ → AllHands → List Finder → Judged
 handing j h count hands workers =
     record j { ground = record j.ground { heap = h }; holds = count; hands = hands; workers = workers }
 
@@ -47,8 +47,7 @@ AreSameFinders j workers =
     (k : ℕ) → record (slice_index_or workers k no_finder) { pending = [] } ≡ record (finder_at j k) { pending = [] }
 
 -- what the row leaves but for the hands: this heap, of which the judge's is the part that is said, its holds, and what
--- is
--- pending
+-- is pending
 pub record Passes (h : Heap) (count : ℕ) (workers : List Finder) (a : State) (w : World) : Type 0 where
   pub heap : h ≡ heap_but a.doomed (unheld w.heap)
   pub same : SameObjects a.world.heap w.heap
@@ -89,7 +88,7 @@ handed_is_by w step reply = refl
 
 -- ---- the invariant
 
-settled_handed : (old : Judged) (h : Heap) (count : ℕ) (hands : Hands) (workers : List Finder) → IsSettled old
+settled_handed : (old : Judged) (h : Heap) (count : ℕ) (hands : AllHands) (workers : List Finder) → IsSettled old
     → AreSameFinders old workers → h.config ≡ old.ground.heap.config → IsSettled (handing old h count hands workers)
 settled_handed old h count hands workers settled finders config =
     assumption (settled, config ∙ settled.config, waits)
@@ -103,15 +102,15 @@ settled_handed old h count hands workers settled finders config =
 
 -- ---- what the judge then stands for
 
-module _ (old : Judged) (h : Heap) (count : ℕ) (hands : Hands) (workers : List Finder)
+module _ (old : Judged) (h : Heap) (count : ℕ) (hands : AllHands) (workers : List Finder)
     (finders : AreSameFinders old workers) where
-  pub handed_finders : (k : ℕ) → left_of (handing old h count hands workers) k ≡ left_of old k
+  pub handed_finders : (k : ℕ) → still_left (handing old h count hands workers) k ≡ still_left old k
   handed_finders k = ap (λ (f : Finder). drop f.at (map (λ o. o.object) f.found)) (finders k)
 
   says_the_same : SaysTheSame old (handing old h count hands workers)
   says_the_same = record { left = refl; none = refl; some = refl; finders = handed_finders }
 
-  module _ (a : State) (stands : Stands old a) (w v : World) (moments : List Graph)
+  module _ (a : State) (stands : StandsFor old a) (w v : World) (moments : List Graph)
       (passes : Passes h count workers a w) (alike : AreAlike hands v) where
     tags_tell : TagsTell (handing old h count hands workers) (handed_to a (handed_by w v) moments)
     tags_tell = record {
@@ -137,7 +136,7 @@ module _ (old : Judged) (h : Heap) (count : ℕ) (hands : Hands) (workers : List
 
     stands_handed : (row : Row) → BringsNone row.step
         → IsRowAs old.profile a row (handed_to a (handed_by w v) moments)
-        → Stands (handing old h count hands workers) (handed_to a (handed_by w v) moments)
+        → StandsFor (handing old h count hands workers) (handed_to a (handed_by w v) moments)
     stands_handed row brings accepted = record {
       lawful =
           lawful_row old.profile old.config a (handed_to a (handed_by w v) moments) row stands.lawful accepted;
@@ -176,7 +175,7 @@ asked_row_as p a b c step asked reply none asks accepts is =
     (subst (λ (o : Option NamedStep). AcceptsAskingAs p a o step reply b) (sym asks) (c, accepts, is))
 
 -- a step that its heap accepts so, which leaves this world but for the hands
-pub record HandsOn (h : Heap) (count : ℕ) (hands : Hands) (workers : List Finder) (p : Profile) (step : Step)
+pub record HandsOn (h : Heap) (count : ℕ) (hands : AllHands) (workers : List Finder) (p : Profile) (step : Step)
     (reply : Reply) (a : State) : Type 0 where
   pub after : World
   pub asked : NamedStep
@@ -186,11 +185,11 @@ pub record HandsOn (h : Heap) (count : ℕ) (hands : Hands) (workers : List Find
   pub passes : Passes h count workers a after
   pub alike : AreAlike hands (handed after step reply)
 
-module _ (old : Judged) (h : Heap) (count : ℕ) (hands : Hands) (workers : List Finder)
+module _ (old : Judged) (h : Heap) (count : ℕ) (hands : AllHands) (workers : List Finder)
     (finders : AreSameFinders old workers) (step : Step) (reply : Reply) (brings : BringsNone step) where
-  hands_leads : (a : State) → Stands old a → is_anew a step (Ok reply) ≡ false
+  hands_leads : (a : State) → StandsFor old a → is_anew a step (Ok reply) ≡ false
       → HandsOn h count hands workers old.profile step reply a
-      → Leads old step (Ok reply) (handing old h count hands workers) a
+      → LeadsOne old step (Ok reply) (handing old h count hands workers) a
   hands_leads a stands anew on =
       let moments : List Graph = (ticked (with_world a on.after)).moments in
       let left : World = handed on.after step reply in
@@ -208,15 +207,15 @@ module _ (old : Judged) (h : Heap) (count : ℕ) (hands : Hands) (workers : List
 
   -- so it does in each state
   pub hands_does : ((a : State) → is_anew a step (Ok reply) ≡ false)
-      → ((a : State) → Stands old a → HandsOn h count hands workers old.profile step reply a)
+      → ((a : State) → StandsFor old a → HandsOn h count hands workers old.profile step reply a)
       → DoesAs old step (Ok reply) (handing old h count hands workers)
   hands_does anew on = (refl, refl, λ a stands. hands_leads a stands (anew a) (on a stands))
 
 -- the invariant says nothing of what objects refer to, of holds, hands and workers
-pub handed_sound : (old : Judged) (h : Heap) (count : ℕ) (hands : Hands) (workers : List Finder) (step : Step)
-    (reply : Reply) → AreSameFinders old workers → IsSound old
+pub handed_sound : (old : Judged) (h : Heap) (count : ℕ) (hands : AllHands) (workers : List Finder) (step : Step)
+    (reply : Reply) → AreSameFinders old workers → IsOfSomeState old
     → DoesAs old step (Ok reply) (handing old h count hands workers) → h.config ≡ old.ground.heap.config
-    → has_one step ≡ true → IsSound (handing old h count hands workers)
+    → has_one step ≡ true → IsOfSomeState (handing old h count hands workers)
 handed_sound old h count hands workers step reply finders sound does config one =
     sound_after old (handing old h count hands workers) step (Ok reply) one sound does
     (settled_handed old h count hands workers sound.settled finders config)

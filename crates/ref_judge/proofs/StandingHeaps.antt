@@ -19,7 +19,7 @@ use Rattle.ref_base.proofs.Reshaping.{same_refusal, is_there-reshaped}
 use Rattle.ref_judge.specs.Judged.{Judged, unheld}
 use Rattle.ref_base.specs.declared.step.Step.TheVariants.{Plain}
 use Rattle.std.specs.Prelude.{Err}
-use Rattle.ref_judge.specs.Standing.{Stands, DoesAs}
+use Rattle.ref_judge.specs.Standing.{StandsFor, DoesAs}
 use Rattle.ref_judge.proofs.LegalFacts.{legal_facts}
 use Rattle.ref_judge.proofs.OtherPolicies.{IsMutators}
 use Rattle.ref_judge.proofs.SoundJudges.{refused_does}
@@ -72,7 +72,7 @@ reference_of_unheld : (h : Heap) (held : Option ℕ) → reference_of (unheld h)
 reference_of_unheld h None = refl
 reference_of_unheld h (Some n) = refl
 
-module _ (j : Judged) (a : State) (stands : Stands j a) where
+module _ (j : Judged) (a : State) (stands : StandsFor j a) where
   -- the judge refuses mutators what the state does
   pub refusal_same : (step : PlainStep) → IsMutators step
       → plain_refusal (record a { world = with_heap a.world j.ground.heap; next = j.ground.next }) step

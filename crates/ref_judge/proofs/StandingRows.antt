@@ -19,7 +19,7 @@ use Rattle.ref_base.proofs.PlainRows.{plain_row, accepted_plain}
 use Rattle.std.specs.Prelude.{Ok}
 use Rattle.ref_judge.specs.Judged.{has_one_answer, Judged, unheld}
 use Rattle.ref_judge.specs.ProfiledRows.{IsRowAs, says_anew}
-use Rattle.ref_judge.specs.Standing.{Stands, TagsTell, FindersTell, DoesAs, Leads, IsSound}
+use Rattle.ref_judge.specs.Standing.{StandsFor, TagsTell, FindersTell, DoesAs, LeadsOne, IsOfSomeState}
 use Rattle.ref_judge.proofs.KnownJudges.{kept_row}
 use Rattle.ref_judge.proofs.LegalFacts.{lawful_row}
 use Rattle.ref_judge.proofs.OtherPolicies.{IsMutators}
@@ -38,7 +38,7 @@ judging j h = record j { ground = record j.ground { heap = h } }
 abbrev pub moved_to : State → Heap → List Graph → Bool → State
 moved_to a g moments left = record (on_heap a g) { moments = moments; left = left }
 
-module _ (old : Judged) (a : State) (stands : Stands old a) (h g : Heap) (moments : List Graph)
+module _ (old : Judged) (a : State) (stands : StandsFor old a) (h g : Heap) (moments : List Graph)
     (left : Bool) (same : SameObjects a.world.heap g) where
   tags_tell : TagsTell (judging old h) (moved_to a g moments left)
   tags_tell = record {
@@ -58,7 +58,7 @@ module _ (old : Judged) (a : State) (stands : Stands old a) (h g : Heap) (moment
 
   pub stands_moved : h ≡ heap_but a.doomed (unheld g) → g.holds ≡ a.world.heap.holds → (row : Row) → BringsNone row.step
       → IsRowAs old.profile a row (moved_to a g moments left)
-      → Stands (judging old h) (moved_to a g moments left)
+      → StandsFor (judging old h) (moved_to a g moments left)
   stands_moved is holds row brings accepted = record {
     lawful = lawful_row old.profile old.config a (moved_to a g moments left) row stands.lawful accepted;
     heap = is;
@@ -104,8 +104,8 @@ says_plain a step reply is inside = refl
 
 module _ (old : Judged) (h : Heap) (step : PlainStep) (reply : Reply) (inside : IsMutators step)
     (keeps : KeepsEver (heap.Plain step)) where
-  leads_changed : (a : State) → Stands old a → plain_refusal a step ≡ None → Changes h step reply a
-      → Leads old (Plain step) (Ok reply) (judging old h) a
+  leads_changed : (a : State) → StandsFor old a → plain_refusal a step ≡ None → Changes h step reply a
+      → LeadsOne old (Plain step) (Ok reply) (judging old h) a
   leads_changed a stands none changes =
       let b : State = moved_to a changes.after (ticked (on_heap a changes.after)).moments a.left in
       let accepts : PlainAccepts a step reply b =
@@ -122,7 +122,7 @@ module _ (old : Judged) (h : Heap) (step : PlainStep) (reply : Reply) (inside : 
   -- where the judge's objects don't refuse it
   pub mutator_does : ((a : State)
       → plain_refusal (record a { world = with_heap a.world old.ground.heap; next = old.ground.next }) step ≡ None)
-      → ((a : State) → Stands old a → Changes h step reply a) → DoesAs old (Plain step) (Ok reply) (judging old h)
+      → ((a : State) → StandsFor old a → Changes h step reply a) → DoesAs old (Plain step) (Ok reply) (judging old h)
   mutator_does none changes = (
     refl,
     refl,
@@ -130,8 +130,8 @@ module _ (old : Judged) (h : Heap) (step : PlainStep) (reply : Reply) (inside : 
   )
 
 -- the invariant says nothing of what objects refer to and slots hold
-pub changed_sound : (old : Judged) (h : Heap) (step : PlainStep) (reply : Reply) → IsSound old
-    → DoesAs old (Plain step) (Ok reply) (judging old h) → has_one_answer step ≡ true → IsSound (judging old h)
+pub changed_sound : (old : Judged) (h : Heap) (step : PlainStep) (reply : Reply) → IsOfSomeState old
+    → DoesAs old (Plain step) (Ok reply) (judging old h) → has_one_answer step ≡ true → IsOfSomeState (judging old h)
 changed_sound old h step reply sound does one =
     let leads = does.2 sound.state sound.stands in
     sound_after old (judging old h) (Plain step) (Ok reply) one sound does

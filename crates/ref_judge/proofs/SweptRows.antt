@@ -29,9 +29,9 @@ use Rattle.ref_base.specs.declared.step.Step.TheVariants as steps
 use Rattle.ref_base.proofs.PhaseLaws.{of_phase}
 use Rattle.ref_base.proofs.PlainRows.{plain_row}
 use Rattle.ref_base.specs.Refusals.{plain_refusal}
-use Rattle.ref_judge.specs.Judged.{Judged, is_past_mark, is_judging, unheld}
+use Rattle.ref_judge.specs.Judged.{Judged, is_behind_mark, is_judging, unheld}
 use Rattle.ref_judge.specs.ProfiledRows.{IsRowAs}
-use Rattle.ref_judge.specs.Standing.{Stands, DoesAs, Lawful, IsSettled, IsSound}
+use Rattle.ref_judge.specs.Standing.{StandsFor, DoesAs, Lawful, IsSettled, IsOfSomeState}
 use Rattle.ref_judge.proofs.LegalFacts.{lawful_row, legal_facts}
 use Rattle.ref_judge.proofs.Rephasing.{rephased, stands_rephased, settled_rephased}
 use Rattle.ref_judge.proofs.SoundJudges.{leads_same, says_itself, sound_after}
@@ -44,7 +44,7 @@ use Rattle.ref_judge.proofs.UnchangedRows.{accepted_plain_as}
 abbrev pub end_refusal : Judged → Option Fault
 end_refusal j = unless (is_in j.phase Sweeping) WrongPhase (unless (is_empty j.doomed.stands) SweepLeft None)
 
-pub end_known : (j : Judged) (a : State) → Stands j a → end_refusal j ≡ plain_refusal a plain.EndSweep
+pub end_known : (j : Judged) (a : State) → StandsFor j a → end_refusal j ≡ plain_refusal a plain.EndSweep
 end_known j a stands =
     ap (λ (phase : Phase). unless (is_in phase Sweeping) WrongPhase (unless (is_empty j.doomed.stands) SweepLeft None))
     stands.phase
@@ -52,7 +52,7 @@ end_known j a stands =
     stands.doomed
 
 module _ (j : Judged) (none : end_refusal j ≡ None) where
-  sweeping : (a : State) → Stands j a → j.phase ≡ Sweeping
+  sweeping : (a : State) → StandsFor j a → j.phase ≡ Sweeping
   sweeping a stands = stands.phase ∙ (of_phase a (heap.Plain plain.EndSweep) (sym (end_known j a stands) ∙ none)).0
 
   pub end_does : DoesAs j (steps.Plain plain.EndSweep) (Ok replies.Done) (rephased j Idle false false)
@@ -70,7 +70,7 @@ module _ (j : Judged) (none : end_refusal j ≡ None) where
         refl (record { left = refl; none = refl; some = refl; finders = λ k. refl }),
   )
 
-  pub end_sound : IsSound j → IsSound (rephased j Idle false false)
+  pub end_sound : IsOfSomeState j → IsOfSomeState (rephased j Idle false false)
   end_sound sound =
       let phase : j.phase ≡ Sweeping = sweeping sound.state sound.stands in
       sound_after j (rephased j Idle false false) (steps.Plain plain.EndSweep) (Ok replies.Done) refl sound end_does
@@ -92,11 +92,11 @@ swept_state a front back count = record a {
   doomed = back;
 }
 
-module _ (j : Judged) (a : State) (stands : Stands j a) (phase : j.phase ≡ Sweeping)
+module _ (j : Judged) (a : State) (stands : StandsFor j a) (phase : j.phase ≡ Sweeping)
     (condemns : j.ground.condemning ≡ true)
     (well : IsWellFormed j.ground) (front back : List ℕ) (is : front ++ back ≡ a.doomed) where
-  past : is_past_mark j.phase ≡ true
-  past = ap is_past_mark phase
+  past : is_behind_mark j.phase ≡ true
+  past = ap is_behind_mark phase
 
   unmarked : (n : ℕ) → has front n ≡ true → has j.ground.marked n ≡ false
   unmarked n first =
@@ -140,7 +140,7 @@ module _ (j : Judged) (a : State) (stands : Stands j a) (phase : j.phase ≡ Swe
       differ same = absurd cc
 
   stands_swept : (count : ℕ) → Lawful j.profile j.config (swept_state a front back count)
-      → Stands (swept_judge j front back) (swept_state a front back count)
+      → StandsFor (swept_judge j front back) (swept_state a front back count)
   stands_swept count lawful = record {
     lawful = lawful;
     heap = swept_heap;
@@ -226,15 +226,15 @@ abbrev pub after_sweep : Judged → Judged
 after_sweep j = swept_judge j (take 64 j.doomed.stands) (drop 64 j.doomed.stands)
 
 module _ (j : Judged) (k : ℕ) (none : work_refusal j.ground.heap j.phase Sweeping k ≡ None) where
-  in_sweep : (a : State) → Stands j a → j.phase ≡ Sweeping
+  in_sweep : (a : State) → StandsFor j a → j.phase ≡ Sweeping
   in_sweep a stands =
       stands.phase ∙ of_phase a (heap.Plain (plain.Sweep k)) (sym (work_known j a stands Sweeping k) ∙ none)
 
-  no_mark_in : (a : State) → Stands j a → is_in a.world.phase Marking ≡ false
+  no_mark_in : (a : State) → StandsFor j a → is_in a.world.phase Marking ≡ false
   no_mark_in a stands = ap (λ (p : Phase). is_in p Marking) (sym stands.phase ∙ in_sweep a stands)
 
   -- where something is doomed, the first of it is freed
-  pub sweep_does : j.ground.condemning ≡ is_past_mark j.phase → IsWellFormed j.ground
+  pub sweep_does : j.ground.condemning ≡ is_behind_mark j.phase → IsWellFormed j.ground
       → (is_empty j.doomed.stands ≡ true → ⊥)
       → DoesAs j (steps.Plain (plain.Sweep k)) (Ok (replies.Swept (min 64 (length j.doomed.stands)))) (after_sweep j)
   sweep_does condemns well some = (
@@ -248,8 +248,8 @@ module _ (j : Judged) (k : ℕ) (none : work_refusal j.ground.heap j.phase Sweep
         accepted_plain_as j.profile a b (plain.Sweep k) reply (sym (work_known j a stands Sweeping k) ∙ none)
         (subst (λ (l : List ℕ). Sweeps a l reply b) stands.doomed (sweeps_some a ds (no_mark_in a stands) some)) in
         leads_same j (after_sweep j) a b (steps.Plain (plain.Sweep k)) (Ok reply) row
-        (stands_swept j a stands (in_sweep a stands) (condemns ∙ ap is_past_mark (in_sweep a stands)) well (take 64 ds)
-        (drop 64 ds) (take-append-drop 64 ds ∙ stands.doomed) (min 64 (length ds))
+        (stands_swept j a stands (in_sweep a stands) (condemns ∙ ap is_behind_mark (in_sweep a stands)) well
+        (take 64 ds) (drop 64 ds) (take-append-drop 64 ds ∙ stands.doomed) (min 64 (length ds))
         (lawful_row j.profile j.config a b (plain_row (plain.Sweep k) reply) stands.lawful row))
         refl (record { left = refl; none = refl; some = refl; finders = λ i. refl }),
   )
@@ -282,11 +282,11 @@ module _ (j : Judged) (k : ℕ) (none : work_refusal j.ground.heap j.phase Sweep
       (no_sweep_does empty)
 
   -- the judge is settled after it
-  settled_swept : IsSettled j → IsWellFormed j.ground → (a : State) → Stands j a → (front back : List ℕ)
+  settled_swept : IsSettled j → IsWellFormed j.ground → (a : State) → StandsFor j a → (front back : List ℕ)
       → front ++ back ≡ a.doomed → IsSettled (swept_judge j front back)
   settled_swept settled well a stands front back is =
       let rest = all_freed_rest j.ground front in
-      let condemns = settled.condemning ∙ ap is_past_mark (in_sweep a stands) in
+      let condemns = settled.condemning ∙ ap is_behind_mark (in_sweep a stands) in
       record {
         none_grey = settled.none_grey;
         grey_room = settled.grey_room;
@@ -303,11 +303,11 @@ module _ (j : Judged) (k : ℕ) (none : work_refusal j.ground.heap j.phase Sweep
         waits = settled.waits;
       }
 
-  pub sound_swept : IsSound j → IsWellFormed j.ground → IsSound (after_sweep j)
+  pub sound_swept : IsOfSomeState j → IsWellFormed j.ground → IsOfSomeState (after_sweep j)
   sound_swept sound well =
       let ds : List ℕ = j.doomed.stands in
       elim (cases_Bool (is_empty ds)) [
-        | inl empty ↦ subst IsSound (sym (no_sweep (empty_list ds empty))) sound
+        | inl empty ↦ subst IsOfSomeState (sym (no_sweep (empty_list ds empty))) sound
         | inr some ↦
             sound_after j (after_sweep j) (steps.Plain (plain.Sweep k)) (Ok (replies.Swept (min 64 (length ds)))) refl
             sound

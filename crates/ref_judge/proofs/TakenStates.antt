@@ -18,7 +18,7 @@ use Rattle.ref_base.proofs.SoundWorlds.{IsOwn}
 use Rattle.ref_judge.specs.Judged.{Judged, Line, IsLine, IsHand, with_hand_at, is_put}
 use Rattle.ref_judge.specs.ProfiledRows.{IsRowAs}
 use Rattle.ref_judge.specs.Queueing.{without_each}
-use Rattle.ref_judge.specs.Standing.{Stands}
+use Rattle.ref_judge.specs.Standing.{StandsFor}
 use Rattle.ref_judge.proofs.HandsAlike.{are_alike, with_hand_alike}
 use Rattle.ref_judge.proofs.LegalFacts.{legal_facts, NoticesRight}
 use Rattle.ref_judge.proofs.LinesAlike.{lines_length, line_same, set_line_alike}
@@ -48,7 +48,7 @@ taken_has l ns m taken =
     (has-append ns (without_each (names l.stands) ns) m ∙ taken_both (names l.stands) ns m taken)
     ∙ sym (has-append l.taken (names l.stands) m)
 
-module _ (old : Judged) (a : State) (stands : Stands old a) (m q : ℕ) (there : q < length old.lines) (line : Line)
+module _ (old : Judged) (a : State) (stands : StandsFor old a) (m q : ℕ) (there : q < length old.lines) (line : Line)
     (line_is : line ≡ slice_index_or old.lines q line) where
   abbrev lists : Lists Notice
   lists = queue_at a.world q
@@ -118,9 +118,9 @@ module _ (old : Judged) (a : State) (stands : Stands old a) (m q : ℕ) (there :
     -- it stands for the state that the row leaves
     pub taken_stands : (row : Row) → BringsNone row.step
         → IsRowAs old.profile a row (ticked (with_world a (took a.world m q (n ∷ ns))))
-        → Stands taken_to (ticked (with_world a (took a.world m q (n ∷ ns))))
+        → StandsFor taken_to (ticked (with_world a (took a.world m q (n ∷ ns))))
     taken_stands row brings h =
-        subst (Stands taken_to) (sym took_is)
+        subst (StandsFor taken_to) (sym took_is)
         (queued_stands old a stands old.ground.tags
         (with_hand_at old.hands (Mutator m) (record { queue = q; objects = n ∷ ns }))
         (slice_set old.lines q (record line { stands = without_each line.stands (n ∷ ns) }))

@@ -16,7 +16,7 @@ use Rattle.ref_base.specs.declared.step.Step.{Step}
 use Rattle.ref_base.proofs.FreeRows.{freed}
 use Rattle.ref_judge.specs.ProfiledRows.{IsAnswerAs, IsRowAs}
 use Rattle.ref_judge.specs.Judged.{Judged}
-use Rattle.ref_judge.specs.Standing.{Stands, FitsIn, FitsIt, HasNone, TellsOf}
+use Rattle.ref_judge.specs.Standing.{StandsFor, FitsIn, FitsIt, HasNone, TellsOf}
 use Rattle.ref_judge.specs.declared.stop.Stop.{Stop}
 use Rattle.ref_judge.specs.declared.stop.Stop.TheVariants as stop
 
@@ -52,7 +52,7 @@ module _ (j : Judged) (a s : State) where
       subst (λ (marks : Bool). FitsIn marks (is_in j.phase Clearing) j a s) (sym no_mark)
       (subst (λ (clears : Bool). FitsIn false clears j a s) (sym no_clearing) is)
 
-module _ (j : Judged) (a : State) (stands : Stands j a) where
+module _ (j : Judged) (a : State) (stands : StandsFor j a) where
   -- a worker's step is refused as the judge knows
   pub work_known : (phase : Phase) (k : ℕ) → work_refusal j.ground.heap j.phase phase k
       ≡ work_refusal a.world.heap a.world.phase phase k
@@ -74,7 +74,7 @@ module _ (j : Judged) (row : Row) where
   -- the row leaves each state that fits as it was
   abbrev pub Stays : Type 0
   Stays =
-      (a s t : State) → Stands j a → FitsIt j a s
+      (a s t : State) → StandsFor j a → FitsIt j a s
       → (IsRowAs j.profile s row t → t ≡ s) × IsRowAs j.profile s row s
 
   -- then nothing changes
@@ -92,17 +92,17 @@ module _ (j : Judged) (row : Row) where
 
   -- of a row that a test tells from others
   pub tested_told : (result : Result (Unit {0}) Stop) (legal : Type 0) → IsTested result legal → (legal → Stays)
-      → ((legal → ⊥) → (a : State) → Stands j a → HasNone j row a) → TellsOf j row result j
+      → ((legal → ⊥) → (a : State) → StandsFor j a → HasNone j row a) → TellsOf j row result j
   tested_told (Ok done) legal is stays none = stays_told (stays is)
   tested_told (Err stop.Illegal) legal not stays none = none not.1
   tested_told (Err stop.NoMemory) legal not stays none = tt
 
 module _ (j : Judged) (step : Step) (reply : Reply) (fault : Fault)
-    (refused : (a : State) → Stands j a → (left : Bool) (found : List (List ℕ))
+    (refused : (a : State) → StandsFor j a → (left : Bool) (found : List (List ℕ))
     → refusal (freed a left found) step ≡ Some fault)
   where
     -- each state that fits refuses the step so
-    refuses : (a s : State) → Stands j a → FitsIt j a s → refusal s step ≡ Some fault
+    refuses : (a s : State) → StandsFor j a → FitsIt j a s → refusal s step ≡ Some fault
     refuses a s stands fits =
         let free = fits_freed j a s fits in
         subst (λ (u : State). refusal u step ≡ Some fault) (sym free.2) (refused a stands free.0 free.1)

@@ -1,6 +1,5 @@
 -- From one row of a state to what becomes of all that fit: a row that reads nothing of what is free, or says anew
--- whether
--- an object is left, takes the set of them on; and no other answer fits any of them.
+-- whether an object is left, takes the set of them on; and no other answer fits any of them.
 use Rattle.ref_base.proofs.Common.{◌≡◌, ℕ, Bool, true, false, List, Option, Some, refl, sym}
 use Rattle.ref_base.proofs.Common.{◌∙◌, subst, inl, State, refusal, is_in}
 use Rattle.ref_base.proofs.Common.{list_at}
@@ -15,9 +14,9 @@ use Rattle.ref_base.proofs.Fitting.{Fits}
 use Rattle.ref_base.proofs.FoundFits.{MayFind}
 use Rattle.ref_base.proofs.FoundRows.{FitsFound}
 use Rattle.ref_base.proofs.FreeRows.{KeepsRow, RefusedAlike, freed, like, keeps_like}
-use Rattle.ref_judge.specs.Judged.{Judged, left_of}
+use Rattle.ref_judge.specs.Judged.{Judged, still_left}
 use Rattle.ref_judge.specs.ProfiledRows.{IsRowAs, IsAnswerAs}
-use Rattle.ref_judge.specs.Standing.{Stands, FitsIn, FitsIt, SaysTheSame, LeadsOn, HasNone, TellsOf}
+use Rattle.ref_judge.specs.Standing.{StandsFor, FitsIn, FitsIt, SaysTheSame, LeadsOn, HasNone, TellsOf}
 use Rattle.ref_judge.specs.declared.profile.Profile.{Profile}
 use Rattle.ref_judge.specs.declared.stop.Stop.{Stop}
 use Rattle.ref_judge.proofs.KeepingRows.{free_row_as, fits_on_as, fits_back_as, found_on_as, found_back_as}
@@ -52,10 +51,10 @@ module _ (old new : Judged) (row : Row) (a b : State) (keeps : KeepsRow a row) (
       subst (λ (l : Bool). Fits b l new.may_be_none t) (sym says.left)
       (subst (λ (n : Bool). Fits b old.may_be_left n t) (sym says.none) there)
   kept_on false true s t fits r =
-      let on = found_on_as old.profile a s t (left_of old) old.some_left row keeps fits r in
-      found_alike b t (left_of old) (left_of new) old.some_left new.some_left (λ k. sym (says.finders k))
+      let on = found_on_as old.profile a s t (still_left old) old.some_left row keeps fits r in
+      found_alike b t (still_left old) (still_left new) old.some_left new.some_left (λ k. sym (says.finders k))
       (sym says.some)
-      (subst (λ (u : State). FitsFound u (left_of old) old.some_left t)
+      (subst (λ (u : State). FitsFound u (still_left old) old.some_left t)
       (one_left_as old.profile a on.0 b row keeps on.1 h) on.2)
   kept_on false false s t fits r =
       one_left_as old.profile a t b row keeps (subst (λ (u : State). IsRowAs old.profile u row t) fits r) h
@@ -68,12 +67,12 @@ module _ (old new : Judged) (row : Row) (a b : State) (keeps : KeepsRow a row) (
       (subst (λ (l : Bool). Fits b l old.may_be_none t) says.left
       (subst (λ (n : Bool). Fits b new.may_be_left n t) says.none fits))
   kept_back false true t fits =
-      found_back_as old.profile a b t (left_of old) old.some_left row keeps h
-      (found_alike b t (left_of new) (left_of old) new.some_left old.some_left says.finders says.some fits)
+      found_back_as old.profile a b t (still_left old) old.some_left row keeps h
+      (found_alike b t (still_left new) (still_left old) new.some_left old.some_left says.finders says.some fits)
   kept_back false false t fits = (a, refl, subst (λ (u : State). IsRowAs old.profile a row u) (sym fits) h)
 
   -- so the set of those that fit is led on
-  pub kept_leads : Stands new b → is_in new.phase Marking ≡ is_in old.phase Marking
+  pub kept_leads : StandsFor new b → is_in new.phase Marking ≡ is_in old.phase Marking
       → is_in new.phase Clearing ≡ is_in old.phase Clearing → LeadsOn old new row a
   kept_leads stands marks clears =
       let before : Bool = is_in old.phase Marking in
@@ -141,7 +140,7 @@ same_said j = record { left = refl; none = refl; some = refl; finders = λ k. re
 -- Where a step is refused with one fault in each state of the judge's value, whatever is free in it, it is told rightly
 -- whether it is answered so, and nothing changes.
 pub refused_tells : (old : Judged) (step : Step) (fault : Fault) (reply : Reply) (verdict : Result (Unit {0}) Stop)
-    → ((a : State) → Stands old a → (RefusedAlike a step) × (refusal a step ≡ Some fault))
+    → ((a : State) → StandsFor old a → (RefusedAlike a step) × (refusal a step ≡ Some fault))
     → MatchResult verdict (λ done. replies.Refused fault ≡ reply)
     (λ stop. (stop ≡ Stop.Illegal) × (replies.Refused fault ≡ reply → ⊥))
     → TellsOf old (record { step = step; reply = reply }) verdict old

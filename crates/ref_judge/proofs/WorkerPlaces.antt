@@ -5,7 +5,7 @@ use Rattle.ref_base.specs.Refusals.{work_refusal, is_in, is_worker}
 use Rattle.ref_base.specs.declared.phase.Phase.{Phase}
 use Rattle.ref_base.proofs.RowForms.{unless_passes}
 use Rattle.ref_judge.specs.Judged.{Judged, Finder}
-use Rattle.ref_judge.specs.Standing.{Stands}
+use Rattle.ref_judge.specs.Standing.{StandsFor}
 use Rattle.ref_judge.proofs.LegalFacts.{legal_facts}
 
 module _ (j : Judged) (phase : Phase) (k : ℕ) (none : work_refusal j.ground.heap j.phase phase k ≡ None) where
@@ -15,7 +15,7 @@ module _ (j : Judged) (phase : Phase) (k : ℕ) (none : work_refusal j.ground.he
   pub goes : is_in j.phase phase ≡ true
   goes = (unless_passes (is_in j.phase phase) _ _ (unless_passes (is_worker j.ground.heap k) _ _ none).1).0
 
-  within_config : (a : State) → Stands j a → k < j.config.workers
+  within_config : (a : State) → StandsFor j a → k < j.config.workers
   within_config a stands =
       let is = ap (λ (h : Heap). h.config.workers) stands.heap in
       let sizes = (legal_facts j.profile j.config a stands.lawful).sizes in
@@ -23,7 +23,7 @@ module _ (j : Judged) (phase : Phase) (k : ℕ) (none : work_refusal j.ground.he
       let own = is_one in
       omega (arith, is, config, own)
 
-  pub within_workers : (a : State) → Stands j a → k < length j.workers
+  pub within_workers : (a : State) → StandsFor j a → k < length j.workers
   within_workers a stands =
       let sizes = (legal_facts j.profile j.config a stands.lawful).sizes in
       let pending = sizes.pending in
@@ -32,7 +32,7 @@ module _ (j : Judged) (phase : Phase) (k : ℕ) (none : work_refusal j.ground.he
       let own = within_config a stands in
       omega (arith, pending, all, same, own)
 
-  pub within_scanned : (a : State) → Stands j a → k < length a.scanned
+  pub within_scanned : (a : State) → StandsFor j a → k < length a.scanned
   within_scanned a stands =
       let scanned = (legal_facts j.profile j.config a stands.lawful).sizes.scanned in
       let own = within_config a stands in

@@ -40,7 +40,7 @@ pub record Finder : Type 0 where
   pub pending : List Pending
 
 -- what mutators and workers carry, each in the order of their numbers
-pub record Hands : Type 0 where
+pub record AllHands : Type 0 where
   pub mutators : List Hand
   pub workers : List Hand
 
@@ -51,7 +51,7 @@ pub record Judged : Type 0 where
   pub profile : Profile
   pub ground : Ground
   pub holds : ℕ
-  pub hands : Hands
+  pub hands : AllHands
   pub lines : List Line
   pub workers : List Finder
   pub phase : Phase
@@ -72,23 +72,23 @@ pub record Judged : Type 0 where
 abbrev pub no_hand : Hand
 no_hand = record { queue = 0; objects = [] }
 
-abbrev pub first_hands : Config → Hands
-first_hands config = record { mutators = replicate config.mutators no_hand; workers = replicate config.workers no_hand }
+abbrev pub no_hands : Config → AllHands
+no_hands config = record { mutators = replicate config.mutators no_hand; workers = replicate config.workers no_hand }
 
-abbrev pub has_hand : Hands → Actor → Bool
-has_hand hands (Mutator m) = nat_lt m (length hands.mutators)
-has_hand hands (Worker k) = nat_lt k (length hands.workers)
+abbrev pub has_carrier : AllHands → Actor → Bool
+has_carrier hands (Mutator m) = nat_lt m (length hands.mutators)
+has_carrier hands (Worker k) = nat_lt k (length hands.workers)
 
-abbrev pub hand_at : Hands → Actor → Hand
+abbrev pub hand_at : AllHands → Actor → Hand
 hand_at hands (Mutator m) = slice_index_or hands.mutators m no_hand
 hand_at hands (Worker k) = slice_index_or hands.workers k no_hand
 
-abbrev pub with_hand_at : Hands → Actor → Hand → Hands
+abbrev pub with_hand_at : AllHands → Actor → Hand → AllHands
 with_hand_at hands (Mutator m) hand = record hands { mutators = slice_set hands.mutators m hand }
 with_hand_at hands (Worker k) hand = record hands { workers = slice_set hands.workers k hand }
 
 -- the hand without its first notice
-abbrev pub with_rest_at : Hands → Actor → Hands
+abbrev pub with_rest_at : AllHands → Actor → AllHands
 with_rest_at hands who =
     with_hand_at hands who (record (hand_at hands who) { objects = rest_of (hand_at hands who).objects })
 
@@ -102,27 +102,27 @@ unless_nothing [] = Some HandEmpty
 unless_nothing (n ∷ ns) = None
 
 -- of a step that fills a hand: NoSuchActor, then HandFull
-abbrev pub filling_refusal : Hands → Actor → Option Fault
-filling_refusal hands who =
-    unless (has_hand hands who) NoSuchActor (unless_carried (hand_at hands who).objects None)
+abbrev pub free_hand_refusal : AllHands → Actor → Option Fault
+free_hand_refusal hands who =
+    unless (has_carrier hands who) NoSuchActor (unless_carried (hand_at hands who).objects None)
 
 -- of one that asks for so many: NoSuchActor, then BadConfig
-abbrev pub fitting_refusal : Hands → Actor → ℕ → Option Fault
+abbrev pub fitting_refusal : AllHands → Actor → ℕ → Option Fault
 fitting_refusal hands who max =
-    unless (has_hand hands who) NoSuchActor
+    unless (has_carrier hands who) NoSuchActor
     (unless (fits max (length (hand_at hands who).objects)) BadConfig None)
 
 -- of one that takes the first: NoSuchActor, then HandEmpty
-abbrev pub emptying_refusal : Hands → Actor → Option Fault
-emptying_refusal hands who = unless (has_hand hands who) NoSuchActor (unless_nothing (hand_at hands who).objects)
+abbrev pub first_notice_refusal : AllHands → Actor → Option Fault
+first_notice_refusal hands who = unless (has_carrier hands who) NoSuchActor (unless_nothing (hand_at hands who).objects)
 
 -- a new queue
 abbrev pub no_line : Line
 no_line = record { stands = []; put = 0; closed = false }
 
 -- of a mutator that names a queue: NoSuchActor, then BadQueue
-abbrev pub calling_refusal : Config → ℕ → ℕ → Option Fault
-calling_refusal config m q =
+abbrev pub naming_refusal : Config → ℕ → ℕ → Option Fault
+naming_refusal config m q =
     unless (nat_lt m config.mutators) NoSuchActor (unless (nat_lt q config.queues) BadQueue None)
 
 -- of a poll of so many: then BadConfig, then HandFull
@@ -146,8 +146,8 @@ abbrev pub found_by : Judged → ℕ → List ℕ
 found_by j k = map (λ f. f.object) (finder_at j k).found
 
 -- and those that it may look at still
-abbrev pub left_of : Judged → ℕ → List ℕ
-left_of j k = drop (finder_at j k).at (found_by j k)
+abbrev pub still_left : Judged → ℕ → List ℕ
+still_left j k = drop (finder_at j k).at (found_by j k)
 
 -- whether object n is left to scan: it is there, may be kept, was made before the cycle began, and wasn't scanned in it
 abbrev pub is_left_in : Judged → ℕ → Bool
@@ -156,8 +156,8 @@ is_left_in j n =
     && (nat_lt n j.born && not (cleared_in_at j.ground.tags n == j.cycle))
 
 -- whether a mark has ended, and its sweep hasn't
-abbrev pub is_past_mark : Phase → Bool
-is_past_mark phase = is_in phase Clearing || is_in phase Sweeping
+abbrev pub is_behind_mark : Phase → Bool
+is_behind_mark phase = is_in phase Clearing || is_in phase Sweeping
 
 -- whether a mark has begun, and clearing hasn't ended
 abbrev pub is_judging : Phase → Bool
@@ -165,7 +165,7 @@ is_judging phase = is_in phase Marking || is_in phase Clearing
 
 -- whether a cycle has begun, and hasn't ended
 abbrev pub is_going : Phase → Bool
-is_going phase = is_in phase Marking || is_past_mark phase
+is_going phase = is_in phase Marking || is_behind_mark phase
 
 -- whether the object was ever put in, by its tag
 abbrev pub is_put : List Tag → ℕ → Bool
@@ -226,7 +226,7 @@ first_judged profile config ground = record {
   profile = profile;
   ground = ground;
   holds = 0;
-  hands = first_hands config;
+  hands = no_hands config;
   lines = replicate config.queues no_line;
   workers = replicate config.workers no_finder;
   phase = Idle;

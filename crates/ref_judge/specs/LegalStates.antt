@@ -13,7 +13,7 @@ use Rattle.ref_base.specs.Collectors.{State, joined}
 use Rattle.ref_base.specs.declared.actor.Actor.{Actor}
 use Rattle.ref_base.specs.declared.config.Config.{Config}
 use Rattle.ref_base.specs.declared.phase.Phase.TheVariants.{Marking}
-use Rattle.ref_judge.specs.Judged.{is_past_mark}
+use Rattle.ref_judge.specs.Judged.{is_behind_mark}
 
 -- the notices of a hand are all for one queue
 abbrev pub AreOfOneQueue : List Notice → Type 0
@@ -47,7 +47,7 @@ pub record NamesLive (a : State) : Type 0 where
       → has (targets_at any_referent a.world.heap.objects m) n ≡ true
       → (is_there a.world.heap.objects n ≡ true) × (has a.doomed n ≡ false)
   pub doomed_there : (n : ℕ) → has a.doomed n ≡ true → is_there a.world.heap.objects n ≡ true
-  pub none_doomed : is_past_mark a.world.phase ≡ false → a.doomed ≡ []
+  pub none_doomed : is_behind_mark a.world.phase ≡ false → a.doomed ≡ []
 
 -- numbers that were given are below the next
 pub record NumbersRise (a : State) : Type 0 where

@@ -12,7 +12,7 @@ use Rattle.ref_base.specs.Strengths.{IsRising}
 use Rattle.ref_base.specs.Worlds.{Pending}
 use Rattle.ref_space.specs.Tables.{Tag, fields_in}
 use Rattle.ref_objects.specs.Grounds.{Ground, cleared_in_at, least_from}
-use Rattle.ref_judge.specs.Judged.{Judged, Line, Finder, Hands}
+use Rattle.ref_judge.specs.Judged.{Judged, Line, Finder, AllHands}
 use Rattle.ref_judge.specs.declared.hand.Hand.{Hand}
 use Rattle.ref_judge.specs.declared.survivors.MarkEnd.{MarkEnd}
 use Rattle.ref_judge.specs.declared.worker.Found.{Found}
@@ -59,7 +59,7 @@ abbrev pub mark_end : Judged → MarkEnd
 mark_end j = record { born = j.born; cycle = j.cycle; policy = j.policy; soft_free = j.profile.soft_free }
 
 -- nothing that hands report is doomed
-abbrev pub carry_spared : MarkEnd → List Tag → Hands → Bool
+abbrev pub carry_spared : MarkEnd → List Tag → AllHands → Bool
 carry_spared end tags hands =
     list_all (λ (h : Hand). list_all (spares end tags) h.objects) hands.mutators
     && list_all (λ (h : Hand). list_all (spares end tags) h.objects) hands.workers
@@ -127,12 +127,12 @@ EndsOne end n now new =
     → EndsTo (next_behind now n) end old new
 
 -- and of all
-abbrev pub Ends : MarkEnd → Ground → Ground → Type 0
-Ends = EndsTo None
+abbrev pub EndsAll : MarkEnd → Ground → Ground → Type 0
+EndsAll = EndsTo None
 
 -- the worker has looked at none, and each says whether the mark's end cleared it
-abbrev pub told : MarkEnd → Ground → Found → Found
-told end g f = record f { is_cleared = refers_into (dooms end g.tags) (reference_at g.heap f.object) }
+abbrev pub told_found : MarkEnd → Ground → Found → Found
+told_found end g f = record f { is_cleared = refers_into (dooms end g.tags) (reference_at g.heap f.object) }
 
 abbrev pub told_each : MarkEnd → Ground → Finder → Finder
-told_each end g w = record w { at = 0; found = map (λ f. told end g f) w.found }
+told_each end g w = record w { at = 0; found = map (λ f. told_found end g f) w.found }

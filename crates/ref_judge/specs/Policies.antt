@@ -14,5 +14,5 @@ abbrev pub policy_as : Profile → Policy → Policy
 policy_as p policy = if p.soft_free then soft_policy else policy
 
 -- the state under that policy, where it is said that no object is left
-abbrev pub under : Profile → State → State
-under p a = record a { world = record a.world { policy = policy_as p a.world.policy }; left = false }
+abbrev pub profiled : Profile → State → State
+profiled p a = record a { world = record a.world { policy = policy_as p a.world.policy }; left = false }

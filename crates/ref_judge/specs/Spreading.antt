@@ -8,7 +8,7 @@ use Rattle.ref_base.specs.KeptPaths.{is_kept}
 use Rattle.ref_base.specs.declared.policy.Policy.{Policy}
 use Rattle.ref_space.specs.Worklists.{Worklist}
 use Rattle.ref_objects.specs.Grounds.{Ground, MayGrow}
-use Rattle.ref_judge.specs.Judged.{Line, Finder, Hands}
+use Rattle.ref_judge.specs.Judged.{Line, Finder, AllHands}
 use Rattle.ref_judge.specs.declared.hand.Hand.{Hand}
 
 -- all is as it was but marks, and what is healed
@@ -62,14 +62,14 @@ reported_in [] = []
 reported_in (line ∷ lines) = line.stands ++ reported_in lines
 
 -- the references that are pending
-abbrev pub pending_in : List Finder → List ℕ
-pending_in [] = []
-pending_in (w ∷ ws) = map (λ p. p.object) w.pending ++ pending_in ws
+abbrev pub pending_among : List Finder → List ℕ
+pending_among [] = []
+pending_among (w ∷ ws) = map (λ p. p.object) w.pending ++ pending_among ws
 
 -- all that slots hold, that is reported and that is pending
-abbrev pub roots_of : Heap → Hands → List Line → List Finder → List ℕ
-roots_of h hands lines workers =
-    present h.slots ++ reported_by hands.mutators ++ reported_by hands.workers ++ reported_in lines ++ pending_in
+abbrev pub judged_roots : Heap → AllHands → List Line → List Finder → List ℕ
+judged_roots h hands lines workers =
+    present h.slots ++ reported_by hands.mutators ++ reported_by hands.workers ++ reported_in lines ++ pending_among
     workers
 
 -- a worker that has found nothing in this cycle

@@ -22,14 +22,14 @@ use Rattle.ref_objects.specs.Grounds.{cleared_in_at}
 use Rattle.ref_objects.specs.declared.stage.Stage.TheVariants.{Tuned}
 use Rattle.ref_base.proofs.EverWorlds.{Knows}
 use Rattle.ref_judge.specs.ProfiledRows.{IsRowAs, IsRunAs, IsLeftAs, says_anew}
-use Rattle.ref_judge.specs.Judged.{Judged, Finder, finder_at, found_by, left_of, is_past_mark, is_judging, is_going}
-use Rattle.ref_judge.specs.Judged.{is_put, unheld, AreHands, AreLines, AreToldCleared}
+use Rattle.ref_judge.specs.Judged.{Judged, Finder, finder_at, found_by, still_left, is_behind_mark, is_judging}
+use Rattle.ref_judge.specs.Judged.{is_going, is_put, unheld, AreHands, AreLines, AreToldCleared}
 use Rattle.ref_judge.specs.declared.profile.Profile.{Profile}
 use Rattle.ref_judge.specs.declared.stop.Stop.{Stop}
 use Rattle.ref_base.proofs.Fitting.{Fits}
 use Rattle.ref_base.proofs.FoundRows.{FitsFound}
 use Rattle.ref_base.proofs.MarkEndRows.{refs_of}
-use Rattle.ref_judge.specs.Policies.{under}
+use Rattle.ref_judge.specs.Policies.{profiled}
 
 -- rows of a collector of the profile lead to the state
 abbrev pub Lawful : Profile → Config → State → Type 0
@@ -41,12 +41,12 @@ Lawful p config a = (rows : List Row) × IsRunAs p (first_state config) rows a
 abbrev pub KnowsKept : Judged → State → Type 0
 KnowsKept j a =
     is_in j.phase Marking ≡ true → j.profile.keeps_more ≡ false
-    → Knows (λ n. has j.ground.marked n ≡ true) (under j.profile a)
+    → Knows (λ n. has j.ground.marked n ≡ true) (profiled j.profile a)
 
 -- from a mark's end on, just those aren't marked that it doomed
 abbrev pub MarksLive : Judged → State → Type 0
 MarksLive j a =
-    is_past_mark j.phase ≡ true → (n : ℕ) → is_there a.world.heap.objects n ≡ true
+    is_behind_mark j.phase ≡ true → (n : ℕ) → is_there a.world.heap.objects n ≡ true
     → has j.ground.marked n ≡ not (has a.doomed n)
 
 -- each object has in its tag the last cycle that scanned it, none of which is to come
@@ -68,7 +68,7 @@ pub record FindersTell (j : Judged) (a : State) : Type 0 where
 
 -- The judge's value is of this state, whatever is free in it: some rows lead to it, and each part of it that isn't
 -- free or past is the judge's.
-pub record Stands (j : Judged) (a : State) : Type 0 where
+pub record StandsFor (j : Judged) (a : State) : Type 0 where
   pub lawful : Lawful j.profile j.config a
   pub heap : j.ground.heap ≡ heap_but a.doomed (unheld a.world.heap)
   pub next : j.ground.next ≡ a.next
@@ -90,8 +90,7 @@ pub record Stands (j : Judged) (a : State) : Type 0 where
 
 -- what holds of a judge's value between rows: nothing is grey, lists have room, no object moves, the colours of its two
 -- rounds of marks take turns, in a mark it may be said that an object is left, or that none is, and in clearing a
--- worker
--- has a reference left where it was said that one has
+-- worker has a reference left where it was said that one has
 pub record IsSettled (j : Judged) : Type 0 where
   pub none_grey : j.grey.stands ≡ []
   pub grey_room : j.grey.room ≡ j.config.cells
@@ -101,7 +100,7 @@ pub record IsSettled (j : Judged) : Type 0 where
   pub none_chosen : j.ground.space.has_choice ≡ false
   pub tuned : is_going j.phase ≡ true → j.ground.space.stage ≡ Tuned
   pub colour : j.ground.space.last ≡ (if is_in j.phase Marking then A else B)
-  pub condemning : j.ground.condemning ≡ is_past_mark j.phase
+  pub condemning : j.ground.condemning ≡ is_behind_mark j.phase
   pub may : is_in j.phase Marking ≡ true → (j.may_be_left || j.may_be_none) ≡ true
   pub waits :
       is_in j.phase Clearing ≡ true → j.some_left ≡ true
@@ -113,7 +112,7 @@ pub record IsSettled (j : Judged) : Type 0 where
 -- found, and else in nothing
 abbrev pub FitsIn : Bool → Bool → Judged → State → State → Type 0
 FitsIn true clears j a b = Fits a j.may_be_left j.may_be_none b
-FitsIn false true j a b = FitsFound a (left_of j) j.some_left b
+FitsIn false true j a b = FitsFound a (still_left j) j.some_left b
 FitsIn false false j a b = b ≡ a
 
 abbrev pub FitsIt : Judged → State → State → Type 0
@@ -124,17 +123,17 @@ abbrev pub AreLawful : Judged → State → Type 0
 AreLawful j a = (s : State) → FitsIt j a s → Lawful j.profile j.config s
 
 -- a judge's value between rows is of some state
-pub record IsSound (j : Judged) : Type 0 where
+pub record IsOfSomeState (j : Judged) : Type 0 where
   pub settled : IsSettled j
   pub state : State
-  pub stands : Stands j state
+  pub stands : StandsFor j state
   pub fits : AreLawful j state
 
 -- ---- rows
 
-abbrev pub answered : Result Reply Fault → Reply
-answered (Ok reply) = reply
-answered (Err fault) = Refused fault
+abbrev pub reply_of_result : Result Reply Fault → Reply
+reply_of_result (Ok reply) = reply
+reply_of_result (Err fault) = Refused fault
 
 -- the bit tells whether an object is left
 abbrev pub DecidesAs : Profile → Bool → State → Type 0
@@ -151,7 +150,7 @@ pub record SaysTheSame (old new : Judged) : Type 0 where
   pub left : new.may_be_left ≡ old.may_be_left
   pub none : new.may_be_none ≡ old.may_be_none
   pub some : new.some_left ≡ old.some_left
-  pub finders : (k : ℕ) → left_of new k ≡ left_of old k
+  pub finders : (k : ℕ) → still_left new k ≡ still_left old k
 
 -- or it is told anew, and rightly, whether an object is left
 abbrev pub SaysRightly : Bool → Judged → Judged → State → Type 0
@@ -160,20 +159,21 @@ SaysRightly false old new b = SaysTheSame old new
 
 -- The step, accepted or refused as the result says, leads from each state of the judge's value to one of the new value,
 -- and what is said of what is free stays, or is told anew.
-pub record Leads (old : Judged) (step : Step) (result : Result Reply Fault) (new : Judged) (a : State) : Type 0 where
+pub record LeadsOne (old : Judged) (step : Step) (result : Result Reply Fault) (new : Judged) (a : State) : Type 0 where
   pub state : State
-  pub row : IsRowAs old.profile a (record { step = step; reply = answered result }) state
-  pub stands : Stands new state
+  pub row : IsRowAs old.profile a (record { step = step; reply = reply_of_result result }) state
+  pub stands : StandsFor new state
   pub says : SaysRightly (is_anew a step result) old new state
 
 abbrev pub DoesAs : Judged → Step → Result Reply Fault → Judged → Type 0
 DoesAs old step result new =
-    (new.profile ≡ old.profile) × (new.config ≡ old.config) × ((a : State) → Stands old a → Leads old step result new a)
+    (new.profile ≡ old.profile) × (new.config ≡ old.config)
+    × ((a : State) → StandsFor old a → LeadsOne old step result new a)
 
 -- the states that fit after a row are just those to which it leads from states that fitted before
 pub record LeadsOn (old new : Judged) (row : Row) (a : State) : Type 0 where
   pub state : State
-  pub stands : Stands new state
+  pub stands : StandsFor new state
   pub on : (s t : State) → FitsIt old a s → IsRowAs old.profile s row t → FitsIt new state t
   pub back : (t : State) → FitsIt new state t → (s : State) × FitsIt old a s × IsRowAs old.profile s row t
 
@@ -186,17 +186,17 @@ HasNone old row a = (s t : State) → FitsIt old a s → IsRowAs old.profile s r
 abbrev pub TellsOf : Judged → Row → Result (Unit {0}) Stop → Judged → Type 0
 TellsOf old row (Ok done) new =
     (new.profile ≡ old.profile) × (new.config ≡ old.config)
-    × ((a : State) → Stands old a → AreLawful old a → LeadsOn old new row a)
-TellsOf old row (Err Stop.Illegal) new = (a : State) → Stands old a → HasNone old row a
+    × ((a : State) → StandsFor old a → AreLawful old a → LeadsOn old new row a)
+TellsOf old row (Err Stop.Illegal) new = (a : State) → StandsFor old a → HasNone old row a
 TellsOf old row (Err Stop.NoMemory) new = Unit {0}
 
 -- ---- at first
 
 -- a new judge is of the first state, which alone fits
-pub record IsFirst (profile : Profile) (config : Config) (j : Judged) : Type 0 where
+pub record IsNewJudge (profile : Profile) (config : Config) (j : Judged) : Type 0 where
   pub profile_is : j.profile ≡ profile
   pub config_is : j.config ≡ config
-  pub stands : Stands j (first_state config)
+  pub stands : StandsFor j (first_state config)
   pub alone : (b : State) → FitsIt j (first_state config) b → b ≡ first_state config
   pub fits : FitsIt j (first_state config) (first_state config)
   pub settled : IsSettled j

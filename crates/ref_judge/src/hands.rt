@@ -3,8 +3,8 @@
 ghost use Rattle.std.specs.Prelude.{◌≡◌, IfOk, IfSome, IsSome, Some, ◌↔◌, true, [], ◌∷◌};
 ghost use Rattle.ref_base.specs.Members.{first_of, rest_of};
 ghost use Rattle.ref_objects.specs.Grounds.{IsRefused};
-ghost use Rattle.ref_judge.specs.Judged.{has_hand, hand_at, with_hand_at, with_rest_at, first_hands};
-ghost use Rattle.ref_judge.specs.Judged.{filling_refusal, fitting_refusal, emptying_refusal};
+ghost use Rattle.ref_judge.specs.Judged.{has_carrier, hand_at, with_hand_at, with_rest_at, no_hands};
+ghost use Rattle.ref_judge.specs.Judged.{free_hand_refusal, fitting_refusal, first_notice_refusal};
 
 use crate::hand::Hand;
 use ref_base::{Actor, Config, Fault, MOST_IN_BATCH, Nos, ObjNo, QueueNo};
@@ -19,7 +19,7 @@ pub(crate) struct Hands<A: Allocator> {
 }
 
 impl<A: Allocator> Model for Hands<A> {
-    ghost use Rattle.ref_judge.specs.Judged.{Hands as Data};
+    ghost use Rattle.ref_judge.specs.Judged.{AllHands as Data};
 
     ghost Value = { Data };
 
@@ -29,7 +29,7 @@ impl<A: Allocator> Model for Hands<A> {
 impl<A: Allocator + Copy> Hands<A> {
     // All of them empty. The one error is `NoMemory`.
     pub(crate) fn new(alloc: A, config: Config) -> Result<Self, AllocError>
-        ensures { IfOk result (λ hands. hands ≡ first_hands config) }
+        ensures { IfOk result (λ hands. hands ≡ no_hands config) }
     {
         let mut mutators = Vec::with_capacity(alloc, config.mutators as usize)?;
         for _mutator in 0..config.mutators {
@@ -44,7 +44,7 @@ impl<A: Allocator + Copy> Hands<A> {
 
     // The hand of an actor, if there is this one.
     pub(crate) fn of(&self, actor: Actor) -> Option<Hand>
-        ensures there { IsSome result ↔ (has_hand self.now actor ≡ true) }
+        ensures there { IsSome result ↔ (has_carrier self.now actor ≡ true) }
         ensures hand { IfSome result (λ hand. hand ≡ hand_at self.now actor) }
     {
         match actor {
@@ -74,7 +74,7 @@ impl<A: Allocator + Copy> Hands<A> {
 
     // The actor, whom there is, then carries the notices of these references, for this queue.
     pub(crate) fn fill(&mut self, actor: Actor, queue: QueueNo, objects: Nos)
-        requires { has_hand self.old actor ≡ true }
+        requires { has_carrier self.old actor ≡ true }
         ensures { self.new ≡ with_hand_at self.old actor (record { queue = queue; objects = objects }) }
     {
         let hand = Hand { queue, objects };
@@ -86,7 +86,7 @@ impl<A: Allocator + Copy> Hands<A> {
 
     // The actor, whom there is, then carries the notice of this reference.
     pub(crate) fn fill_one(&mut self, actor: Actor, queue: QueueNo, object: ObjNo)
-        requires { has_hand self.old actor ≡ true }
+        requires { has_carrier self.old actor ≡ true }
         ensures { self.new ≡ with_hand_at self.old actor (record { queue = queue; objects = object ∷ [] }) }
     {
         let mut objects = Nos::new();
@@ -96,7 +96,7 @@ impl<A: Allocator + Copy> Hands<A> {
 
     // The actor, whom there is, no longer carries its first.
     pub(crate) fn drop_first(&mut self, actor: Actor)
-        requires { has_hand self.old actor ≡ true }
+        requires { has_carrier self.old actor ≡ true }
         ensures { self.new ≡ with_rest_at self.old actor }
     {
         let (read, filled) = (actor, actor);
@@ -108,7 +108,7 @@ impl<A: Allocator + Copy> Hands<A> {
 
     // That there is this actor, and its hand is empty: NoSuchActor, HandFull.
     pub(crate) fn check_empty(&self, actor: Actor) -> Result<(), Fault>
-        ensures { IsRefused (filling_refusal self.now actor) result }
+        ensures { IsRefused (free_hand_refusal self.now actor) result }
     {
         let hand = self.of(actor).ok_or(Fault::NoSuchActor)?;
         if hand.len() > 0 {
@@ -130,7 +130,7 @@ impl<A: Allocator + Copy> Hands<A> {
 
     // The reference that the hand's first notice reports: NoSuchActor, HandEmpty.
     pub(crate) fn first_of(&self, actor: Actor) -> Result<ObjNo, Fault>
-        ensures refused { IsRefused (emptying_refusal self.now actor) result }
+        ensures refused { IsRefused (first_notice_refusal self.now actor) result }
         ensures first { IfOk result (λ no. first_of (hand_at self.now actor).objects ≡ Some no) }
     {
         let hand = self.of(actor).ok_or(Fault::NoSuchActor)?;

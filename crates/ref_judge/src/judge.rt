@@ -4,7 +4,7 @@ ghost use Rattle.std.specs.Prelude.{◌≡◌, true, if◌then◌else◌, Ok, Er
 ghost use Rattle.ref_base.specs.Limits.{is_within_limits};
 ghost use Rattle.ref_objects.specs.Grounds.{first_ground};
 ghost use Rattle.ref_judge.specs.Judged.{has_one_answer, first_judged, no_finder, no_line};
-ghost use Rattle.ref_judge.specs.Standing.{DoesAs, TellsOf, IsFirst, answered};
+ghost use Rattle.ref_judge.specs.Standing.{DoesAs, TellsOf, IsNewJudge, reply_of_result};
 
 mod clearing;
 mod marking;
@@ -58,7 +58,7 @@ pub struct Judge<A: Allocator = Global> {
 
 impl<A: Allocator> Model for Judge<A> {
     ghost use Rattle.ref_judge.specs.Judged.{Judged};
-    ghost use Rattle.ref_judge.specs.Standing.{IsSound};
+    ghost use Rattle.ref_judge.specs.Standing.{IsOfSomeState};
 
     ghost Value = { Judged };
 
@@ -83,7 +83,7 @@ impl<A: Allocator> Model for Judge<A> {
       doomed = j.doomed;
     } };
 
-    ghost invariant = { λ j. IsSound (record {
+    ghost invariant = { λ j. IsOfSomeState (record {
       config = j.config;
       profile = j.profile;
       ground = j.objects;
@@ -111,7 +111,7 @@ impl<A: Allocator + Copy> Judge<A> {
     pub fn new(alloc: A, config: Config, profile: Profile) -> Result<Self, Fault>
         ensures refused { MatchResult result (λ _. is_within_limits config ≡ true)
             (λ fault. fault ≡ (if is_within_limits config then Fault.NoMemory else Fault.BadConfig)) }
-        ensures stands { IfOk result (λ judge. IsFirst profile config judge) }
+        ensures stands { IfOk result (λ judge. IsNewJudge profile config judge) }
     {
         let objects = Objects::new(alloc, config, 0)?;
         match with_objects(alloc, config, profile, objects) {
@@ -283,7 +283,7 @@ fn with_objects<A: Allocator + Copy>(
     })
 }
 
-// So many workers that have found and cleared nothing.
+// As many new workers as the count says. None has found or cleared anything.
 fn first_workers<A: Allocator + Copy>(alloc: A, count: u32) -> Result<Vec<Worker<A>, A>, AllocError>
     ensures { IfOk result (λ workers. workers.items ≡ replicate count no_finder) }
 {
@@ -294,7 +294,7 @@ fn first_workers<A: Allocator + Copy>(alloc: A, count: u32) -> Result<Vec<Worker
     Ok(workers)
 }
 
-// So many open queues into which nothing was put.
+// As many new queues as the count says. Each is open, and nothing was put into it.
 fn first_lines<A: Allocator + Copy>(alloc: A, count: u32) -> Result<Vec<Line<A>, A>, AllocError>
     ensures { IfOk result (λ lines. lines.items ≡ replicate count no_line) }
 {
@@ -307,8 +307,8 @@ fn first_lines<A: Allocator + Copy>(alloc: A, count: u32) -> Result<Vec<Line<A>,
 
 // Whether a step with this one answer is answered so.
 fn is_answered(answer: Result<Reply, Fault>, reply: Reply) -> Result<(), Stop>
-    ensures { MatchResult result (λ _. answered answer ≡ reply)
-        (λ stop. (stop ≡ Stop.Illegal) × (answered answer ≡ reply → ⊥)) }
+    ensures { MatchResult result (λ _. reply_of_result answer ≡ reply)
+        (λ stop. (stop ≡ Stop.Illegal) × (reply_of_result answer ≡ reply → ⊥)) }
 {
     match answer {
         Ok(told) => is_legal(told == reply),
@@ -318,7 +318,7 @@ fn is_answered(answer: Result<Reply, Fault>, reply: Reply) -> Result<(), Stop>
 
 // The reply of a step that is accepted or refused so.
 fn answered(answer: Result<Reply, Fault>) -> Reply
-    ensures { result ≡ answered answer }
+    ensures { result ≡ reply_of_result answer }
 {
     match answer {
         Ok(reply) => reply,

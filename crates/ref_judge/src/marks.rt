@@ -58,7 +58,7 @@ pub(crate) fn shade_each<A: Allocator + Copy>(
     }
 }
 
-// This is marked, and grey where it is marked anew.
+// The object of this number is marked. Where it is marked anew it is grey too.
 pub(crate) fn shade<A: Allocator + Copy>(
     objects: &mut Objects<A>,
     grey: &mut Worklist<A>,

@@ -6,7 +6,7 @@ ghost use Rattle.ref_objects.specs.declared.stage.Stage.TheVariants.{Tuned};
 ghost use Rattle.ref_objects.specs.Grounds.{MayGrow};
 ghost use Rattle.std.specs.List.{list_all};
 ghost use Rattle.ref_judge.specs.MarkEnding.{spares, carry_spared};
-ghost use Rattle.ref_judge.specs.Spreading.{Shades, Spread, reported_by, reported_in, pending_in, roots_of};
+ghost use Rattle.ref_judge.specs.Spreading.{Shades, Spread, reported_by, reported_in, pending_among, judged_roots};
 
 use crate::hand::Hand;
 use crate::hands::Hands;
@@ -31,7 +31,7 @@ pub(crate) fn mark_kept<A: Allocator + Copy>(
     requires room { MayGrow objects.old grey.old }
     requires none { grey.old.stands ≡ [] }
     ensures kept { Spread (is_kept policy) objects.old
-        (roots_of objects.old.heap hands.now lines.now workers.now) objects.new [] }
+        (judged_roots objects.old.heap hands.now lines.now workers.now) objects.new [] }
     ensures none { grey.new.stands ≡ [] }
     ensures room { grey.new.room ≡ grey.old.room }
 {
@@ -87,7 +87,7 @@ pub(crate) fn shade_pending<A: Allocator + Copy>(
     workers: &[Worker<A>],
 )
     requires { MayGrow objects.old grey.old }
-    ensures { Shades objects.old grey.old (pending_in workers.now) objects.new grey.new }
+    ensures { Shades objects.old grey.old (pending_among workers.now) objects.new grey.new }
 {
     for worker in workers.iter() {
         shade_waiting(objects, grey, worker);

@@ -7,8 +7,8 @@ ghost use Rattle.ref_base.specs.Graphs.{numbers, object_at};
 ghost use Rattle.ref_base.specs.Heaps.{reference_at};
 ghost use Rattle.ref_base.specs.KeptPaths.{is_kept};
 ghost use Rattle.ref_space.specs.Tables.{fields_in};
-ghost use Rattle.ref_judge.specs.MarkEnding.{passes, spares, dooms, must_stay, leads_out, next_behind, told_each, Ends};
-ghost use Rattle.ref_judge.specs.MarkEnding.{EndsOne, AreFew};
+ghost use Rattle.ref_judge.specs.MarkEnding.{passes, spares, dooms, must_stay, leads_out, next_behind, told_each};
+ghost use Rattle.ref_judge.specs.MarkEnding.{EndsAll, EndsOne, AreFew};
 
 use crate::marks::known;
 use crate::worker::Worker;
@@ -185,7 +185,7 @@ fn keeps(policy: Policy, reference: Reference) -> bool
 pub(crate) fn mark_spared<A: Allocator + Copy>(objects: &mut Objects<A>, end: MarkEnd)
     requires unmarked { objects.old.marked ≡ [] }
     requires few { AreFew objects.old }
-    ensures { Ends end objects.old objects.new }
+    ensures { EndsAll end objects.old objects.new }
 {
     let mut next = objects.first_from(ObjNo(0));
     while let Some(no) = next {
@@ -219,7 +219,7 @@ pub(crate) fn tell_found<A: Allocator + Copy>(
     }
 }
 
-// So for one worker.
+// Each reference that this worker scanned says whether the mark's end clears it. None of them has been looked at.
 fn tell_each<A: Allocator + Copy>(objects: &Objects<A>, end: MarkEnd, worker: &mut Worker<A>)
     ensures { worker.new ≡ told_each end objects.now worker.old }
 {

@@ -69,7 +69,7 @@ impl<A: Allocator + Copy> Worker<A> {
         }
     }
 
-    // It has found nothing in this cycle.
+    // The worker then has found nothing in this cycle.
     fn forget_found(&mut self)
         ensures { self.new ≡ without_found self.old }
     {
@@ -77,7 +77,7 @@ impl<A: Allocator + Copy> Worker<A> {
         self.at = 0;
     }
 
-    // It has found this one too, where that is a reference.
+    // The worker then has found this object too, where it is a reference.
     pub(crate) fn note(&mut self, no: ObjNo, is_reference: bool) -> Result<(), Stop>
         ensures { MatchResult result (λ _. self.new ≡ noted self.old is_reference no)
             (λ stop. (stop ≡ Stop.NoMemory) × (self.new ≡ self.old)) }
@@ -134,7 +134,7 @@ impl<A: Allocator + Copy> Worker<A> {
         None
     }
 
-    // It goes on from there, with this pending too, where something is.
+    // The worker goes on from this place. What is given as pending, if anything is, is then pending with it too.
     pub(crate) fn go_on(&mut self, next: usize, pending: Option<Pending>) -> Result<(), Stop>
         ensures { MatchResult result
             (λ _. self.new ≡ record self.old { at = next; pending = self.old.pending ++ if_pending pending })
@@ -149,7 +149,7 @@ impl<A: Allocator + Copy> Worker<A> {
         Ok(())
     }
 
-    // It passes all.
+    // The worker passes all references that it has found.
     pub(crate) fn pass_all(&mut self)
         ensures { self.new ≡ record self.old { at = length self.old.found } }
     {

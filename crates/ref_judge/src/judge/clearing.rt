@@ -35,7 +35,7 @@ impl<A: Allocator + Copy> Judge<A> {
         }
     }
 
-    // It passes the references in front of this one, none of which the mark's end cleared, and looks at it.
+    // The worker looks at this reference, once it has passed those in front. The mark's end cleared none of those.
     fn look(&mut self, worker: WorkerNo, no: ObjNo, reply: Reply) -> Result<(), Stop>
         requires none { work_refusal self.old.ground.heap self.old.phase Phase.Clearing worker ≡ None }
         requires names { IsLookAt reply no }
@@ -84,7 +84,7 @@ impl<A: Allocator + Copy> Judge<A> {
         }
     }
 
-    // It has none left: so the mark's end cleared none that it hasn't looked at.
+    // The worker says that it has none left to look at. The mark's end then cleared none that it hasn't looked at.
     fn pass_all(&mut self, worker: WorkerNo) -> Result<(), Stop>
         requires { work_refusal self.old.ground.heap self.old.phase Phase.Clearing worker ≡ None }
         ensures { TellsOf self.old (record { step = Step.Plain (PlainStep.ClearNext worker); reply = Reply.Nothing })

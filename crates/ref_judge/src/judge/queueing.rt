@@ -6,7 +6,7 @@ ghost use Rattle.std.specs.Prelude.{OnErr, OnOk};
 ghost use Rattle.ref_base.specs.Members.{has, without_first};
 ghost use Rattle.ref_base.specs.QueueBatches.{added_among, not_added};
 ghost use Rattle.ref_objects.specs.Grounds.{IsRefused, IsWellFormed};
-ghost use Rattle.ref_judge.specs.Judged.{calling_refusal, polling_refusal, is_put};
+ghost use Rattle.ref_judge.specs.Judged.{naming_refusal, polling_refusal, is_put};
 ghost use Rattle.ref_judge.specs.Standing.{DoesAs, TellsOf};
 ghost use Rattle.ref_judge.specs.Queueing.{told_put, may_become, may_become_each, line_with, linked_each, TellsNone};
 ghost use Rattle.ref_judge.specs.Queueing.{MayTakeNos, may_be_next, without_each};
@@ -131,7 +131,7 @@ impl<A: Allocator + Copy> Judge<A> {
 
     // That there are this mutator and this queue: NoSuchActor, BadQueue.
     fn check_poll(&self, mutator: MutNo, queue: QueueNo) -> Result<(), Fault>
-        ensures { IsRefused (calling_refusal self.now.config mutator queue) result }
+        ensures { IsRefused (naming_refusal self.now.config mutator queue) result }
     {
         if mutator.0 >= self.config.mutators {
             return Err(Fault::NoSuchActor);

@@ -11,8 +11,8 @@ use Rattle.ref_space.specs.declared.colour.Colour.{Colour}
 use Rattle.ref_space.specs.declared.colour.Colour.TheVariants.{B}
 use Rattle.ref_objects.specs.Grounds.{Ground, marks_begun, with_condemned, unmarked}
 use Rattle.ref_judge.specs.Judged.{Judged, Finder}
-use Rattle.ref_judge.specs.MarkEnding.{Ends, AreFew, mark_end, may_end, told_each}
-use Rattle.ref_judge.specs.Standing.{IsSound, TellsOf}
+use Rattle.ref_judge.specs.MarkEnding.{EndsAll, AreFew, mark_end, may_end, told_each}
+use Rattle.ref_judge.specs.Standing.{IsOfSomeState, TellsOf}
 use Rattle.ref_judge.specs.declared.survivors.MarkEnd.{MarkEnd}
 use Rattle.ref_judge.proofs.EndChecks.{few_of}
 use Rattle.ref_judge.proofs.EndedJudges.{ended_judge, ended_as, ended_tells, settled_after, closed_after}
@@ -25,19 +25,19 @@ record IsEnd (v : Judged) (g : Ground) (count : ℕ) : Type 0 where
   marks : is_in v.phase Marking ≡ true
   none : v.may_be_none ≡ true
   may : may_end v count ≡ true
-  ends : Ends (mark_end v) (marks_begun v.ground B) g
+  ends : EndsAll (mark_end v) (marks_begun v.ground B) g
 
 -- of what the calls say
 end_of : (v j : Judged) (g : Ground) (count : ℕ) → v ≡ j → is_in j.phase Marking ≡ true → j.may_be_none ≡ true
     → may_end j count ≡ true → (end : MarkEnd) → end ≡ mark_end j → (good : Colour) → good ≡ B → (begun : Ground)
-    → begun ≡ marks_begun v.ground good → Ends end begun g → IsEnd v g count
+    → begun ≡ marks_begun v.ground good → EndsAll end begun g → IsEnd v g count
 end_of v j g count view marks none may end goes good second begun begins ends = record {
   marks = ap (λ (k : Judged). is_in k.phase Marking) view ∙ marks;
   none = ap (λ (k : Judged). k.may_be_none) view ∙ none;
   may = ap (λ (k : Judged). may_end k count) view ∙ may;
   ends =
-      subst (λ (e : MarkEnd). Ends e (marks_begun v.ground B) g) (goes ∙ sym (ap mark_end view))
-      (subst (λ (x : Ground). Ends end x g) (begins ∙ ap (λ (x : Colour). marks_begun v.ground x) second) ends);
+      subst (λ (e : MarkEnd). EndsAll e (marks_begun v.ground B) g) (goes ∙ sym (ap mark_end view))
+      (subst (λ (x : Ground). EndsAll end x g) (begins ∙ ap (λ (x : Colour). marks_begun v.ground x) second) ends);
 }
 
 -- so the value that the calls make tells of the row, and is sound
@@ -64,9 +64,9 @@ module _ (v j : Judged) (g ground : Ground) (workers : List Finder) (doomed : Wo
   made_tells : TellsOf v row (Ok tt) made
   made_tells = made_as (TellsOf v row (Ok tt)) tells
 
-  made_sound : IsSound v → IsSound made
+  made_sound : IsOfSomeState v → IsOfSomeState made
   made_sound sound =
-      made_as IsSound (sound_told v (ended_judge v g) row sound tells (settled_after v g sound.settled is.ends))
+      made_as IsOfSomeState (sound_told v (ended_judge v g) row sound tells (settled_after v g sound.settled is.ends))
 
 pub mark_spared-requires-clause-few : goal.mark_spared-requires-clause-few
 mark_spared-requires-clause-few g c =

@@ -1,5 +1,5 @@
 use Rattle.std.proofs.Common.{arith, ◌≡◌, refl, sym, subst, None}
-use Rattle.ref_judge.specs.Judged.{Judged, calling_refusal}
+use Rattle.ref_judge.specs.Judged.{Judged, naming_refusal}
 use Rattle.ref_judge.proofs.PollDone.{poll_called, poll_filled, queue_called, one_takes, one_wrong, one_default}
 use Rattle.ref_judge.proofs.PollDone.{took_told, took_sound}
 use Rattle.ref_judge.proofs.judge.Judge.poll.Goals as goal
@@ -12,7 +12,7 @@ returns-in-Err g c =
 pub returns-in-Err-check_empty : goal.returns-in-Err-check_empty
 returns-in-Err-check_empty g c =
     let none =
-    subst (λ (j : Judged). calling_refusal j.config c.args.mutator c.args.queue ≡ None) (sym c.self.view_is)
+    subst (λ (j : Judged). naming_refusal j.config c.args.mutator c.args.queue ≡ None) (sym c.self.view_is)
     c.in_default.ensures in
     rw (← c.self.view_is)
     (poll_filled _ c.args.mutator c.args.queue c.in-Err-check_empty.fault c.args.reply _ c.self.invariant none
@@ -21,7 +21,7 @@ returns-in-Err-check_empty g c =
 pub index-line-requires : goal.index-line-requires
 index-line-requires g c =
     let none =
-    subst (λ (j : Judged). calling_refusal j.config c.args.mutator c.args.queue ≡ None) (sym c.self.view_is)
+    subst (λ (j : Judged). naming_refusal j.config c.args.mutator c.args.queue ≡ None) (sym c.self.view_is)
     c.in_default.ensures in
     let there = queue_called _ c.self.invariant c.args.mutator c.args.queue _ c.queue.view_is none in
     let len = c.self.inside.lines.ok.0 in
@@ -30,7 +30,7 @@ index-line-requires g c =
 pub index_mut-requires : goal.index_mut-requires
 index_mut-requires g c =
     let none =
-    subst (λ (j : Judged). calling_refusal j.config c.args.mutator c.args.queue ≡ None) (sym c.self.view_is)
+    subst (λ (j : Judged). naming_refusal j.config c.args.mutator c.args.queue ≡ None) (sym c.self.view_is)
     c.in_default.ensures in
     let there = queue_called _ c.self.invariant c.args.mutator c.args.queue _ c.queue.view_is none in
     let len = c.self.inside.lines.ok.0 in
@@ -39,7 +39,7 @@ index_mut-requires g c =
 pub returns-in_default-reply : goal.returns-in_default-reply
 returns-in_default-reply g c =
     let none =
-    subst (λ (j : Judged). calling_refusal j.config c.args.mutator c.args.queue ≡ None) (sym c.self.view_is)
+    subst (λ (j : Judged). naming_refusal j.config c.args.mutator c.args.queue ≡ None) (sym c.self.view_is)
     c.in_default.ensures in
     let there = queue_called _ c.self.invariant c.args.mutator c.args.queue c.args.queue refl none in
     let read = rw c.queue.view_is at c.index-line.ensures in
@@ -50,7 +50,7 @@ returns-in_default-reply g c =
 pub returns-then-not-may_take : goal.returns-then-not-may_take
 returns-then-not-may_take g c =
     let none =
-    subst (λ (j : Judged). calling_refusal j.config c.args.mutator c.args.queue ≡ None) (sym c.self.view_is)
+    subst (λ (j : Judged). naming_refusal j.config c.args.mutator c.args.queue ≡ None) (sym c.self.view_is)
     c.in_default.ensures in
     let there = queue_called _ c.self.invariant c.args.mutator c.args.queue c.args.queue refl none in
     let read = rw c.queue.view_is at c.index-line.ensures in
@@ -61,7 +61,7 @@ returns-then-not-may_take g c =
 pub invariant_of-self : goal.invariant_of-self
 invariant_of-self g c =
     let none =
-    subst (λ (j : Judged). calling_refusal j.config c.args.mutator c.args.queue ≡ None) (sym c.self.view_is)
+    subst (λ (j : Judged). naming_refusal j.config c.args.mutator c.args.queue ≡ None) (sym c.self.view_is)
     c.in_default.ensures in
     let there = queue_called _ c.self.invariant c.args.mutator c.args.queue c.args.queue refl none in
     let read = rw c.queue.view_is at c.index-line.ensures in
@@ -73,7 +73,7 @@ invariant_of-self g c =
 pub returns-else-not-may_take : goal.returns-else-not-may_take
 returns-else-not-may_take g c =
     let none =
-    subst (λ (j : Judged). calling_refusal j.config c.args.mutator c.args.queue ≡ None) (sym c.self.view_is)
+    subst (λ (j : Judged). naming_refusal j.config c.args.mutator c.args.queue ≡ None) (sym c.self.view_is)
     c.in_default.ensures in
     let there = queue_called _ c.self.invariant c.args.mutator c.args.queue c.args.queue refl none in
     let read = rw c.queue.view_is at c.index-line.ensures in
