@@ -526,6 +526,10 @@ answered_tells old new step result reply (Ok done) settled one does same = (
       subst (λ (r : Reply). LeadsOn old new (record { step = step; reply = r }) a) same
       (told old new settled a stands step result one (does.2 a stands)),
 )
-answered_tells old new step result reply (Err Stop.NoMemory) settled one does differ = tt
+answered_tells old new step result reply (Err Stop.NoMemory) settled one does differ =
+    absurd (apart differ.0)
+  where
+    apart : Stop.NoMemory ≡ Stop.Illegal → ⊥
+    apart is = absurd cc
 answered_tells old new step result reply (Err Stop.Illegal) settled one does differ =
     λ a stands. told_none old new settled a stands step result reply one (does.2 a stands) differ.1

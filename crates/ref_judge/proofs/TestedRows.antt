@@ -95,7 +95,7 @@ module _ (j : Judged) (row : Row) where
       → ((legal → ⊥) → (a : State) → StandsFor j a → HasNone j row a) → TellsOf j row result j
   tested_told (Ok done) legal is stays none = stays_told (stays is)
   tested_told (Err stop.Illegal) legal not stays none = none not.1
-  tested_told (Err stop.NoMemory) legal not stays none = tt
+  tested_told (Err stop.NoMemory) legal not stays none = refl
 
 module _ (j : Judged) (step : Step) (reply : Reply) (fault : Fault)
     (refused : (a : State) → StandsFor j a → (left : Bool) (found : List (List ℕ))
@@ -117,4 +117,4 @@ module _ (j : Judged) (step : Step) (reply : Reply) (fault : Fault)
         ))
     refused_told (Err stop.Illegal) illegal = λ a stands s t fits h.
         illegal.1 (sym (subst (λ o. IsAnswerAs j.profile s o step reply t) (refuses a s stands fits) h).0)
-    refused_told (Err stop.NoMemory) illegal = tt
+    refused_told (Err stop.NoMemory) illegal = refl

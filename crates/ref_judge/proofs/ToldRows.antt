@@ -154,7 +154,7 @@ refused_tells old step fault reply (Ok done) refused same = (
       (kept_leads old old row a a (is.0, inl (fault, is.1)) (refused_row old.profile a step fault is.1) (same_said old)
       stands refl refl),
 )
-refused_tells old step fault reply (Err Stop.NoMemory) refused differ = tt
+refused_tells old step fault reply (Err Stop.NoMemory) refused differ = refl
 refused_tells old step fault reply (Err Stop.Illegal) refused differ =
     λ a stands s t fits h.
     let is = refused a stands in

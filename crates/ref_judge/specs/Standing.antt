@@ -182,13 +182,13 @@ abbrev pub HasNone : Judged → Row → State → Type 0
 HasNone old row a = (s t : State) → FitsIt old a s → IsRowAs old.profile s row t → ⊥
 
 -- a judge takes the row where a state that fits has it, and stops where none has: unless memory is refused, which says
--- nothing of the row
+-- nothing of the row and changes nothing
 abbrev pub TellsOf : Judged → Row → Result (Unit {0}) Stop → Judged → Type 0
 TellsOf old row (Ok done) new =
     (new.profile ≡ old.profile) × (new.config ≡ old.config)
     × ((a : State) → StandsFor old a → AreLawful old a → LeadsOn old new row a)
 TellsOf old row (Err Stop.Illegal) new = (a : State) → StandsFor old a → HasNone old row a
-TellsOf old row (Err Stop.NoMemory) new = Unit {0}
+TellsOf old row (Err Stop.NoMemory) new = new ≡ old
 
 -- ---- at first
 

@@ -120,7 +120,10 @@ impl<A: Allocator + Copy> Judge<A> {
         }
     }
 
-    /// Judges the next row.
+    /// Judges the next row. It is `Illegal` where no state that fits the rows before has it, and of later rows nothing
+    /// is promised then. `NoMemory` comes of a scan, a clearing or a put alone, and says nothing of the row: nothing
+    /// changes, and the row may be judged again. A begin and a mark's end take the time of the heap, and a batch that
+    /// of its entries. A poll takes that of what stands in its queue, and any other row that of a search.
     pub fn row(&mut self, row: Row) -> Result<(), Stop>
         ensures { TellsOf self.old row result self.new }
     {

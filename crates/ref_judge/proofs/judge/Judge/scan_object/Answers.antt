@@ -1,5 +1,6 @@
-use Rattle.std.proofs.Common.{arith, ◌∙◌, ℕ, Bool, ap, slice_index_or}
+use Rattle.std.proofs.Common.{arith, ◌∙◌, ℕ, Bool, refl, ap, slice_index_or}
 use Rattle.std.specs.Prelude.{Option, is_some}
+use Rattle.std.proofs.lemmas.Result.{err_from_is_err_and}
 use Rattle.ref_base.specs.Graphs.{Reference}
 use Rattle.ref_base.specs.Refusals.{work_refusal}
 use Rattle.ref_base.specs.declared.config.Config.{Config}
@@ -84,3 +85,15 @@ returns g c =
     )
     (scanned_told _ k c.args.no none c.is_any_left-self-inside.result said left c.known.ensures
     (rw c.set_cleared_in.ensures at c.is_any_left-self-inside.ensures))))
+
+pub returns-in_err-note : goal.returns-in_err-note
+returns-in_err-note g c =
+    let p = err_from_is_err_and c.from_residual.result c.from_residual.ensures.1 in
+    rw (
+      ← c.self.view_is,
+      p.1,
+      p.2,
+      c.in_err-note.ensures.0,
+      c.in_err-note.ensures.1,
+      set_back c.self.inside.workers.items c.worker.inside.0 _ c.index_mut.ensures.value,
+    ) refl
