@@ -5,9 +5,8 @@ use super::rows::{
     END_MARK, PUT, begin, clear_next, cleared, drop_slot, new, object, own, poll, scan, scanned,
     soft, took, unhook, weak,
 };
-use rationed::Rationed;
 use ref_base::{Config, Fault, ObjNo, PlainStep, Reply, Row, Step};
-use ref_judge::{Judge, Order, Profile, Stop, verdict};
+use ref_judge::{Judge, Order, Profile, verdict};
 use std::alloc::{AllocError, Global};
 use std::process::Abort;
 use std::test::Fail;
@@ -224,51 +223,4 @@ fn a_profile_lets_a_collector_do_what_it_says_and_nothing_else(
         is_told(&rt, rt.alloc(), profile, story, want)?;
     }
     Ok(())
-}
-
-#[test]
-fn a_judge_without_memory_says_so_and_goes_on_once_there_is_some(
-    rt: HostRuntime,
-) -> Result<(), Fail> {
-    let memory = Rationed::new(rt.alloc());
-    let story = a_young_soft_reference();
-    let profile = Profile {
-        soft_free: true,
-        ..Profile::strict()
-    };
-    let mut judge = Judge::new(&memory, CONFIG, profile)?;
-    let mut refused = 0;
-    for (place, &(step, reply)) in story.iter().enumerate() {
-        memory.ration(0);
-        let told = judge.row(Row { step, reply });
-        if memory.lift() {
-            assert!(rt; told == Err(Stop::NoMemory), "row {place}");
-            assert!(rt;
-                judge.row(Row { step, reply }) == Ok(()),
-                "row {place} again"
-            );
-            refused += 1;
-        } else {
-            assert!(rt; told == Ok(()), "row {place}");
-        }
-    }
-    assert!(rt; refused == 2, "a scan and a clearing take memory");
-    Ok(())
-}
-
-#[test]
-fn a_new_judge_without_memory_is_none(rt: HostRuntime) -> Result<(), Fail> {
-    let memory = Rationed::new(rt.alloc());
-    let mut met = 0;
-    loop {
-        memory.ration(met);
-        let judge = Judge::new(&memory, CONFIG, Profile::strict());
-        if !memory.lift() {
-            assert!(rt; judge.is_ok(), "{met} requests met");
-            assert!(rt; met > 2, "objects, hands and lists take memory");
-            return Ok(());
-        }
-        assert!(rt; matches!(judge, Err(Fault::NoMemory)), "{met} requests met");
-        met += 1;
-    }
 }
