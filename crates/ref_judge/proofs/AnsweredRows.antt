@@ -6,7 +6,7 @@ use Rattle.ref_base.proofs.Common.{is_in}
 use Rattle.ref_base.proofs.Common.{is_some, heap_step, spending, hand_of, after_queues, with_handed}
 use Rattle.ref_base.proofs.Common.{ticked, with_world, value_reply}
 use Rattle.ref_base.proofs.Common.{true≢false, false≢true}
-use Rattle.std.specs.Prelude.{Result, Ok, Err, MatchResult, if◌then◌else◌}
+use Rattle.std.specs.Prelude.{Result, Ok, Err, if◌then◌else◌}
 use Rattle.ref_base.specs.CollectorRows.{sweep_ended}
 use Rattle.ref_base.specs.Refusals.{plain_refusal, unless}
 use Rattle.ref_base.specs.Told.{told_object}
@@ -29,17 +29,16 @@ use Rattle.ref_base.proofs.OutcomeParts.{outcome_phase}
 use Rattle.ref_base.proofs.PlainRows.{plain_row}
 use Rattle.ref_base.proofs.ReplayKeeps.{handed_keeps, queues_keep, EndsNoPhase}
 use Rattle.ref_base.proofs.RowForms.{ticked_world}
-use Rattle.ref_judge.specs.Judged.{Judged}
+use Rattle.ref_judge.specs.Judged.{has_one, Judged}
 use Rattle.ref_judge.specs.ProfiledRows.{IsRowAs, IsAnswerAs, says_anew}
-use Rattle.ref_judge.specs.Standing.{StandsFor, IsSettled, FitsIn, FitsIt, LeadsOn, HasNone, DoesAs, TellsOf, LeadsOne}
-use Rattle.ref_judge.specs.Standing.{is_anew}
+use Rattle.ref_judge.specs.Standing.{StandsFor, IsSettled, FitsIn, FitsIt, LeadsOn, HasNone, DoesAs, LeadsOne}
+use Rattle.ref_judge.specs.Standing.{IsOneAnswer, is_anew}
 use Rattle.ref_judge.specs.Standing.{reply_of_result, SaysRightly}
 use Rattle.ref_judge.specs.declared.profile.Profile.{Profile}
-use Rattle.ref_judge.specs.declared.stop.Stop.{Stop}
 use Rattle.ref_judge.proofs.AnewRows.{LeadsAnew, itself, load_leads, get_leads, begin_leads}
 use Rattle.ref_judge.proofs.FittingRows.{begin_but_as}
 use Rattle.ref_judge.proofs.FreeAnswers.{load_answers_as, get_answers_as}
-use Rattle.ref_judge.proofs.OneAnswers.{has_one, one_answer}
+use Rattle.ref_judge.proofs.OneAnswers.{one_answer}
 use Rattle.ref_judge.proofs.ProfiledBases.{one_base_as}
 use Rattle.ref_judge.proofs.ToldRows.{kept_leads, kept_none}
 use Rattle.ref_judge.proofs.UnchangedRows.{plain_accepted_as}
@@ -513,23 +512,13 @@ module _ (old new : Judged) (settled : IsSettled old) (a : State) (stands : Stan
       of_anew (steps.Plain step) (Err fault) leads anew one differ row = false≢true anew
       of_anew step result leads anew one differ row = false≢true anew
 
--- So of the step the judge tells rightly whether it is answered so.
-pub answered_tells : (old new : Judged) (step : Step) (result : Result Reply Fault) (reply : Reply)
-    (verdict : Result (Unit {0}) Stop) → IsSettled old → has_one step ≡ true → DoesAs old step result new
-    → MatchResult verdict (λ done. reply_of_result result ≡ reply)
-    (λ stop. (stop ≡ Stop.Illegal) × (reply_of_result result ≡ reply → ⊥))
-    → TellsOf old (record { step = step; reply = reply }) verdict new
-answered_tells old new step result reply (Ok done) settled one does same = (
-  does.0,
-  does.1,
-  λ a stands fits.
-      subst (λ (r : Reply). LeadsOn old new (record { step = step; reply = r }) a) same
-      (told old new settled a stands step result one (does.2 a stands)),
-)
-answered_tells old new step result reply (Err Stop.NoMemory) settled one does differ =
-    absurd (apart differ.0)
-  where
-    apart : Stop.NoMemory ≡ Stop.Illegal → ⊥
-    apart is = absurd cc
-answered_tells old new step result reply (Err Stop.Illegal) settled one does differ =
-    λ a stands. told_none old new settled a stands step result reply one (does.2 a stands) differ.1
+-- So with its one answer the step's row is taken, and with no other.
+pub does_alone : (old new : Judged) (step : Step) (result : Result Reply Fault) (answer : Reply) → IsSettled old
+    → has_one step ≡ true → DoesAs old step result new → answer ≡ reply_of_result result
+    → IsOneAnswer old step answer new
+does_alone old new step result answer settled one does is =
+    subst (λ (r : Reply). IsOneAnswer old step r new) (sym is) (record {
+      taken = (does.0, does.1, λ a stands fits. told old new settled a stands step result one (does.2 a stands));
+      alone = λ other differ a stands.
+          told_none old new settled a stands step result other one (does.2 a stands) differ;
+    })

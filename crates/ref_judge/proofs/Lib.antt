@@ -101,6 +101,7 @@ pub mod ScannedThere
 pub mod PollDone
 pub mod ClearingRows
 pub mod PassedRows
+pub mod PlacedBatches
 pub mod ScannedSpared
 pub mod LookedRows
 pub mod EndedJudges

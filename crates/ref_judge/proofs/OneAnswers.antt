@@ -15,19 +15,10 @@ use Rattle.ref_base.specs.declared.step.Step.{Step}
 use Rattle.ref_base.specs.declared.step.Step.TheVariants as steps
 use Rattle.ref_base.specs.declared.reply.Reply.{Reply}
 use Rattle.ref_base.specs.declared.reply.Reply.TheVariants as replies
-use Rattle.ref_judge.specs.Judged.{has_one_answer}
+use Rattle.ref_judge.specs.Judged.{has_one, has_one_answer}
 use Rattle.ref_judge.specs.ProfiledRows.{says_anew, PlainAcceptsAs, HeapAcceptsAs, AcceptsAskingAs, IsAnswerAs, IsRowAs}
 use Rattle.ref_judge.specs.declared.profile.Profile.{Profile}
 use Rattle.ref_judge.proofs.FreeAnswers.{also_accepted}
-
--- the step has one answer
-abbrev pub has_one : Step → Bool
-has_one (steps.Plain step) = has_one_answer step
-has_one (steps.Put who) = false
-has_one (steps.Puts who) = false
-has_one (steps.Poll m q) = false
-has_one (steps.Polls m q max) = false
-has_one step = true
 
 -- two answers of one step of a state
 abbrev Agree : Reply → Reply → (Reply → State → Type 0) → Type 0

@@ -28,7 +28,7 @@ use Rattle.ref_judge.proofs.PollTells.{poll_takes, poll_none, poll_wrong}
 use Rattle.ref_judge.proofs.PutDone.{read_twice}
 use Rattle.ref_judge.proofs.QueuedStates.{queued, settled_queued}
 use Rattle.ref_judge.proofs.SoundJudges.{sound_told}
-use Rattle.ref_judge.proofs.ToldRows.{refused_tells}
+use Rattle.ref_judge.proofs.ToldRows.{refused_tells, stops_apart}
 
 -- ---- refusals
 
@@ -236,7 +236,7 @@ module _ (old : Judged) (m q : ℕ) (line : Line) (line_is : line ≡ slice_inde
   one_default reply (Ok done) other tells =
       poll_none old (steps.Poll m q) m q 1 one_taken (omega arith) tt (λ a reply. (tt, inr tt)) one_rows one_only there
       line line_is reply tells
-  one_default reply (Err Stop.NoMemory) other tells = refl
+  one_default reply (Err Stop.NoMemory) other tells = absurd (stops_apart tells.0)
   one_default reply (Err Stop.Illegal) other tells =
       poll_wrong old (steps.Poll m q) m q 1 one_taken (omega arith) tt (λ a reply. (tt, inr tt)) one_rows one_only there
       line line_is reply tells.1
@@ -291,7 +291,7 @@ module _ (old : Judged) (m q max : ℕ) (line : Line) (line_is : line ≡ slice_
   some_default reply (Ok done) other tells =
       poll_none old (steps.Polls m q max) m q max replies.TookSome (polls_call old m q max none).1 tt
       (λ a reply. (tt, inr tt)) some_rows some_only there line line_is reply tells
-  some_default reply (Err Stop.NoMemory) other tells = refl
+  some_default reply (Err Stop.NoMemory) other tells = absurd (stops_apart tells.0)
   some_default reply (Err Stop.Illegal) other tells =
       poll_wrong old (steps.Polls m q max) m q max replies.TookSome (polls_call old m q max none).1 tt
       (λ a reply. (tt, inr tt)) some_rows some_only there line line_is reply tells.1 (λ ns is may. other ns is)

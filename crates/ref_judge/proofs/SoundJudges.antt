@@ -7,7 +7,7 @@ use Rattle.ref_base.specs.declared.reply.Reply.TheVariants.{Refused}
 use Rattle.ref_base.specs.declared.plain_step.PlainStep.{PlainStep}
 use Rattle.ref_base.specs.declared.step.Step.{Step}
 use Rattle.ref_base.specs.declared.step.Step.TheVariants as steps
-use Rattle.ref_judge.specs.Judged.{Judged}
+use Rattle.ref_judge.specs.Judged.{has_one, Judged}
 use Rattle.ref_judge.specs.ProfiledRows.{IsRowAs, IsAnswerAs, says_anew}
 use Rattle.ref_judge.specs.Standing.{StandsFor, IsSettled, IsOfSomeState, DoesAs, LeadsOne, SaysTheSame, SaysRightly}
 use Rattle.ref_judge.specs.Standing.{is_anew, reply_of_result, DecidesAs, Lawful, AreLawful, LeadsOn, TellsOf}
@@ -16,7 +16,6 @@ use Rattle.ref_base.specs.declared.config.Config.{Config}
 use Rattle.ref_base.specs.declared.row.Row.{Row}
 use Rattle.ref_judge.proofs.AnsweredRows.{told}
 use Rattle.ref_judge.proofs.LegalFacts.{lawful_row}
-use Rattle.ref_judge.proofs.OneAnswers.{has_one}
 
 -- ---- the invariant
 

@@ -19,7 +19,8 @@ use Rattle.ref_base.specs.declared.step.Step.TheVariants as steps
 use Rattle.ref_base.proofs.EverWorlds.{BringsNone}
 use Rattle.std.specs.Prelude.{Ok}
 use Rattle.ref_base.specs.declared.phase.Phase.TheVariants.{Clearing}
-use Rattle.ref_judge.specs.Judged.{Judged, Finder, AllHands, finder_at, still_left, no_finder, unheld, AreLines}
+use Rattle.ref_judge.specs.Judged.{has_one, Judged, Finder, AllHands, finder_at, still_left, no_finder, unheld}
+use Rattle.ref_judge.specs.Judged.{AreLines}
 use Rattle.ref_judge.specs.Judged.{AreToldCleared}
 use Rattle.ref_judge.specs.ProfiledRows.{IsRowAs, IsAnswerAs, AcceptsAskingAs, HeapAcceptsAs}
 use Rattle.ref_judge.specs.Standing.{StandsFor, TagsTell, FindersTell, LeadsOne, IsSettled, IsOfSomeState, SaysTheSame}
@@ -29,7 +30,6 @@ use Rattle.ref_judge.proofs.HandsAlike.{AreAlike}
 use Rattle.ref_judge.proofs.KnownJudges.{kept_row}
 use Rattle.ref_judge.proofs.LegalFacts.{lawful_row}
 use Rattle.ref_judge.proofs.SameObjects.{SameObjects, references_same}
-use Rattle.ref_judge.proofs.OneAnswers.{has_one}
 use Rattle.ref_judge.proofs.SoundJudges.{leads_same, sound_after}
 
 -- the judge with this heap, these holds, hands and workers

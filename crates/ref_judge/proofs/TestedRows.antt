@@ -1,7 +1,7 @@
 -- What a judge makes of a row whose answer it looks at: where the step is refused, where the row leaves the state as it
 -- was, and where no other state fits.
-use Rattle.ref_base.proofs.Common.{◌≡◌, ℕ, Bool, true, false, List, Some, None, refl, sym, ◌∙◌, subst, State, is_in}
-use Rattle.ref_base.proofs.Common.{refusal}
+use Rattle.ref_base.proofs.Common.{◌≡◌, ℕ, Bool, true, false, List, Option, Some, None, refl, sym, ◌∙◌, subst, State}
+use Rattle.ref_base.proofs.Common.{is_in, refusal}
 use Rattle.std.specs.Prelude.{Result, Ok, Err, MatchResult}
 use Rattle.ref_base.proofs.Common.{ap, Heap, false≢true, if◌then◌else◌}
 use Rattle.ref_base.specs.Refusals.{unless, in_phase, work_refusal, select_refusal}
@@ -14,9 +14,10 @@ use Rattle.ref_base.specs.declared.reply.Reply.TheVariants.{Refused}
 use Rattle.ref_base.specs.declared.row.Row.{Row}
 use Rattle.ref_base.specs.declared.step.Step.{Step}
 use Rattle.ref_base.proofs.FreeRows.{freed}
+use Rattle.ref_judge.proofs.ToldRows.{refusal_alone, stops_apart}
 use Rattle.ref_judge.specs.ProfiledRows.{IsAnswerAs, IsRowAs}
-use Rattle.ref_judge.specs.Judged.{Judged}
-use Rattle.ref_judge.specs.Standing.{StandsFor, FitsIn, FitsIt, HasNone, TellsOf}
+use Rattle.ref_judge.specs.Judged.{has_one, Judged}
+use Rattle.ref_judge.specs.Standing.{StandsFor, FitsIn, FitsIt, HasNone, TellsOf, HasOneAnswer, refused_so}
 use Rattle.ref_judge.specs.declared.stop.Stop.{Stop}
 use Rattle.ref_judge.specs.declared.stop.Stop.TheVariants as stop
 
@@ -95,7 +96,7 @@ module _ (j : Judged) (row : Row) where
       → ((legal → ⊥) → (a : State) → StandsFor j a → HasNone j row a) → TellsOf j row result j
   tested_told (Ok done) legal is stays none = stays_told (stays is)
   tested_told (Err stop.Illegal) legal not stays none = none not.1
-  tested_told (Err stop.NoMemory) legal not stays none = refl
+  tested_told (Err stop.NoMemory) legal not stays none = absurd (stops_apart not.0)
 
 module _ (j : Judged) (step : Step) (reply : Reply) (fault : Fault)
     (refused : (a : State) → StandsFor j a → (left : Bool) (found : List (List ℕ))
@@ -117,4 +118,13 @@ module _ (j : Judged) (step : Step) (reply : Reply) (fault : Fault)
         ))
     refused_told (Err stop.Illegal) illegal = λ a stands s t fits h.
         illegal.1 (sym (subst (λ o. IsAnswerAs j.profile s o step reply t) (refuses a s stands fits) h).0)
-    refused_told (Err stop.NoMemory) illegal = refl
+    refused_told (Err stop.NoMemory) illegal = absurd (stops_apart illegal.0)
+
+-- A step that all states refuse that fit has one answer, and of another nothing is said.
+pub refusal_told : (j : Judged) (step : Step) (fault : Option Fault) (answer : Option Reply) → has_one step ≡ false
+    → ((f : Fault) → fault ≡ Some f → (a : State) → StandsFor j a → (left : Bool) (found : List (List ℕ))
+    → refusal (freed a left found) step ≡ Some f)
+    → answer ≡ refused_so fault → HasOneAnswer j step answer j
+refusal_told j step fault answer many refused is =
+    refusal_alone j step fault answer many
+    (λ f same reply verdict told. refused_told j step reply f (refused f same) verdict told) is

@@ -1,9 +1,10 @@
 -- From one row of a state to what becomes of all that fit: a row that reads nothing of what is free, or says anew
 -- whether an object is left, takes the set of them on; and no other answer fits any of them.
-use Rattle.ref_base.proofs.Common.{◌≡◌, ℕ, Bool, true, false, List, Option, Some, refl, sym}
+use Rattle.ref_base.proofs.Common.{◌≡◌, ℕ, Bool, true, false, List, Option, Some, None, refl, sym}
 use Rattle.ref_base.proofs.Common.{◌∙◌, subst, inl, State, refusal, is_in}
 use Rattle.ref_base.proofs.Common.{list_at}
 use Rattle.std.specs.Prelude.{Result, Ok, Err, MatchResult}
+use Rattle.std.specs.Result.{result_err}
 use Rattle.ref_base.specs.declared.fault.Fault.{Fault}
 use Rattle.ref_base.specs.declared.phase.Phase.TheVariants.{Marking, Clearing}
 use Rattle.ref_base.specs.declared.step.Step.{Step}
@@ -14,13 +15,15 @@ use Rattle.ref_base.proofs.Fitting.{Fits}
 use Rattle.ref_base.proofs.FoundFits.{MayFind}
 use Rattle.ref_base.proofs.FoundRows.{FitsFound}
 use Rattle.ref_base.proofs.FreeRows.{KeepsRow, RefusedAlike, freed, like, keeps_like}
-use Rattle.ref_judge.specs.Judged.{Judged, still_left}
+use Rattle.ref_judge.specs.Judged.{has_one, Judged, still_left}
 use Rattle.ref_judge.specs.ProfiledRows.{IsRowAs, IsAnswerAs}
 use Rattle.ref_judge.specs.Standing.{StandsFor, FitsIn, FitsIt, SaysTheSame, LeadsOn, HasNone, TellsOf}
+use Rattle.ref_judge.specs.Standing.{HasOneAnswer, IsOneAnswer, refused_so}
+use Rattle.ref_objects.specs.Grounds.{IsRefused}
 use Rattle.ref_judge.specs.declared.profile.Profile.{Profile}
 use Rattle.ref_judge.specs.declared.stop.Stop.{Stop}
 use Rattle.ref_judge.proofs.KeepingRows.{free_row_as, fits_on_as, fits_back_as, found_on_as, found_back_as}
-use Rattle.ref_judge.proofs.OneAnswers.{has_one, one_answer}
+use Rattle.ref_judge.proofs.OneAnswers.{one_answer}
 use Rattle.ref_judge.proofs.ProfiledBases.{one_left_as}
 
 -- ---- rows that read nothing of what is free
@@ -127,6 +130,10 @@ refused_row : (p : Profile) (a : State) (step : Step) (fault : Fault) → refusa
 refused_row p a step fault is =
     subst (λ (f : Option Fault). IsAnswerAs p a f step (replies.Refused fault) a) (sym is) (refl, refl)
 
+-- want of memory is no illegal row
+pub stops_apart : Stop.NoMemory ≡ Stop.Illegal → ⊥
+stops_apart is = absurd cc
+
 -- what is answered where a step is refused
 refused_reply : (p : Profile) (a b : State) (step : Step) (fault : Fault) (reply : Reply)
     → refusal a step ≡ Some fault → IsRowAs p a (record { step = step; reply = reply }) b
@@ -154,7 +161,7 @@ refused_tells old step fault reply (Ok done) refused same = (
       (kept_leads old old row a a (is.0, inl (fault, is.1)) (refused_row old.profile a step fault is.1) (same_said old)
       stands refl refl),
 )
-refused_tells old step fault reply (Err Stop.NoMemory) refused differ = refl
+refused_tells old step fault reply (Err Stop.NoMemory) refused differ = absurd (stops_apart differ.0)
 refused_tells old step fault reply (Err Stop.Illegal) refused differ =
     λ a stands s t fits h.
     let is = refused a stands in
@@ -163,3 +170,33 @@ refused_tells old step fault reply (Err Stop.Illegal) refused differ =
     free_row_as old.profile a t left found (record { step = step; reply = reply }) (is.0, inl (fault, is.1))
     (subst (λ (u : State). IsRowAs old.profile u (record { step = step; reply = reply }) t) free h) in
     differ.1 (sym (refused_reply old.profile a (like t a) step fault reply is.1 all.0))
+
+-- Where a step is refused, and the judge tells so of each row of it, with the refusal alone its row is taken.
+abbrev pub RefusesRows : Judged → Step → Fault → Type 0
+RefusesRows old step fault =
+    (reply : Reply) (verdict : Result (Unit {0}) Stop)
+    → MatchResult verdict (λ done. replies.Refused fault ≡ reply)
+    (λ stop. (stop ≡ Stop.Illegal) × (replies.Refused fault ≡ reply → ⊥))
+    → TellsOf old (record { step = step; reply = reply }) verdict old
+
+pub refused_alone : (old : Judged) (step : Step) (fault : Fault) → RefusesRows old step fault
+    → IsOneAnswer old step (replies.Refused fault) old
+refused_alone old step fault refuses = record {
+  taken = refuses (replies.Refused fault) (Ok tt) refl;
+  alone = λ other differ. refuses other (Err Stop.Illegal) (refl, differ);
+}
+
+-- and where it isn't, nothing is said of its answer
+pub refusal_alone : (old : Judged) (step : Step) (fault : Option Fault) (answer : Option Reply) → has_one step ≡ false
+    → ((f : Fault) → fault ≡ Some f → RefusesRows old step f) → answer ≡ refused_so fault
+    → HasOneAnswer old step answer old
+refusal_alone old step None answer many refuses is =
+    subst (λ (r : Option Reply). HasOneAnswer old step r old) (sym is) (many, refl)
+refusal_alone old step (Some f) answer many refuses is =
+    subst (λ (r : Option Reply). HasOneAnswer old step r old) (sym is) (refused_alone old step f (refuses f refl))
+
+-- the fault of a check is that with which it refuses
+pub err_refused : {T : Type 0} (refusal : Option Fault) (checked : Result T Fault) (f : Fault)
+    → IsRefused refusal checked → result_err checked ≡ Some f → refusal ≡ Some f
+err_refused refusal (Ok done) f is same = absurd cc
+err_refused refusal (Err fault) f is same = is ∙ same

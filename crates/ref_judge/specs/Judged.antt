@@ -17,6 +17,8 @@ use Rattle.ref_base.specs.declared.phase.Phase.{Phase}
 use Rattle.ref_base.specs.declared.phase.Phase.TheVariants.{Idle, Marking, Clearing, Sweeping}
 use Rattle.ref_base.specs.declared.plain_step.PlainStep.{PlainStep}
 use Rattle.ref_base.specs.declared.plain_step.PlainStep.TheVariants as plain
+use Rattle.ref_base.specs.declared.step.Step.{Step}
+use Rattle.ref_base.specs.declared.step.Step.TheVariants as steps
 use Rattle.ref_base.specs.declared.policy.Policy.{Policy}
 use Rattle.ref_base.specs.KeptPaths.{first_policy}
 use Rattle.ref_space.specs.Worklists.{Worklist, empty_worklist}
@@ -120,6 +122,10 @@ first_notice_refusal hands who = unless (has_carrier hands who) NoSuchActor (unl
 abbrev pub no_line : Line
 no_line = record { stands = []; put = 0; closed = false }
 
+-- how many notices were put into the queue that those in the actor's hand are for
+abbrev pub put_for : Judged → Actor → ℕ
+put_for j who = (slice_index_or j.lines (hand_at j.hands who).queue no_line).put
+
 -- of a mutator that names a queue: NoSuchActor, then BadQueue
 abbrev pub naming_refusal : Config → ℕ → ℕ → Option Fault
 naming_refusal config m q =
@@ -206,7 +212,7 @@ AreToldCleared clears found = AllByRecursion (λ (f : Found). f.is_cleared ≡ h
 
 -- ---- steps
 
--- whether a step that hands nothing over has one answer in each state
+-- whether a step that hands nothing over has one answer in each state, and else a collector chooses it
 abbrev pub has_one_answer : PlainStep → Bool
 has_one_answer (plain.Scan k) = false
 has_one_answer plain.EndMark = false
@@ -216,6 +222,24 @@ has_one_answer plain.Select = false
 has_one_answer (plain.MoveNext k) = false
 has_one_answer plain.EndMove = false
 has_one_answer step = true
+
+-- and any step
+abbrev pub has_one : Step → Bool
+has_one (steps.Plain step) = has_one_answer step
+has_one (steps.Put who) = false
+has_one (steps.Puts who) = false
+has_one (steps.Poll m q) = false
+has_one (steps.Polls m q max) = false
+has_one step = true
+
+-- whether a judge may ask for memory as it takes a row of this step: for a reference that a worker found, for one that
+-- it cleared, for a notice that is put in
+abbrev pub wants_memory : Step → Bool
+wants_memory (steps.Plain (plain.Scan k)) = true
+wants_memory (steps.Plain (plain.ClearNext k)) = true
+wants_memory (steps.Put who) = true
+wants_memory (steps.Puts who) = true
+wants_memory step = false
 
 -- ---- at first
 

@@ -1,6 +1,6 @@
 -- Which states of a collector fit what a judge was told, and what a judge makes of a row (this project's).
 use Rattle.std.specs.Prelude.{◌≡◌, ℕ, ◌<◌, ◌≤◌, Bool, true, false, not, ◌==◌, ◌||◌, List, [], length, map}
-use Rattle.std.specs.Prelude.{Some, if◌then◌else◌, Result, Ok, Err}
+use Rattle.std.specs.Prelude.{Option, Some, None, if◌then◌else◌, Result, Ok, Err}
 use Rattle.ref_base.specs.Members.{has}
 use Rattle.ref_base.specs.Graphs.{is_there}
 use Rattle.ref_base.specs.Forgetting.{heap_but}
@@ -23,8 +23,10 @@ use Rattle.ref_objects.specs.declared.stage.Stage.TheVariants.{Tuned}
 use Rattle.ref_base.proofs.EverWorlds.{Knows}
 use Rattle.ref_judge.specs.ProfiledRows.{IsRowAs, IsRunAs, IsLeftAs, says_anew}
 use Rattle.ref_judge.specs.Judged.{Judged, Finder, finder_at, found_by, still_left, is_behind_mark, is_judging}
-use Rattle.ref_judge.specs.Judged.{is_going, is_put, unheld, AreHands, AreLines, AreToldCleared}
+use Rattle.ref_judge.specs.Judged.{has_one, is_going, is_put, unheld, wants_memory, AreHands, AreLines, AreToldCleared}
 use Rattle.ref_judge.specs.declared.profile.Profile.{Profile}
+use Rattle.ref_judge.specs.declared.rule.Objection.{Objection}
+use Rattle.ref_judge.specs.declared.rule.Objection.TheVariants.{Illegal, NoMemory}
 use Rattle.ref_judge.specs.declared.stop.Stop.{Stop}
 use Rattle.ref_base.proofs.Fitting.{Fits}
 use Rattle.ref_base.proofs.FoundRows.{FitsFound}
@@ -181,14 +183,56 @@ pub record LeadsOn (old new : Judged) (row : Row) (a : State) : Type 0 where
 abbrev pub HasNone : Judged → Row → State → Type 0
 HasNone old row a = (s t : State) → FitsIt old a s → IsRowAs old.profile s row t → ⊥
 
+-- and that is so of each state of the judge's value
+abbrev pub IsIllegal : Judged → Row → Type 0
+IsIllegal old row = (a : State) → StandsFor old a → HasNone old row a
+
+-- a state that fits has the row, and those fit then to which it leads
+abbrev pub TakesRow : Judged → Row → Judged → Type 0
+TakesRow old row new =
+    (new.profile ≡ old.profile) × (new.config ≡ old.config)
+    × ((a : State) → StandsFor old a → AreLawful old a → LeadsOn old new row a)
+
 -- a judge takes the row where a state that fits has it, and stops where none has: unless memory is refused, which says
 -- nothing of the row and changes nothing
 abbrev pub TellsOf : Judged → Row → Result (Unit {0}) Stop → Judged → Type 0
-TellsOf old row (Ok done) new =
-    (new.profile ≡ old.profile) × (new.config ≡ old.config)
-    × ((a : State) → StandsFor old a → AreLawful old a → LeadsOn old new row a)
-TellsOf old row (Err Stop.Illegal) new = (a : State) → StandsFor old a → HasNone old row a
-TellsOf old row (Err Stop.NoMemory) new = new ≡ old
+TellsOf old row (Ok done) new = TakesRow old row new
+TellsOf old row (Err Stop.Illegal) new = IsIllegal old row
+TellsOf old row (Err Stop.NoMemory) new = (wants_memory row.step ≡ true) × (new ≡ old)
+
+-- The row of a step with this answer is taken, and with any other no state that fits has it.
+pub record IsOneAnswer (old : Judged) (step : Step) (answer : Reply) (new : Judged) : Type 0 where
+  pub taken : TakesRow old (record { step = step; reply = answer }) new
+  pub alone : (other : Reply) → (answer ≡ other → ⊥) → IsIllegal old (record { step = step; reply = other })
+
+-- The answer of a step is one, and its row is taken; or a collector may have a choice, and nothing changes.
+abbrev pub HasOneAnswer : Judged → Step → Option Reply → Judged → Type 0
+HasOneAnswer old step (Some answer) new = IsOneAnswer old step answer new
+HasOneAnswer old step None new = (has_one step ≡ false) × (new ≡ old)
+
+-- what is answered where a step is refused, if it is
+abbrev pub refused_so : Option Fault → Option Reply
+refused_so None = None
+refused_so (Some fault) = Some (Refused fault)
+
+-- some state that fits has the row of the step with this reply, and none with another
+pub record IsAloneLegal (old : Judged) (step : Step) (reply : Reply) : Type 0 where
+  pub some :
+      (a : State) → StandsFor old a → AreLawful old a
+      → (s : State) × (t : State) × FitsIt old a s
+      × IsRowAs old.profile s (record { step = step; reply = reply }) t
+  pub alone : (other : Reply) → (reply ≡ other → ⊥) → IsIllegal old (record { step = step; reply = other })
+
+-- the reply that alone is legal is named, unless a collector may have a choice
+abbrev pub NamesAnswer : Judged → Step → Option Reply → Type 0
+NamesAnswer old step None = has_one step ≡ false
+NamesAnswer old step (Some reply) = IsAloneLegal old step reply
+
+-- a judge objects to a row that no state has that fits; or the memory that its step wants is refused, which says
+-- nothing of the row and changes nothing
+abbrev pub ObjectsTo : Judged → Row → Objection → Judged → Type 0
+ObjectsTo old row (Illegal breach) new = IsIllegal old row × NamesAnswer old row.step breach.legal
+ObjectsTo old row NoMemory new = (wants_memory row.step ≡ true) × (new ≡ old)
 
 -- ---- at first
 

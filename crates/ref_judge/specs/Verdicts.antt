@@ -1,7 +1,10 @@
 -- What a judge says of a trace (this project's).
-use Rattle.std.specs.Prelude.{◌≡◌, ℕ, List, [], ◌∷◌, ◌++◌, length, Option, Some, None}
+use Rattle.std.specs.Prelude.{◌≡◌, ℕ, false, List, [], ◌∷◌, ◌++◌, length, Option, Some, None}
 use Rattle.ref_base.specs.declared.config.Config.{Config}
+use Rattle.ref_base.specs.declared.reply.Reply.{Reply}
 use Rattle.ref_base.specs.declared.row.Row.{Row}
+use Rattle.ref_base.specs.declared.step.Step.{Step}
+use Rattle.ref_judge.specs.Judged.{has_one}
 use Rattle.ref_judge.specs.ProfiledRows.{IsLegalAs}
 use Rattle.ref_judge.specs.declared.profile.Profile.{Profile}
 
@@ -14,3 +17,16 @@ Judges profile config rows (Some k) =
     × (length front ≡ k)
     × IsLegalAs profile config front
     × ¬ (IsLegalAs profile config (front ++ row ∷ []))
+
+-- Behind these rows the step is answered so by some collector of the profile, and otherwise by none.
+pub record IsOnlyAnswer (profile : Profile) (config : Config) (rows : List Row) (step : Step) (reply : Reply) : Type 0
+  where
+    pub legal : IsLegalAs profile config (rows ++ record { step = step; reply = reply } ∷ [])
+    pub others :
+        (other : Reply) → ¬ (reply ≡ other)
+        → ¬ (IsLegalAs profile config (rows ++ record { step = step; reply = other } ∷ []))
+
+-- the only answer is named, unless a collector may have a choice
+abbrev pub NamesOnlyAnswer : Profile → Config → List Row → Step → Option Reply → Type 0
+NamesOnlyAnswer profile config rows step None = has_one step ≡ false
+NamesOnlyAnswer profile config rows step (Some reply) = IsOnlyAnswer profile config rows step reply

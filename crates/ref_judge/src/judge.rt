@@ -1,22 +1,28 @@
 //! The judge of a trace: all states of a collector that fit its rows so far.
 
-ghost use Rattle.std.specs.Prelude.{◌≡◌, true, if◌then◌else◌, Ok, Err, MatchResult, IfOk, replicate};
+ghost use Rattle.std.specs.Prelude.{◌≡◌, true, false, if◌then◌else◌, Ok, Err, MatchResult, IfOk, replicate};
 ghost use Rattle.ref_base.specs.Limits.{is_within_limits};
 ghost use Rattle.ref_objects.specs.Grounds.{first_ground};
-ghost use Rattle.ref_judge.specs.Judged.{has_one_answer, first_judged, no_finder, no_line};
-ghost use Rattle.ref_judge.specs.Standing.{DoesAs, TellsOf, IsNewJudge, reply_of_result};
+ghost use Rattle.ref_judge.specs.Judged.{has_one, has_one_answer, first_judged, no_finder, no_line};
+ghost use Rattle.ref_judge.specs.Standing.{DoesAs, TellsOf, TakesRow, ObjectsTo, HasOneAnswer, IsNewJudge};
+ghost use Rattle.ref_judge.specs.Standing.{refused_so, reply_of_result};
 
+mod breaking;
 mod clearing;
 mod marking;
 mod moving;
 mod mutating;
 mod queueing;
 
+use crate::Profile;
 use crate::hands::Hands;
 use crate::line::Line;
+use crate::rule::{Breach, Objection};
+use crate::stop::Stop;
 use crate::worker::Worker;
-use crate::{Profile, Stop};
-use ref_base::{Config, Fault, Phase, PlainStep, Policy, Reply, Row, Step, Urgency};
+use ref_base::{
+    Actor, Config, Fault, MutNo, Phase, PlainStep, Policy, QueueNo, Reply, Row, Step, Urgency,
+};
 use ref_objects::{Objects, Worklist};
 use std::alloc::{AllocError, Allocator, Global};
 use std::marker::Model;
@@ -120,30 +126,119 @@ impl<A: Allocator + Copy> Judge<A> {
         }
     }
 
-    /// Judges the next row. It is `Illegal` where no state that fits the rows before has it, and of later rows nothing
-    /// is promised then. `NoMemory` comes of a scan, a clearing or a put alone, and says nothing of the row: nothing
-    /// changes, and the row may be judged again. A begin and a mark's end take the time of the heap, and a batch that
-    /// of its entries. A poll takes that of what stands in its queue, and any other row that of a search.
-    pub fn row(&mut self, row: Row) -> Result<(), Stop>
-        ensures { TellsOf self.old row result self.new }
+    /// Judges the next row. `Illegal` is where no state that fits the rows before has it, with the rule that it breaks,
+    /// and of later rows nothing is promised then. `NoMemory` comes of a scan, a clearing or a put alone, and says
+    /// nothing of the row: nothing changes, and the row may be judged again. A begin and a mark's end take the time of
+    /// the heap, and a batch that of its entries. A poll takes that of what stands in its queue, and any other row that
+    /// of a search.
+    pub fn row(&mut self, row: Row) -> Result<(), Objection>
+        ensures { MatchResult result (λ _. TakesRow self.old row self.new)
+            (λ objection. ObjectsTo self.old row objection self.new) }
+    {
+        let Row { step, reply } = row;
+        // A name for each use.
+        let (asked, chosen, told, other) = (step, step, reply, reply);
+        match self.one_answer(asked) {
+            Some(answer) => {
+                // Gives the proof that the judge's value is of some state.
+                let _ = &self.config;
+                let (compared, legal) = (answer, answer);
+                if is_same(compared, told) {
+                    Ok(())
+                } else {
+                    Err(Objection::Illegal(Breach::by_answer(legal)))
+                }
+            }
+            None => self.chosen(chosen, other),
+        }
+    }
+
+    // Judges a row of a step of which more than one row may be legal.
+    fn chosen(&mut self, step: Step, reply: Reply) -> Result<(), Objection>
+        requires { has_one step ≡ false }
+        ensures { MatchResult result
+            (λ _. TakesRow self.old (record { step = step; reply = reply }) self.new)
+            (λ objection. ObjectsTo self.old (record { step = step; reply = reply }) objection self.new) }
+    {
+        // A name for each use.
+        let (asked, broken, told, other) = (step, step, reply, reply);
+        match self.chosen_row(asked, told) {
+            Ok(()) => Ok(()),
+            Err(Stop::Illegal) => {
+                let rule = self.rule_of(broken, other);
+                Err(Objection::Illegal(Breach::by_rule(rule)))
+            }
+            Err(Stop::NoMemory) => Err(Objection::NoMemory),
+        }
+    }
+
+    /// Takes the row of a step of which one row alone is legal, whatever is free in the rows before, and answers its
+    /// reply. `None` is where the collector may have a choice, and then nothing changes. A choice is in scans, looks,
+    /// moves, puts, polls, choices of objects, and the ends of marks, of clearing and of moves. The call takes the time
+    /// that the row takes.
+    pub fn one_answer(&mut self, step: Step) -> Option<Reply>
+        ensures { HasOneAnswer self.old step result self.new }
     {
         // Gives the proof that the judge's value is of some state.
         let _ = &self.config;
-        let Row { step, reply } = row;
         match step {
-            Step::Plain(step) => self.plain_row(step, reply),
-            Step::Unhook { mutator, reference } => {
-                let answer = self.unhook(mutator, reference);
-                is_answered(answer, reply)
+            Step::Plain(step) => self.one_plain_answer(step),
+            Step::Unhook { mutator, reference } => Some(answered(self.unhook(mutator, reference))),
+            Step::Hand { worker } => Some(answered(self.hand(worker))),
+            Step::Hands { worker, max } => Some(answered(self.hands(worker, max))),
+            Step::Put { actor } => refused(self.hands.first_of(actor).err()),
+            Step::Puts { actor } => refused(self.hands.first_of(actor).err()),
+            Step::Poll { mutator, queue } => self.one_poll_answer(mutator, queue),
+            Step::Polls {
+                mutator,
+                queue,
+                max,
+            } => refused(self.check_polls(mutator, queue, max).err()),
+            Step::Adopt { mutator, slot } => Some(answered(self.adopt(mutator, slot))),
+            Step::Release { actor } => Some(answered(self.release(actor))),
+            Step::Close { mutator, queue } => Some(answered(self.close(mutator, queue))),
+        }
+    }
+
+    // And of a step that hands nothing over.
+    fn one_plain_answer(&mut self, step: PlainStep) -> Option<Reply>
+        ensures { HasOneAnswer self.old (Step.Plain step) result self.new }
+    {
+        // Gives the proof that the judge's value is of some state.
+        let _ = &self.config;
+        match step {
+            PlainStep::Scan { worker } => refused(self.check_work(worker, Phase::Marking).err()),
+            PlainStep::EndMark => refused(self.check_phase(Phase::Marking).err()),
+            PlainStep::ClearNext { worker } => {
+                refused(self.check_work(worker, Phase::Clearing).err())
             }
-            Step::Hand { worker } => {
-                let answer = self.hand(worker);
-                is_answered(answer, reply)
-            }
-            Step::Hands { worker, max } => {
-                let answer = self.hands(worker, max);
-                is_answered(answer, reply)
-            }
+            PlainStep::EndClear => refused(self.check_phase(Phase::Clearing).err()),
+            PlainStep::Select => refused(self.check_select().err()),
+            PlainStep::MoveNext { worker } => refused(self.check_work(worker, Phase::Moving).err()),
+            PlainStep::EndMove => refused(self.check_phase(Phase::Moving).err()),
+            step => Some(answered(self.answer(step))),
+        }
+    }
+
+    // And of a poll of one.
+    fn one_poll_answer(&self, mutator: MutNo, queue: QueueNo) -> Option<Reply>
+        ensures { HasOneAnswer self.now (Step.Poll mutator queue) result self.now }
+    {
+        // Gives the proof that the judge's value is of some state.
+        let _ = &self.config;
+        match self.check_poll(mutator, queue) {
+            Err(fault) => Some(Reply::Refused(fault)),
+            Ok(()) => refused(self.hands.check_empty(Actor::Mutator(mutator)).err()),
+        }
+    }
+
+    // Judges a row of a step whose answer a collector chooses.
+    fn chosen_row(&mut self, step: Step, reply: Reply) -> Result<(), Stop>
+        requires { has_one step ≡ false }
+        ensures { TellsOf self.old (record { step = step; reply = reply }) result self.new }
+    {
+        match step {
+            Step::Plain(step) => self.chosen_plain_row(step, reply),
             Step::Put { actor } => self.put(actor, reply),
             Step::Puts { actor } => self.puts(actor, reply),
             Step::Poll { mutator, queue } => self.poll(mutator, queue, reply),
@@ -152,27 +247,15 @@ impl<A: Allocator + Copy> Judge<A> {
                 queue,
                 max,
             } => self.polls(mutator, queue, max, reply),
-            Step::Adopt { mutator, slot } => {
-                let answer = self.adopt(mutator, slot);
-                is_answered(answer, reply)
-            }
-            Step::Release { actor } => {
-                let answer = self.release(actor);
-                is_answered(answer, reply)
-            }
-            Step::Close { mutator, queue } => {
-                let answer = self.close(mutator, queue);
-                is_answered(answer, reply)
-            }
+            _ => unreachable!(),
         }
     }
 
-    // Judges a row of a step that hands nothing over.
-    fn plain_row(&mut self, step: PlainStep, reply: Reply) -> Result<(), Stop>
+    // And one that hands nothing over.
+    fn chosen_plain_row(&mut self, step: PlainStep, reply: Reply) -> Result<(), Stop>
+        requires { has_one_answer step ≡ false }
         ensures { TellsOf self.old (record { step = Step.Plain step; reply = reply }) result self.new }
     {
-        // Gives the proof that the judge's value is of some state.
-        let _ = &self.config;
         match step {
             PlainStep::Scan { worker } => self.scan(worker, reply),
             PlainStep::EndMark => self.end_mark(reply),
@@ -181,10 +264,7 @@ impl<A: Allocator + Copy> Judge<A> {
             PlainStep::Select => self.select(reply),
             PlainStep::MoveNext { worker } => self.move_next(worker, reply),
             PlainStep::EndMove => self.end_move(reply),
-            step => {
-                let answer = self.answer(step);
-                is_answered(answer, reply)
-            }
+            _ => unreachable!(),
         }
     }
 
@@ -308,14 +388,21 @@ fn first_lines<A: Allocator + Copy>(alloc: A, count: u32) -> Result<Vec<Line<A>,
     Ok(lines)
 }
 
-// Whether a step with this one answer is answered so.
-fn is_answered(answer: Result<Reply, Fault>, reply: Reply) -> Result<(), Stop>
-    ensures { MatchResult result (λ _. reply_of_result answer ≡ reply)
-        (λ stop. (stop ≡ Stop.Illegal) × (reply_of_result answer ≡ reply → ⊥)) }
+// Whether two replies are the same.
+fn is_same(answer: Reply, reply: Reply) -> bool
+    ensures same { result ≡ true → answer ≡ reply }
+    ensures differ { result ≡ false → answer ≡ reply → ⊥ }
 {
-    match answer {
-        Ok(told) => is_legal(told == reply),
-        Err(fault) => is_refused(fault, reply),
+    answer == reply
+}
+
+// The reply of a step that is refused so.
+fn refused(fault: Option<Fault>) -> Option<Reply>
+    ensures { result ≡ refused_so fault }
+{
+    match fault {
+        Some(fault) => Some(Reply::Refused(fault)),
+        None => None,
     }
 }
 

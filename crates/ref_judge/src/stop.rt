@@ -2,12 +2,12 @@
 
 use std::alloc::{AllocError, AllocFailed};
 
-/// Why a judge stops at a row.
+// Why a judge stops at a row.
 #[derive(Clone, Copy, Debug, PartialEq, Eq)]
-pub enum Stop {
-    /// No state that fits the rows before has this row.
+pub(crate) enum Stop {
+    // No state that fits the rows before has this row.
     Illegal,
-    /// Memory was refused, and nothing is said of the row.
+    // Memory was refused, and nothing is said of the row.
     NoMemory,
 }
 

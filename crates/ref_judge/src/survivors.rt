@@ -11,6 +11,7 @@ ghost use Rattle.ref_judge.specs.MarkEnding.{passes, spares, dooms, must_stay, l
 ghost use Rattle.ref_judge.specs.MarkEnding.{EndsAll, EndsOne, AreFew};
 
 use crate::marks::known;
+use crate::rule::Rule;
 use crate::worker::Worker;
 use ref_base::{MutNo, ObjNo, Policy, SLOTS, SlotNo, Strength, Urgency};
 use ref_objects::{Objects, Reference};
@@ -132,6 +133,41 @@ fn leads_out<A: Allocator + Copy>(objects: &Objects<A>, end: MarkEnd, no: ObjNo)
     !are_fields_spared(objects, end, no)
         || (refers_to_doomed(objects, end, no)
             && (must_stay(objects, end, no) || objects.cleared_in(no) != end.cycle))
+}
+
+// The rule that is broken by the first object that is spared and leads to a doomed one.
+pub(crate) fn broken_by_edges<A: Allocator + Copy>(objects: &Objects<A>, end: MarkEnd) -> Rule {
+    let mut next = objects.first_from(ObjNo(0));
+    for _object in 0..objects.object_count() {
+        let Some(no) = next else {
+            return Rule::DoomedField;
+        };
+        if is_spared(objects, end, no) {
+            if let Some(rule) = broken_by(objects, end, no) {
+                return rule;
+            }
+        }
+        next = match no.0.checked_add(1) {
+            Some(behind) => objects.first_from(ObjNo(behind)),
+            None => None,
+        };
+    }
+    Rule::DoomedField
+}
+
+// The rule that this object breaks, which is spared, if it breaks one.
+fn broken_by<A: Allocator + Copy>(objects: &Objects<A>, end: MarkEnd, no: ObjNo) -> Option<Rule> {
+    if !leads_out(objects, end, no) {
+        None
+    } else if !refers_to_doomed(objects, end, no) {
+        Some(Rule::DoomedField)
+    } else if must_stay(objects, end, no) {
+        Some(Rule::DoomedSoft)
+    } else if objects.cleared_in(no) != end.cycle {
+        Some(Rule::ClearedUnscanned)
+    } else {
+        Some(Rule::DoomedField)
+    }
 }
 
 // Whether no field of the object holds a doomed one.

@@ -3,7 +3,7 @@
 ghost use Rattle.std.specs.Prelude.{IfOk};
 ghost use Rattle.ref_judge.specs.Verdicts.{Judges};
 
-use crate::{Judge, Profile, Stop};
+use crate::{Judge, Objection, Profile};
 use ref_base::{Config, Fault, Row};
 use std::alloc::Allocator;
 
@@ -23,8 +23,8 @@ pub fn verdict<A: Allocator + Copy>(
     for place in 0..rows.len() {
         match judge.row(rows[place]) {
             Ok(()) => {}
-            Err(Stop::Illegal) => return Ok(Some(place as u64)),
-            Err(Stop::NoMemory) => return Err(Fault::NoMemory),
+            Err(Objection::Illegal(_)) => return Ok(Some(place as u64)),
+            Err(Objection::NoMemory) => return Err(Fault::NoMemory),
         }
     }
     Ok(None)

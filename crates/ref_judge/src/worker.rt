@@ -5,7 +5,7 @@ ghost use Rattle.std.specs.List.{list_any};
 ghost use Rattle.ref_judge.specs.Finding.{has_more_left, has_cleared_left, found_from, if_pending, noted, others_from};
 ghost use Rattle.ref_judge.specs.Spreading.{without_found};
 
-use crate::Stop;
+use crate::stop::Stop;
 use ref_base::{ObjNo, QueueNo};
 use std::alloc::Allocator;
 use std::collections::VecDeque;

@@ -10,7 +10,7 @@ ghost use Rattle.ref_objects.specs.Grounds.{IsRefused};
 ghost use Rattle.ref_judge.specs.Standing.{DoesAs, TellsOf};
 
 use super::{Judge, is_legal, is_refused};
-use crate::Stop;
+use crate::stop::Stop;
 use crate::sweeping::free_some;
 use crate::worker::{Pending, Worker, has_any_cleared, may_any_have_more, may_others_have_more};
 use ref_base::{Actor, Cause, Fault, Nos, ObjNo, Phase, PlainStep, Reply, Step, WorkerNo};

@@ -8,9 +8,9 @@ ghost use Rattle.ref_judge.specs.MarkEnding.{may_end, mark_end, are_roots_spared
 ghost use Rattle.ref_judge.specs.Standing.{DoesAs, TellsOf};
 
 use super::{Judge, is_legal, is_refused};
-use crate::Stop;
 use crate::marks::{is_any_left, known, policy_as};
 use crate::roots::{are_carried_spared, are_lines_spared, are_pending_spared, mark_kept};
+use crate::stop::Stop;
 use crate::survivors::{
     MarkEnd, are_edges_spared, are_slots_spared, dooms_so_many, mark_spared, tell_found,
 };
@@ -148,7 +148,7 @@ impl<A: Allocator + Copy> Judge<A> {
     }
 
     // Whether the mark may end, and dooms so many.
-    fn may_doom(&self, count: u32) -> bool
+    pub(super) fn may_doom(&self, count: u32) -> bool
         ensures { result ≡ may_end self.now count }
     {
         // Gives the proof that numbers rise.
@@ -163,7 +163,7 @@ impl<A: Allocator + Copy> Judge<A> {
     }
 
     // Whether no root is doomed.
-    fn are_roots_spared(&self) -> bool
+    pub(super) fn are_roots_spared(&self) -> bool
         ensures { result ≡ are_roots_spared self.now }
     {
         let end = self.mark_end();
@@ -199,7 +199,7 @@ impl<A: Allocator + Copy> Judge<A> {
     }
 
     // What a mark's end goes by.
-    fn mark_end(&self) -> MarkEnd
+    pub(super) fn mark_end(&self) -> MarkEnd
         ensures { result ≡ mark_end self.now }
     {
         MarkEnd {
@@ -211,7 +211,7 @@ impl<A: Allocator + Copy> Judge<A> {
     }
 
     // Whether an object is left to scan.
-    fn is_left(&self, no: ObjNo) -> bool
+    pub(super) fn is_left(&self, no: ObjNo) -> bool
         ensures { result ≡ is_left_in self.now no }
     {
         if !self.objects.has_object(no) {

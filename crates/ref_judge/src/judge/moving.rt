@@ -6,7 +6,7 @@ ghost use Rattle.ref_objects.specs.Grounds.{IsRefused};
 ghost use Rattle.ref_judge.specs.Standing.{TellsOf};
 
 use super::{Judge, is_legal, is_refused};
-use crate::Stop;
+use crate::stop::Stop;
 use ref_base::{Fault, Phase, PlainStep, Reply, Step, WorkerNo};
 use std::alloc::Allocator;
 
@@ -64,7 +64,7 @@ impl<A: Allocator + Copy> Judge<A> {
     }
 
     // Why a choice of objects is refused.
-    fn check_select(&self) -> Result<(), Fault>
+    pub(super) fn check_select(&self) -> Result<(), Fault>
         ensures { IsRefused (select_refusal self.now.phase self.now.was_chosen) result }
     {
         if self.phase != Phase::Idle || self.was_chosen {

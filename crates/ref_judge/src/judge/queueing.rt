@@ -6,14 +6,15 @@ ghost use Rattle.std.specs.Prelude.{OnErr, OnOk};
 ghost use Rattle.ref_base.specs.Members.{has, without_first};
 ghost use Rattle.ref_base.specs.QueueBatches.{added_among, not_added};
 ghost use Rattle.ref_objects.specs.Grounds.{IsRefused, IsWellFormed};
-ghost use Rattle.ref_judge.specs.Judged.{naming_refusal, polling_refusal, is_put};
+ghost use Rattle.ref_judge.specs.Judged.{naming_refusal, polling_refusal, is_put, put_for};
 ghost use Rattle.ref_judge.specs.Standing.{DoesAs, TellsOf};
 ghost use Rattle.ref_judge.specs.Queueing.{told_put, may_become, may_become_each, line_with, linked_each, TellsNone};
 ghost use Rattle.ref_judge.specs.Queueing.{MayTakeNos, may_be_next, without_each};
 
 use super::{Judge, is_legal, is_refused};
+use crate::Order;
 use crate::line::Line;
-use crate::{Order, Stop};
+use crate::stop::Stop;
 use ref_base::{Actor, Done, Fault, MutNo, Nos, ObjNo, QueueNo, Reply, Step};
 use ref_objects::Objects;
 use std::alloc::Allocator;
@@ -78,6 +79,27 @@ impl<A: Allocator + Copy> Judge<A> {
         Ok(())
     }
 
+    /// How many notices were ever put into the queue that those in an actor's hand are for: where no actor or queue is
+    /// there none. Takes no memory.
+    pub fn put_before(&self, actor: Actor) -> u64
+        ensures count { result ≡ put_for self.now actor }
+        ensures few { result < 2 ^ 63 }
+    {
+        // Gives the proof that the judge's value is of some state.
+        let _ = &self.config;
+        self.put_for(actor)
+    }
+
+    // Without saying that they are few.
+    fn put_for(&self, actor: Actor) -> u64
+        ensures { result ≡ put_for self.now actor }
+    {
+        match self.lines.get(self.hands.queue_of(actor).0 as usize) {
+            Some(line) => line.put,
+            None => 0,
+        }
+    }
+
     // A poll of one.
     pub(super) fn poll(&mut self, mutator: MutNo, queue: QueueNo, reply: Reply) -> Result<(), Stop>
         ensures { TellsOf self.old (record { step = Step.Poll mutator queue; reply = reply }) result self.new }
@@ -130,7 +152,7 @@ impl<A: Allocator + Copy> Judge<A> {
     }
 
     // That there are this mutator and this queue: NoSuchActor, BadQueue.
-    fn check_poll(&self, mutator: MutNo, queue: QueueNo) -> Result<(), Fault>
+    pub(super) fn check_poll(&self, mutator: MutNo, queue: QueueNo) -> Result<(), Fault>
         ensures { IsRefused (naming_refusal self.now.config mutator queue) result }
     {
         if mutator.0 >= self.config.mutators {
@@ -143,7 +165,7 @@ impl<A: Allocator + Copy> Judge<A> {
     }
 
     // And that so many may be asked for, and the hand is empty: BadConfig, HandFull.
-    fn check_polls(&self, mutator: MutNo, queue: QueueNo, max: u32) -> Result<(), Fault>
+    pub(super) fn check_polls(&self, mutator: MutNo, queue: QueueNo, max: u32) -> Result<(), Fault>
         ensures { IsRefused (polling_refusal self.now mutator queue max) result }
     {
         self.check_poll(mutator, queue)?;

@@ -4,7 +4,7 @@ use Rattle.ref_judge.specs.Judged.{Judged}
 use Rattle.ref_judge.specs.ProfiledRows.{IsLegalAs}
 use Rattle.ref_judge.specs.Standing.{IsSettled}
 use Rattle.ref_judge.proofs.JudgedRuns.{HasTaken, taken_first, taken_more, taken_legal, taken_none, row_at, row_between}
-use Rattle.ref_judge.proofs.JudgedRuns.{taken_lawful, told_illegal}
+use Rattle.ref_judge.proofs.JudgedRuns.{objected, taken_lawful}
 use Rattle.ref_judge.proofs.JudgedRuns.{length_front, all_taken}
 use Rattle.ref_judge.proofs.SomeFits.{between}
 use Rattle.ref_judge.proofs.traces.verdict.Goals as goal
@@ -19,8 +19,8 @@ returns-in-Err-Illegal g c =
     let row = c.index-rows-place.result in
     let taken = c.loop-place.invariant in
     let within : place < length rows = grind (arith, c.loop-place-test.true, c.loop-place.auto.place-end) in
-    let none = told_illegal c.loop-place.judge c.row.new.self row c.in-Err-Illegal.field-0 c.in-Err-Illegal.field-0-is
-    c.in-Err-Illegal.ensures taken.state taken.stands in (
+    let none = (objected c.loop-place.judge c.row.new.self row c.in-Err-Illegal.field-0 _ c.in-Err-Illegal.field-0-is
+    c.in-Err-Illegal.ensures).0 taken.state taken.stands in (
       take place rows,
       row,
       drop (place + 1) rows,

@@ -1,69 +1,29 @@
-use Rattle.std.proofs.Common.{refl, subst}
-use Rattle.ref_base.specs.declared.step.Step.TheVariants as steps
-use Rattle.ref_judge.specs.Standing.{IsSettled}
-use Rattle.ref_judge.proofs.AnsweredRows.{answered_tells}
+use Rattle.std.proofs.Common.{subst}
+use Rattle.std.specs.Prelude.{MatchResult}
+use Rattle.ref_judge.specs.Judged.{Judged}
+use Rattle.ref_judge.specs.Standing.{IsSettled, ObjectsTo, TakesRow}
+use Rattle.ref_judge.proofs.JudgedRuns.{one_objects, one_tells}
+use Rattle.ref_judge.proofs.judge.Judge.row.Goals.{else-is_same, then-is_same}
 use Rattle.ref_judge.proofs.judge.Judge.row.Goals as goal
 
-pub returns-in-Unhook : goal.returns-in-Unhook
-returns-in-Unhook g c =
-    rw c.in-Unhook.is
-    (answered_tells c.args.self.now c.unhook-answer.new.self (steps.Unhook c.in-Unhook.mutator c.in-Unhook.reference)
-    c.unhook-answer.result c.args.row.reply
-    c.is_answered.result (subst IsSettled c.self.view_is c.self.invariant.settled) refl c.unhook-answer.ensures
-    c.is_answered.ensures)
+pub returns-after-is_same : goal.returns-after-is_same
+returns-after-is_same g c =
+    let old = c.args.self.now in
+    let new = c.one_answer.new.self in
+    let row = c.args.row in
+    let answer = c.in-Some.answer in
+    let settled = subst IsSettled c.self.view_is c.self.invariant.settled in
+    elim c.if-is_same.branch [
+      | then-is_same w ↦
+          rw w.result-is
+          (one_tells old new row.step answer row.reply c.in-Some.ensures (c.is_same.ensures.same w.if-is_same.true))
+      | else-is_same w ↦
+          rw w.result-is
+          (one_objects old new row.step answer row.reply w.by_answer.result c.in-Some.ensures settled
+          (c.is_same.ensures.differ w.if-is_same.false) w.by_answer.ensures)
+    ]
 
-pub returns-in-Hand : goal.returns-in-Hand
-returns-in-Hand g c =
-    rw c.in-Hand.is
-    (answered_tells c.args.self.now c.hand-answer.new.self (steps.Hand c.in-Hand.worker) c.hand-answer.result
-    c.args.row.reply
-    c.is_answered-in-Hand.result (subst IsSettled c.self.view_is c.self.invariant.settled) refl c.hand-answer.ensures
-    c.is_answered-in-Hand.ensures)
-
-pub returns-in-Hands : goal.returns-in-Hands
-returns-in-Hands g c =
-    rw c.in-Hands.is
-    (answered_tells c.args.self.now c.hands-answer.new.self (steps.Hands c.in-Hands.worker c.in-Hands.max)
-    c.hands-answer.result c.args.row.reply
-    c.is_answered-in-Hands.result (subst IsSettled c.self.view_is c.self.invariant.settled) refl c.hands-answer.ensures
-    c.is_answered-in-Hands.ensures)
-
-pub returns-in-Adopt : goal.returns-in-Adopt
-returns-in-Adopt g c =
-    rw c.in-Adopt.is
-    (answered_tells c.args.self.now c.adopt-answer.new.self (steps.Adopt c.in-Adopt.mutator c.in-Adopt.slot)
-    c.adopt-answer.result c.args.row.reply
-    c.is_answered-in-Adopt.result (subst IsSettled c.self.view_is c.self.invariant.settled) refl c.adopt-answer.ensures
-    c.is_answered-in-Adopt.ensures)
-
-pub returns-in-Release : goal.returns-in-Release
-returns-in-Release g c =
-    rw c.in-Release.is
-    (answered_tells c.args.self.now c.release-answer.new.self (steps.Release c.in-Release.actor)
-    c.release-answer.result c.args.row.reply
-    c.is_answered-in-Release.result (subst IsSettled c.self.view_is c.self.invariant.settled) refl
-    c.release-answer.ensures
-    c.is_answered-in-Release.ensures)
-
-pub returns-in-Close : goal.returns-in-Close
-returns-in-Close g c =
-    rw c.in-Close.is
-    (answered_tells c.args.self.now c.close-answer.new.self (steps.Close c.in-Close.mutator c.in-Close.queue)
-    c.close-answer.result c.args.row.reply
-    c.is_answered-in-Close.result (subst IsSettled c.self.view_is c.self.invariant.settled) refl c.close-answer.ensures
-    c.is_answered-in-Close.ensures)
-
-pub returns-in-Plain : goal.returns-in-Plain
-returns-in-Plain g c = rw c.in-Plain.is c.plain_row.ensures
-
-pub returns-in-Put : goal.returns-in-Put
-returns-in-Put g c = rw c.in-Put.is c.put.ensures
-
-pub returns-in-Puts : goal.returns-in-Puts
-returns-in-Puts g c = rw c.in-Puts.is c.puts.ensures
-
-pub returns-in-Poll : goal.returns-in-Poll
-returns-in-Poll g c = rw c.in-Poll.is c.poll.ensures
-
-pub returns-in-Polls : goal.returns-in-Polls
-returns-in-Polls g c = rw c.in-Polls.is c.polls.ensures
+pub returns-in-None : goal.returns-in-None
+returns-in-None g c =
+    subst (λ (j : Judged). MatchResult c.chosen.result (λ done. TakesRow j c.args.row c.chosen.new.self)
+    (λ objection. ObjectsTo j c.args.row objection c.chosen.new.self)) c.in-None.ensures.1 c.chosen.ensures

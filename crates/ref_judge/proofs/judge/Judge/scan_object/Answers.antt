@@ -96,4 +96,4 @@ returns-in_err-note g c =
       c.in_err-note.ensures.0,
       c.in_err-note.ensures.1,
       set_back c.self.inside.workers.items c.worker.inside.0 _ c.index_mut.ensures.value,
-    ) refl
+    ) (refl, refl)
