@@ -2,8 +2,10 @@
 
 ghost use Rattle.std.specs.Prelude.{◌≡◌, ◌<◌, ◌+◌};
 
+use ref_base::{Config, SpanRule};
+use ref_log::{LogFailure, LogFault, Verdict, verdict_on};
 use ref_queue::{Action, Job};
-use ref_script::strength_text;
+use ref_script::{config_of, strength_text};
 use refrun::{FromReader, TextFault, ToWriter, run_script};
 use std::alloc::{AllocError, Global};
 
@@ -15,7 +17,11 @@ const JOBS: u64 = 64;
 pub enum Kind {
     Script,
     Graph,
+    Log,
 }
+
+/// All of them.
+pub const KINDS: [Kind; 3] = [Kind::Script, Kind::Graph, Kind::Log];
 
 impl Kind {
     /// The ending of such a text.
@@ -23,6 +29,7 @@ impl Kind {
         match self {
             Kind::Script => "script",
             Kind::Graph => "graph",
+            Kind::Log => "log",
         }
     }
 
@@ -31,13 +38,7 @@ impl Kind {
         match self {
             Kind::Script => "trace",
             Kind::Graph => "out",
-        }
-    }
-
-    pub fn other(self) -> Kind {
-        match self {
-            Kind::Script => Kind::Graph,
-            Kind::Graph => Kind::Script,
+            Kind::Log => "report",
         }
     }
 }
@@ -69,6 +70,7 @@ pub fn answer_to(alloc: Global, kind: Kind, text: &[u8]) -> Result<Answer, Alloc
             &mut FromReader::new(text),
             &mut ToWriter::new(&mut printed),
         ),
+        Kind::Log => return report_on(alloc, text),
     };
     let (error, status) = match done {
         Ok(()) => (String::new(alloc), 0),
@@ -100,4 +102,58 @@ fn run_with_jobs(alloc: Global, text: &[u8], printed: &mut Vec<u8>) -> Result<()
         &mut ToWriter::new(printed),
         jobs,
     )
+}
+
+/// The report on a log.
+fn report_on(alloc: Global, log: &[u8]) -> Result<Answer, AllocError> {
+    let (printed, error, status) = match verdict_on(alloc, &mut FromReader::new(log), None) {
+        Ok(verdict) => (
+            format!(in alloc; "{verdict}\n")?,
+            String::new(alloc),
+            verdict.exit_status(),
+        ),
+        Err(failure) => (
+            cut_off(alloc, &failure)?,
+            format!(in alloc; "refrun: {failure}\n")?,
+            failure.exit_status(),
+        ),
+    };
+    Ok(Answer {
+        printed: printed.into_bytes(),
+        error,
+        status,
+    })
+}
+
+/// What is printed of a log that is cut off.
+fn cut_off(alloc: Global, failure: &LogFailure) -> Result<String, AllocError> {
+    match failure {
+        LogFailure::CutOff { rows, .. } => {
+            format!(in alloc; "legal: {rows} rows as far as they go\n")
+        }
+        _ => Ok(String::new(alloc)),
+    }
+}
+
+/// Whether a judge takes the trace of a script, or its rows aren't those of a collector alone.
+pub fn is_judged_legal(alloc: Global, script: &[u8], trace: &[u8]) -> bool {
+    let Some(config) = config_in(script) else {
+        return false;
+    };
+    match verdict_on(alloc, &mut FromReader::new(trace), Some(config)) {
+        Ok(Verdict::Legal { .. }) => true,
+        Err(LogFailure::Line(_, LogFault::UnknownStep)) => true,
+        _ => false,
+    }
+}
+
+/// The configuration in a script's lines.
+fn config_in(script: &[u8]) -> Option<Config> {
+    for line in script.split(|byte| *byte == b'\n') {
+        let config = config_of(line.trim_ascii(), SpanRule::Fixed);
+        if config.is_some() {
+            return config;
+        }
+    }
+    None
 }

@@ -25,6 +25,7 @@ impl Count {
 pub struct Counts {
     scripts: Count,
     graphs: Count,
+    logs: Count,
     pub wrong: u32,
 }
 
@@ -33,6 +34,7 @@ impl Counts {
         Counts {
             scripts: Count { all: 0, faulty: 0 },
             graphs: Count { all: 0, faulty: 0 },
+            logs: Count { all: 0, faulty: 0 },
             wrong: 0,
         }
     }
@@ -42,6 +44,7 @@ impl Counts {
         match kind {
             Kind::Script => self.scripts.add(is_faulty),
             Kind::Graph => self.graphs.add(is_faulty),
+            Kind::Log => self.logs.add(is_faulty),
         }
     }
 
@@ -55,8 +58,13 @@ impl fmt::Display for Counts {
     fn fmt<W: fmt::Write>(&self, f: &mut fmt::Formatter<W>) -> fmt::Result {
         write!(
             f,
-            "{} scripts, {} of them faulty, and {} graph texts, {} of them faulty, are as told",
+            "{} scripts, {} of them faulty, {} graph texts, {} of them faulty, ",
             self.scripts.all, self.scripts.faulty, self.graphs.all, self.graphs.faulty
+        )?;
+        write!(
+            f,
+            "and {} logs, {} of them faulty, are as told",
+            self.logs.all, self.logs.faulty
         )?;
         if self.wrong > 0 {
             write!(f, ", and {} are NOT", self.wrong)?;

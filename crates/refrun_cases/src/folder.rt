@@ -1,7 +1,16 @@
 //! The files of a folder.
 
-use crate::answer::Kind;
+use crate::answer::{KINDS, Kind};
 use std::{fs, io};
+
+/// Which files tell of a text.
+#[derive(Clone, Copy)]
+pub struct Told {
+    /// One has what it prints.
+    pub prints: bool,
+    /// One has its fault.
+    pub fails: bool,
+}
 
 /// The names of a folder's files, in their order.
 #[derive(Drop)]
@@ -36,14 +45,26 @@ impl Folder {
         false
     }
 
-    /// Whether a text is told to be faulty; `None` where not just one file beside it tells of it, or where another text
-    /// has its name.
-    pub fn is_faulty(&self, kind: Kind, name: &str) -> Option<bool> {
-        let prints = self.has(name, kind.printed());
-        let fails = self.has(name, "err");
-        if prints == fails || self.has(name, kind.other().text()) {
+    /// Whether there is a text of this name.
+    pub fn has_text(&self, name: &str) -> bool {
+        KINDS.iter().any(|kind| self.has(name, kind.text()))
+    }
+
+    /// What files tell of a text; `None` where none does, or another text has its name. Of a log that is cut off both
+    /// files tell, and of any other text just one.
+    pub fn told(&self, kind: Kind, name: &str) -> Option<Told> {
+        let told = Told {
+            prints: self.has(name, kind.printed()),
+            fails: self.has(name, "err"),
+        };
+        let may_be_both = matches!(kind, Kind::Log);
+        let texts = KINDS.iter().filter(|kind| self.has(name, kind.text()));
+        if texts.count() != 1 || !(told.prints || told.fails) {
             return None;
         }
-        Some(fails)
+        if told.prints && told.fails && !may_be_both {
+            return None;
+        }
+        Some(told)
     }
 }

@@ -2,7 +2,11 @@
 //!
 //! - `NAME.script`, with its 64 jobs, prints its trace, `NAME.trace`;
 //! - `NAME.graph` prints the listing of its strengths, `NAME.out`;
-//! - a faulty text prints nothing, and is answered on standard error by the line in `NAME.err`, with status 3.
+//! - `NAME.log` prints the judge's report on it, `NAME.report`, with status 0 where it is legal and else 4;
+//! - a faulty text prints nothing, and is answered on standard error by the line in `NAME.err`, with status 3. A log
+//!   that is cut off prints its `NAME.report` too.
+//!
+//! And the judge takes the trace of each script.
 //!
 //! It prints a line for each text, in the order of the names, and last how many there are. A text whose answer is
 //! another gets a line that says so. So does a text that has none of these files or two, and a file that is beside no
@@ -15,9 +19,9 @@ mod answer;
 mod counts;
 mod folder;
 
-use answer::{Answer, Kind, answer_to};
+use answer::{Answer, Kind, answer_to, is_judged_legal};
 use counts::Counts;
-use folder::Folder;
+use folder::{Folder, Told};
 use std::io::Write;
 use std::process::ExitCode;
 use std::{fs, io};
@@ -49,9 +53,11 @@ fn tell_file(rt: &HostRuntime, folder: &Folder, file: &str, counts: &mut Counts)
     match file.rsplit_once('.') {
         Some((name, "script")) => tell_text(rt, folder, Kind::Script, name, counts),
         Some((name, "graph")) => tell_text(rt, folder, Kind::Graph, name, counts),
+        Some((name, "log")) => tell_text(rt, folder, Kind::Log, name, counts),
         Some((name, "trace")) if folder.has(name, "script") => Ok(()),
         Some((name, "out")) if folder.has(name, "graph") => Ok(()),
-        Some((name, "err")) if folder.has(name, "script") || folder.has(name, "graph") => Ok(()),
+        Some((name, "report")) if folder.has(name, "log") => Ok(()),
+        Some((name, "err")) if folder.has_text(name) => Ok(()),
         None | Some(("README", "md")) => Ok(()),
         _ => {
             counts.add_wrong();
@@ -68,47 +74,66 @@ fn tell_text(
     name: &str,
     counts: &mut Counts,
 ) -> io::Result<()> {
-    let Some(is_faulty) = folder.is_faulty(kind, name) else {
+    let Some(files) = folder.told(kind, name) else {
         counts.add_wrong();
         return println!(rt;
             "{name}: not one text with just one of .{} and .err",
             kind.printed()
         );
     };
-    let answer = answer_to_file(rt, kind, name)?;
-    let told = told_by_file(rt, kind, name, is_faulty)?;
-    if answer.is(&told) {
-        counts.add(kind, is_faulty);
-        return println!(rt; "{name}: as told");
+    let text = text_of(rt, kind, name)?;
+    let answer = answer_to(rt.alloc(), kind, text.as_slice())?;
+    let told = told_by_files(rt, kind, name, files)?;
+    if !answer.is(&told) {
+        counts.add_wrong();
+        println!(rt; "{name}: NOT as told, but with status {}:", answer.status)?;
+        io::writer(rt).write_all(answer.printed.as_slice())?;
+        return io::writer(rt).write_all(answer.error.as_bytes());
     }
-    counts.add_wrong();
-    println!(rt; "{name}: NOT as told, but with status {}:", answer.status)?;
-    io::writer(rt).write_all(answer.printed.as_slice())?;
-    io::writer(rt).write_all(answer.error.as_bytes())
+    if is_misjudged(rt, kind, &answer, text.as_slice()) {
+        counts.add_wrong();
+        return println!(rt; "{name}: as told, but the judge does NOT take its trace");
+    }
+    counts.add(kind, files.fails);
+    println!(rt; "{name}: as told")
 }
 
-/// What the text of this name answers.
-fn answer_to_file(rt: &HostRuntime, kind: Kind, name: &str) -> io::Result<Answer> {
+/// Whether this is the trace of a script, and the judge doesn't take it.
+fn is_misjudged(rt: &HostRuntime, kind: Kind, answer: &Answer, text: &[u8]) -> bool {
+    match kind {
+        Kind::Script if answer.status == 0 => {
+            !is_judged_legal(rt.alloc(), text, answer.printed.as_slice())
+        }
+        _ => false,
+    }
+}
+
+/// The text of this name.
+fn text_of(rt: &HostRuntime, kind: Kind, name: &str) -> io::Result<Vec<u8>> {
     let file = format!(in rt.alloc(); "{name}.{}", kind.text())?;
-    let text = fs::read(rt, file.as_str())?;
-    Ok(answer_to(rt.alloc(), kind, text.as_slice())?)
+    fs::read(rt, file.as_str())
 }
 
-/// What the file beside the text of this name says that it answers.
-fn told_by_file(rt: &HostRuntime, kind: Kind, name: &str, is_faulty: bool) -> io::Result<Answer> {
+/// What the files beside the text of this name say that it answers.
+fn told_by_files(rt: &HostRuntime, kind: Kind, name: &str, files: Told) -> io::Result<Answer> {
     let alloc = rt.alloc();
-    let ending = if is_faulty { "err" } else { kind.printed() };
-    let file = format!(in alloc; "{name}.{ending}")?;
-    if is_faulty {
-        return Ok(Answer {
-            printed: Vec::new(alloc),
-            error: fs::read_to_string(rt, file.as_str())?,
-            status: 3,
-        });
-    }
-    Ok(Answer {
-        printed: fs::read(rt, file.as_str())?,
+    let mut told = Answer {
+        printed: Vec::new(alloc),
         error: String::new(alloc),
         status: 0,
-    })
+    };
+    if files.prints {
+        let file = format!(in alloc; "{name}.{}", kind.printed())?;
+        told.printed = fs::read(rt, file.as_str())?;
+    }
+    if files.fails {
+        let file = format!(in alloc; "{name}.err")?;
+        told.error = fs::read_to_string(rt, file.as_str())?;
+    }
+    told.status = match kind {
+        _ if files.fails => 3,
+        Kind::Log if !told.printed.as_slice().starts_with(b"legal") => 4,
+        _ => 0,
+    };
+    Ok(told)
 }

@@ -9,7 +9,7 @@ docs/FORMATS.md has every step of a script, every reply and every fault, and the
 lines of a graph.
 
 Exit status: 0 done; 2 a wrong command line; 3 a fault of the text, or reading
-or writing failed; 4 a check of stress failed; 5 no memory.";
+or writing failed; 4 a check of stress failed, or a row isn't legal; 5 no memory.";
 
 pub const RUN: &str = "\
 An example, at the top of the repository:
@@ -48,6 +48,24 @@ the plain ones:
            the last root in a mark, tell a death twice, or fill the heap
 
 Exit status: 0 done; 2 a wrong command line; 3 writing failed; 5 no memory.";
+
+pub const CHECK: &str = "\
+An example, at the top of the repository:
+
+  refrun check < examples/read_after_death.log
+
+and of a trace without a line of its configuration:
+
+  refrun run < SCRIPT | refrun check --config 1,1,1,8,10
+
+It says that the trace is legal, or names the first row that no right collector
+can have given behind the rows before it, the rule that the row breaks and, where
+the collector had no choice, the answer that is legal there.
+
+docs/FORMATS.md has the lines of a trace, the profiles, the rules and every fault.
+
+Exit status: 0 legal; 2 a wrong command line; 3 a fault of the trace, or reading
+or writing failed; 4 a row isn't legal; 5 no memory.";
 
 pub const STRESS: &str = "\
 An example:

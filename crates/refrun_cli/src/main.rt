@@ -1,11 +1,13 @@
 //! The program `refrun`. Its `refrun run` reads a script on standard input and prints its trace on standard output.
 //! `refrun strength` reads a graph text and prints how strongly each of its objects is reachable. `refrun random`
-//! prints a script that is drawn. `refrun stress` runs threads over one heap and one queue, and checks the queue's
-//! lists. What it says on standard error begins with `refrun: `, but for what `clap` says of a wrong command line. Exit
-//! statuses: 0 done, 2 a wrong command line, 3 a fault of the text or of reading and writing, 4 a check of stress that
-//! failed, 5 no memory.
+//! prints a script that is drawn. `refrun check` reads a collector's trace and tells the first row that isn't legal.
+//! `refrun stress` runs threads over one heap and one queue, and checks the queue's lists. What it says on standard
+//! error begins with `refrun: `, but for what `clap` says of a wrong command line. Exit statuses: 0 done, 2 a wrong
+//! command line, 3 a fault of the text or of reading and writing, 4 a check of stress that failed or a row that isn't
+//! legal, 5 no memory.
 #![tactic(auto)]
 
+mod checking;
 mod drawing;
 mod help;
 mod stressing;
@@ -43,6 +45,7 @@ fn main(rt: HostRuntime) -> ExitCode {
         Ok(matches) => match matches.subcommand() {
             Some(("strength", _)) => strength(&rt),
             Some(("random", options)) => drawing::run(&rt, options),
+            Some(("check", options)) => checking::run(&rt, options),
             Some(("stress", options)) => stressing::run(&rt, options, rt.stderr().is_terminal()),
             _ => run(&rt),
         },
@@ -50,7 +53,7 @@ fn main(rt: HostRuntime) -> ExitCode {
     }
 }
 
-/// What the words ask for: `run`, `strength`, `random` or `stress`.
+/// What the words ask for: `run`, `strength`, `random`, `check` or `stress`.
 fn command_of<'a>(alloc: Global, words: &'a [String]) -> Result<ArgMatches<'a>, Error> {
     let run = Command::new(alloc, "run")
         .about("Reads a script on standard input and prints its trace")
@@ -63,7 +66,7 @@ fn command_of<'a>(alloc: Global, words: &'a [String]) -> Result<ArgMatches<'a>, 
     Command::new(alloc, "refrun")
         .bin_name("refrun")?
         .about(
-            "Runs scripts of reference processing and prints their traces, and the strengths of object graphs",
+            "Runs scripts of reference processing, judges traces, and tells how strongly objects are reachable",
         )
         .version("0.1.0")
         .after_help(help::PROGRAM)
@@ -71,6 +74,7 @@ fn command_of<'a>(alloc: Global, words: &'a [String]) -> Result<ArgMatches<'a>, 
         .subcommand(run)?
         .subcommand(strength)?
         .subcommand(drawing::command(alloc)?)?
+        .subcommand(checking::command(alloc)?)?
         .subcommand(stressing::command(alloc)?)?
         .try_get_matches_from(words)
 }

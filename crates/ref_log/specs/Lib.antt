@@ -1,0 +1,11 @@
+pub mod Streams
+pub mod StreamAnswers
+pub mod LogFaults
+pub mod LogRows
+pub mod LogHeads
+pub mod WorldRows
+pub mod RowTexts
+pub mod ReadLines
+pub mod Failures
+pub mod Checking
+pub mod HeadReading

@@ -1,0 +1,19 @@
+//! The log of a collector's run, judged: its lines are read one by one, in the memory of one line, of one chunk and of
+//! the judge.
+#![tactic(auto)]
+
+mod check;
+mod failure;
+mod fault;
+mod head;
+mod heads;
+mod rows;
+mod stream;
+mod told;
+
+pub use check::verdict_on;
+pub use failure::{Finding, LogFailure, Verdict};
+pub use fault::LogFault;
+pub use heads::{profile_of, rule_of};
+pub use rows::row_of;
+pub use stream::{LineStream, MAX_LINE, StreamFault};
