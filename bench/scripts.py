@@ -1,8 +1,10 @@
 #!/usr/bin/env python3
-"""Writes the scripts and graph texts that `./measure` runs: 4 MiB each, and the same bytes each time.
+"""Writes the scripts, graph texts and logs that `./measure` runs: 4 MiB each, and the same bytes each time.
 
-  bench/scripts.py FOLDER    writes mixed, long and old, and the graph texts chain, weak and random
+  bench/scripts.py FOLDER    writes mixed, long and old, the graph texts chain, weak and random, and the logs numbers and
+                             names
 """
+import itertools
 import os
 import random
 import sys
@@ -172,8 +174,46 @@ def random_graph():
             yield f"plain {number} {fields}".strip()
 
 
+def deaths(is_named):
+    """The log of a collector with twenty objects that stay, and a death in each cycle that is reported."""
+    yield "reftrace 1"
+    yield "config 2 1 1 64 0"
+    if is_named:
+        yield "names any"
+    name = (lambda number, address: f"0x{address:x}") if is_named else (lambda number, address: str(number))
+    old = [name(number, 0x1000 + 16 * number) for number in range(1, 21)]
+    for number, one in enumerate(old):
+        yield f"m1 new s1 1 : object {one}"
+        if number > 0:
+            yield "m1 store s1 0 s0 : ok"
+        yield f"m1 copy s0 s1 : object {one}"
+    yield "m1 drop s1 : ok"
+    for cycle in itertools.count(1):
+        # The reference of the cycle before is there until this one's mark ends.
+        number = len(old) + 2 * cycle
+        dead, reference = name(number - 1, 0x10), name(number, 0x20 + 16 * (cycle % 2))
+        doomed = 1 if cycle == 1 else 2
+        yield f"m0 new s0 0 : object {dead}"
+        yield f"m0 weak s1 s0 q0 0 : object {reference}"
+        yield "m0 drop s0 : ok"
+        yield f"begin 1 normal : cycle {cycle}"
+        for one in old:
+            yield f"w0 scan : scanned {one}"
+        yield f"w0 scan : scanned {reference}"
+        yield f"endmark : doomed {doomed}"
+        yield f"w0 clearnext : cleared {reference}"
+        yield "endclear : ok"
+        yield f"w0 hand : notice {reference} q0 cycle {cycle} w0"
+        yield f"w0 put : added {cycle - 1}"
+        yield f"m0 poll q0 : took {reference}"
+        yield "m0 release : ok"
+        yield f"w0 sweep : swept {doomed}"
+        yield "endsweep : ok"
+
+
 SCRIPTS = {"mixed": mixed, "long": long_cycles, "old": old_among_dead}
 GRAPHS = {"chain": lambda: chain("plain"), "weak": lambda: chain("weak"), "random": random_graph}
+LOGS = {"numbers": lambda: deaths(False), "names": lambda: deaths(True)}
 
 
 def write(path, lines):
@@ -189,7 +229,7 @@ def write(path, lines):
 def write_all(folder):
     """Writes each text under its name, unless it is there."""
     os.makedirs(folder, exist_ok=True)
-    for name, make in (SCRIPTS | GRAPHS).items():
+    for name, make in (SCRIPTS | GRAPHS | LOGS).items():
         path = os.path.join(folder, name)
         if not os.path.exists(path):
             write(path, make())

@@ -88,8 +88,38 @@ m0 put : added 1
 m0 drop s1 : ok
 ";
 
+/// Objects have names, and one that was swept gives its name again; a job is run.
+const NAMED: &[u8] = b"reftrace 1
+config 2 2 2 8 10
+names any
+m0 new s0 0 : object 0x7f10
+m1 phantom s1 s1 q1 0 : refused 6 EmptySlot
+m0 weak s1 s0 q1 0 : object 0x7f20
+m0 job s1 3 : ok
+m0 drop s0 : ok
+begin 1 normal : cycle 1
+w1 scan : scanned 0x7f20
+endmark : doomed 1
+w1 clearnext : cleared 0x7f20
+endclear : ok
+m0 run s1 : ran 3 1003
+w0 sweep : swept 1
+m1 new s2 0 : object 0x7f10
+m1 copy s3 s2 : object 0x7f10
+";
+
+/// A new object takes the name of one that is there.
+const IN_USE: &[u8] = b"reftrace 1
+config 2 1 1 8 10
+names any
+m0 new s0 0 : object a
+m1 new s0 0 : object b
+m1 drop s0 : ok
+m0 new s1 0 : object b
+";
+
 /// Logs of each kind of answer.
-pub static LOGS: [Log; 4] = [
+pub static LOGS: [Log; 6] = [
     Log {
         name: "two deaths",
         text: DEATHS,
@@ -99,6 +129,16 @@ pub static LOGS: [Log; 4] = [
         name: "a death told twice",
         text: TOLD_TWICE,
         told: Told::Illegal(7, 10),
+    },
+    Log {
+        name: "names",
+        text: NAMED,
+        told: Told::Legal(14),
+    },
+    Log {
+        name: "a name in use",
+        text: IN_USE,
+        told: Told::Illegal(4, 7),
     },
     Log {
         name: "a step of another name",

@@ -7,15 +7,16 @@ use Rattle.ref_base.specs.declared.row.Row.{Row}
 use Rattle.ref_judge.specs.Judged.{Judged}
 use Rattle.ref_judge.specs.ProfiledRows.{IsRowAs, IsRunAs, IsLegalAs}
 use Rattle.ref_judge.specs.Standing.{StandsFor, FitsIt, LeadsOn, HasNone, IsNewJudge, Lawful, AreLawful, TakesRow}
-use Rattle.ref_judge.specs.Standing.{IsSettled, IsIllegal, IsOneAnswer, IsAloneLegal, NamesAnswer, ObjectsTo}
+use Rattle.ref_judge.specs.Standing.{IsSettled, IsIllegal, IsOneAnswer, IsLegalIn, IsAloneLegal, NamesAnswer, ObjectsTo}
 use Rattle.ref_judge.specs.declared.rule.Breach.{Breach}
+use Rattle.ref_judge.specs.declared.rule.Instead.{Instead}
+use Rattle.ref_judge.specs.declared.rule.Instead.TheVariants.{Only, Among, Untold}
 use Rattle.ref_judge.specs.declared.rule.Objection.{Objection}
 use Rattle.ref_judge.specs.declared.rule.Objection.TheVariants.{Illegal, NoMemory}
 use Rattle.ref_base.specs.declared.reply.Reply.{Reply}
 use Rattle.ref_base.specs.declared.step.Step.{Step}
-use Rattle.std.specs.Prelude.{Option, Some, None}
 use Rattle.ref_judge.proofs.SomeFits.{between}
-use Rattle.ref_judge.specs.Verdicts.{IsOnlyAnswer, NamesOnlyAnswer}
+use Rattle.ref_judge.specs.Verdicts.{IsOnlyAnswer, NamesAnswerBehind}
 use Rattle.ref_judge.specs.declared.profile.Profile.{Profile}
 
 -- The judge took these rows: the states that fit what it was told are just those to which they lead.
@@ -91,25 +92,34 @@ module _ (p : Profile) (config : Config) (rows : List Row) (old : Judged) (taken
         let (s, before, last) = run_apart (IsRowAs p) (first_state config) legal.0 rows row legal.1 in
         none s legal.0 (taken.on s before) (subst (λ (q : Profile). IsRowAs q s row legal.0) (sym taken.profile) last)
 
--- what is legal alone with a step that a judge would take next is the only answer behind the rows that it took
+-- the row of a step that a judge would take next is legal behind the rows that it took
+taken_next : (p : Profile) (config : Config) (rows : List Row) (old : Judged) (taken : HasTaken p config rows old)
+    (step : Step) (reply : Reply) → IsLegalIn old step reply
+    → IsLegalAs p config (rows ++ record { step = step; reply = reply } ∷ [])
+taken_next p config rows old taken step reply legal =
+    let (s, t, fits, row) = legal taken.state taken.stands (taken_lawful p config rows old taken) in (
+      t,
+      run_behind (IsRowAs p) (first_state config) s t rows (record { step = step; reply = reply }) (taken.back s fits)
+          (subst (λ (q : Profile). IsRowAs q s (record { step = step; reply = reply }) t) taken.profile row),
+    )
+
+-- and the only one where it alone is legal
 taken_alone : (p : Profile) (config : Config) (rows : List Row) (old : Judged) (taken : HasTaken p config rows old)
     (step : Step) (reply : Reply) → IsAloneLegal old step reply → IsOnlyAnswer p config rows step reply
 taken_alone p config rows old taken step reply alone = record {
-  legal =
-      let (s, t, fits, row) = alone.some taken.state taken.stands (taken_lawful p config rows old taken) in (
-        t,
-        run_behind (IsRowAs p) (first_state config) s t rows (record { step = step; reply = reply }) (taken.back s fits)
-            (subst (λ (q : Profile). IsRowAs q s (record { step = step; reply = reply }) t) taken.profile row),
-      );
+  legal = taken_next p config rows old taken step reply alone.some;
   others = λ other differ.
       taken_none p config rows old taken (record { step = step; reply = other })
       (alone.alone other differ taken.state taken.stands);
 }
 
+-- what a judge names is named behind the rows that it took
 pub taken_named : (p : Profile) (config : Config) (rows : List Row) (old : Judged) (taken : HasTaken p config rows old)
-    (step : Step) (reply : Option Reply) → NamesAnswer old step reply → NamesOnlyAnswer p config rows step reply
-taken_named p config rows old taken step None many = many
-taken_named p config rows old taken step (Some reply) alone = taken_alone p config rows old taken step reply alone
+    (step : Step) (instead : Instead) → NamesAnswer old step instead → NamesAnswerBehind p config rows step instead
+taken_named p config rows old taken step (Only reply) alone = taken_alone p config rows old taken step reply alone
+taken_named p config rows old taken step (Among reply) (many, legal) =
+    (many, taken_next p config rows old taken step reply legal)
+taken_named p config rows old taken step Untold many = many
 
 -- ---- the rows in front of one
 
@@ -139,20 +149,25 @@ all_taken (first ∷ rows) (suc place) out = grind (arith, all_taken rows place)
 -- ---- rows to which it objects
 
 pub objected : (old new : Judged) (row : Row) (objection : Objection) (breach : Breach) → objection ≡ Illegal breach
-    → ObjectsTo old row objection new → IsIllegal old row × NamesAnswer old row.step breach.legal
+    → ObjectsTo old row objection new → IsIllegal old row × NamesAnswer old row.step breach.instead
 objected old new row (Illegal breach) other is objects =
     subst (λ (o : Objection). ObjectsTo old row o new) is objects
 objected old new row NoMemory other is objects = absurd cc
+
+-- an answer is legal whose row is taken
+pub taken_is_legal : (old new : Judged) (step : Step) (reply : Reply)
+    → TakesRow old (record { step = step; reply = reply }) new → IsSettled new → IsLegalIn old step reply
+taken_is_legal old new step reply takes settled a stands lawful =
+    let leads = takes.2 a stands lawful in
+    let (t, fits) = between new leads.state leads.stands settled in
+    let (s, before, row) = leads.back t fits in
+    (s, t, before, row)
 
 -- a step's one answer is legal alone
 pub one_is_legal : (old new : Judged) (step : Step) (answer : Reply) → IsOneAnswer old step answer new → IsSettled new
     → IsAloneLegal old step answer
 one_is_legal old new step answer one settled = record {
-  some = λ a stands lawful.
-      let leads = one.taken.2 a stands lawful in
-      let (t, fits) = between new leads.state leads.stands settled in
-      let (s, before, row) = leads.back t fits in
-      (s, t, before, row);
+  some = taken_is_legal old new step answer one.taken settled;
   alone = one.alone;
 }
 
@@ -163,10 +178,9 @@ one_tells old new step answer reply one same =
     subst (λ (r : Reply). TakesRow old (record { step = step; reply = r }) new) same one.taken
 
 pub one_objects : (old new : Judged) (step : Step) (answer reply : Reply) (breach : Breach)
-    → IsOneAnswer old step answer new → IsSettled new → (answer ≡ reply → ⊥) → breach.legal ≡ Some answer
+    → IsOneAnswer old step answer new → IsSettled new → (answer ≡ reply → ⊥) → breach.instead ≡ Only answer
     → ObjectsTo old (record { step = step; reply = reply }) (Illegal breach) new
-one_objects old new step answer reply breach one settled differ legal = (
+one_objects old new step answer reply breach one settled differ only = (
   one.alone reply differ,
-  subst (λ (o : Option Reply). NamesAnswer old step o) (sym legal)
-      (one_is_legal old new step answer one settled),
+  subst (λ (i : Instead). NamesAnswer old step i) (sym only) (one_is_legal old new step answer one settled),
 )

@@ -1,9 +1,11 @@
--- A trace that leaves idle rows out, and a verdict.
-use Rattle.ref_base.proofs.Common.{false, true, List, [], ◌∷◌, inl, inr, refl, false≢true, take}
+-- A trace that leaves idle rows out, a verdict, and answers that are named.
+use Rattle.ref_base.proofs.Common.{◌≡◌, false, true, List, [], ◌∷◌, ◌++◌, inl, inr, refl, sym, false≢true, take}
+use Rattle.ref_base.proofs.Common.{arith}
 use Rattle.std.specs.Prelude.{Some}
 use Rattle.std.proofs.lemmas.Bool.{ltb-true as below}
 use Rattle.ref_base.proofs.LegalSteps.{none_left}
 use Rattle.ref_base.proofs.WorkedTraces.{row, config_of}
+use Rattle.ref_base.specs.declared.actor.Actor.TheVariants.{Mutator}
 use Rattle.ref_base.specs.declared.fault.Fault.TheVariants.{WrongPhase}
 use Rattle.ref_base.specs.declared.urgency.Urgency.TheVariants.{Normal}
 use Rattle.ref_base.specs.declared.row.Row.{Row}
@@ -11,8 +13,10 @@ use Rattle.ref_base.specs.declared.plain_step.PlainStep.TheVariants as plain
 use Rattle.ref_base.specs.declared.step.Step.TheVariants as steps
 use Rattle.ref_base.specs.declared.reply.Reply.TheVariants as replies
 use Rattle.ref_judge.specs.IdleRows.{LeavesOut}
+use Rattle.ref_judge.specs.Judged.{wants_memory}
 use Rattle.ref_judge.specs.ProfiledRows.{strict, IsLegalAs}
-use Rattle.ref_judge.specs.Verdicts.{Judges}
+use Rattle.ref_judge.specs.Verdicts.{Judges, IsOnlyAnswer, NamesAnswerBehind}
+use Rattle.ref_judge.specs.declared.rule.Instead.TheVariants.{Only, Among, Untold}
 use Rattle.ref_judge.proofs.ProfiledSteps.{legal_as, stop, ◌⨾◌}
 use Rattle.ref_judge.proofs.Examples.{keeps_more, takes_the_last, the_strict_may_not_take_the_last}
 use Rattle.ref_judge.proofs.IdleRows.{kept_rows_are_legal}
@@ -101,3 +105,65 @@ the_strict_verdict = (
       ⨾ stop),
   the_strict_may_not_take_the_last,
 )
+
+-- ---- answers that are named
+
+abbrev makes_one : List Row
+makes_one = row (steps.Plain (plain.New 0 0 0)) (replies.Object 1) ∷ []
+
+-- a scan outside a mark has one answer
+a_scan_is_refused : IsOnlyAnswer keeps_more (config_of 1) makes_one (steps.Plain (plain.Scan 0))
+    (replies.Refused WrongPhase)
+a_scan_is_refused = record {
+  legal = legal_as keeps_more (config_of 1)
+      (makes_one ++ row (steps.Plain (plain.Scan 0)) (replies.Refused WrongPhase) ∷ [])
+      ((_, (refl, refl), refl) ⨾ (refl, refl) ⨾ stop);
+  others = λ other differ legal. grind arith;
+}
+
+abbrev begins_a_cycle : List Row
+begins_a_cycle = makes_one ++ row (steps.Plain (plain.Begin 1 Normal)) (replies.Cycle 1) ∷ []
+
+-- a scan in a mark may answer the object
+a_scan_may_answer_it : NamesAnswerBehind keeps_more (config_of 1) begins_a_cycle (steps.Plain (plain.Scan 0))
+    (Among (replies.Scanned 1))
+a_scan_may_answer_it = (
+  refl,
+  legal_as keeps_more (config_of 1) (begins_a_cycle ++ row (steps.Plain (plain.Scan 0)) (replies.Scanned 1) ∷ []) (
+      (_, (refl, refl), refl)
+      ⨾ (
+        _,
+        (_, (refl, (false, refl, none_left)), (true, refl, λ _. (1, (inr (refl, refl), below _ _ refl, refl)))),
+        refl,
+      )
+      ⨾ (_, (refl, (inr (refl, refl), below _ _ refl, refl), (false, refl, none_left)), refl)
+      ⨾ stop),
+)
+
+-- and no object, so that neither is the only answer
+a_scan_may_answer_none : NamesAnswerBehind keeps_more (config_of 1) begins_a_cycle (steps.Plain (plain.Scan 0))
+    (Among replies.Nothing)
+a_scan_may_answer_none = (
+  refl,
+  legal_as keeps_more (config_of 1) (begins_a_cycle ++ row (steps.Plain (plain.Scan 0)) replies.Nothing ∷ []) (
+      (_, (refl, refl), refl)
+      ⨾ (_, (_, (refl, (false, refl, none_left)), (false, refl, none_left)), refl)
+      ⨾ (_, (refl, (refl, refl)), refl)
+      ⨾ stop),
+)
+
+it_is_not_the_only_one : ¬ (NamesAnswerBehind keeps_more (config_of 1) begins_a_cycle (steps.Plain (plain.Scan 0))
+    (Only (replies.Scanned 1)))
+it_is_not_the_only_one only = only.others replies.Nothing (λ is. absurd cc) a_scan_may_answer_none.1
+
+-- of a step with one answer some answer is named
+none_is_named : ¬ (NamesAnswerBehind keeps_more (config_of 1) [] (steps.Plain (plain.New 0 0 0)) Untold)
+none_is_named many = false≢true (sym many)
+
+-- ---- memory
+
+a_put_wants_memory : wants_memory (steps.Put (Mutator 0)) ≡ true
+a_put_wants_memory = refl
+
+a_poll_wants_none : wants_memory (steps.Poll 0 0) ≡ false
+a_poll_wants_none = refl

@@ -108,3 +108,4 @@ pub mod EndedJudges
 pub mod MarkTold
 pub mod FirstJudges
 pub mod WorkerPlaces
+pub mod ToldObjects

@@ -1,6 +1,6 @@
 -- The batches that a judge takes: as many notices were put in before as it was told.
-use Rattle.ref_base.proofs.Common.{◌≡◌, ℕ, ◌+◌, ◌<◌, ◌≤◌, Bool, true, false, List, [], ◌∷◌, Option, Some, None}
-use Rattle.ref_base.proofs.Common.{refl, sym, ap, ◌∙◌, arith, length, inl, inr, zero, suc, cases_Bool}
+use Rattle.ref_base.proofs.Common.{◌≡◌, ℕ, ◌<◌, ◌≤◌, Bool, true, false, List, [], ◌∷◌, Option, Some, None}
+use Rattle.ref_base.proofs.Common.{refl, ap, ◌∙◌, arith, length, inl, inr, zero, suc, cases_Bool}
 use Rattle.std.proofs.lemmas.List.{get_or_default}
 use Rattle.std.specs.Prelude.{◌^◌, nat_lt, slice_index_or}
 use Rattle.ref_base.specs.Members.{first_of}
@@ -80,8 +80,8 @@ module _ (j : Judged) (sound : IsOfSomeState j) (who : Actor) (outs : Outs)
         let line : Line = slice_index_or j.lines q no_line in
         let line_is : line ≡ slice_index_or j.lines q line =
         get_or_default j.lines q no_line line (into_there j sound.state sound.stands who n first) in
-        puts_none j who n accepted first line line_is (replies.Outs outs) j
-        (λ other is before may. elsewhere (ap (λ (o : Outs). o.before) (same_outs outs other is) ∙ before))
+        (puts_none j who n accepted first line line_is (replies.Outs outs)
+        (λ other is before may. elsewhere (ap (λ (o : Outs). o.before) (same_outs outs other is) ∙ before))).0
       where
         same_outs : (one other : Outs) → replies.Outs one ≡ replies.Outs other → one ≡ other
         same_outs one other same = cc

@@ -195,10 +195,13 @@ module _ (old : Judged) (step : Step) (m q count : ℕ) (tell : List ℕ → Rep
   pub poll_wrong : (reply : Reply) → (TellsNone line reply → ⊥)
       → ((ns : List ℕ) → reply ≡ tell ns → MayTakeNos old.profile.order count line.stands ns → ⊥)
       → TellsOf old (record { step = step; reply = reply }) (Err Stop.Illegal) old
-  poll_wrong reply none wrong a stands =
-      none_fits old a (record { step = step; reply = reply }) (keeps a reply)
-      (λ b h.
-      elim (poll_only a stands reply b h) [
-        | inl tells ↦ none tells
-        | inr takes ↦ wrong takes.0 takes.1 takes.2
-      ])
+  poll_wrong reply none wrong = (
+    λ a stands.
+        none_fits old a (record { step = step; reply = reply }) (keeps a reply)
+        (λ b h.
+        elim (poll_only a stands reply b h) [
+          | inl tells ↦ none tells
+          | inr takes ↦ wrong takes.0 takes.1 takes.2
+        ]),
+    refl,
+  )

@@ -160,7 +160,7 @@ module _ (old : Judged) (who : Actor) (n q : ℕ) (line : Line) (reads : Reads o
       → may_become_each old.ground.tags [] line.closed (hand_at old.hands who).objects outs.done ≡ true → ⊥)
       → TellsOf old (record { step = steps.Puts who; reply = reply }) (Err Stop.Illegal) old
   puts_wrong reply outs is wrong =
-      puts_none old who n reads.accepted reads.first line own_line reply old
+      puts_none old who n reads.accepted reads.first line own_line reply
       (λ (other : Outs) told before may.
       let same : other ≡ outs = same_outs other outs (sym told ∙ is) in
       wrong (ap (λ (o : Outs). o.before) (sym same) ∙ before)
@@ -173,13 +173,13 @@ module _ (old : Judged) (who : Actor) (n q : ℕ) (line : Line) (reads : Reads o
   pub puts_other : (reply : Reply) → ((outs : Outs) → reply ≡ replies.Outs outs → ⊥)
       → TellsOf old (record { step = steps.Puts who; reply = reply }) (Err Stop.Illegal) old
   puts_other reply other =
-      puts_none old who n reads.accepted reads.first line own_line reply old (λ outs is before may. other outs is)
+      puts_none old who n reads.accepted reads.first line own_line reply (λ outs is before may. other outs is)
 
   pub put_wrong : (reply : Reply)
       → ((d : Done) → told_put line.put reply ≡ Some d
       → may_become (is_put old.ground.tags n) line.closed d ≡ true → ⊥)
       → TellsOf old (record { step = steps.Put who; reply = reply }) (Err Stop.Illegal) old
-  put_wrong reply wrong = put_none old who n reads.accepted reads.first line own_line reply old wrong
+  put_wrong reply wrong = put_none old who n reads.accepted reads.first line own_line reply wrong
 
   pub put_still : (reply : Reply) (d : Done) → told_put line.put reply ≡ Some d
       → may_become (is_put old.ground.tags n) line.closed d ≡ true → is_added d ≡ false

@@ -255,12 +255,15 @@ module _ (old : Judged) (who : Actor) (n : ℕ) (accepted : first_notice_refusal
         (sym (told_is line.put reply d told)) (other_leads d may isnt a stands),
   )
 
-  pub put_none : (reply : Reply) (new : Judged)
+  pub put_none : (reply : Reply)
       → ((d : Done) → told_put line.put reply ≡ Some d → may_become (is_put old.ground.tags n) line.closed d ≡ true → ⊥)
-      → TellsOf old (record { step = steps.Put who; reply = reply }) (Err Stop.Illegal) new
-  put_none reply new none a stands =
-      none_fits old a (record { step = steps.Put who; reply = reply }) (tt, inr tt)
-      (λ b h. let told = put_only a stands reply b h in none told.0 told.1 told.2)
+      → TellsOf old (record { step = steps.Put who; reply = reply }) (Err Stop.Illegal) old
+  put_none reply none = (
+    λ a stands.
+        none_fits old a (record { step = steps.Put who; reply = reply }) (tt, inr tt)
+        (λ b h. let told = put_only a stands reply b h in none told.0 told.1 told.2),
+    refl,
+  )
 
   pub put_room : IsWellFormed old.ground → may_become (is_put old.ground.tags n) line.closed Added ≡ true
       → (a : State) → StandsFor old a → line.put + 1 ≤ old.ground.next

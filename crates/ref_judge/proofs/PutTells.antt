@@ -173,16 +173,20 @@ module _ (old : Judged) (who : Actor) (n : ℕ) (accepted : first_notice_refusal
   puts_tells formed outs is may =
       (refl, refl, λ a stands lawful. puts_lead formed outs.before outs.done is may a stands)
 
-  pub puts_none : (reply : Reply) (new : Judged)
+  pub puts_none : (reply : Reply)
       → ((outs : Outs) → reply ≡ replies.Outs outs → outs.before ≡ line.put → may_all outs.done ≡ true → ⊥)
-      → TellsOf old (record { step = steps.Puts who; reply = reply }) (Err Stop.Illegal) new
-  puts_none reply new none a stands =
-      none_fits old a (record { step = steps.Puts who; reply = reply }) (tt, inr tt)
-      (λ b h.
-      let told =
-      puts_only a stands reply b
-      (subst (λ (o : Option Fault). IsAnswerAs old.profile a o (steps.Puts who) reply b) (puts_accepted a stands) h) in
-      none told.0 told.1 told.2 told.3)
+      → TellsOf old (record { step = steps.Puts who; reply = reply }) (Err Stop.Illegal) old
+  puts_none reply none = (
+    λ a stands.
+        none_fits old a (record { step = steps.Puts who; reply = reply }) (tt, inr tt)
+        (λ b h.
+        let told =
+        puts_only a stands reply b
+        (subst (λ (o : Option Fault). IsAnswerAs old.profile a o (steps.Puts who) reply b) (puts_accepted a stands)
+        h) in
+        none told.0 told.1 told.2 told.3),
+    refl,
+  )
 
   pub puts_room : IsWellFormed old.ground → (outs : Outs) → outs.before ≡ line.put → may_all outs.done ≡ true
       → (a : State) → StandsFor old a → line.put + length (added_among ns outs.done) ≤ old.ground.next

@@ -95,7 +95,7 @@ module _ (j : Judged) (row : Row) where
   pub tested_told : (result : Result (Unit {0}) Stop) (legal : Type 0) → IsTested result legal → (legal → Stays)
       → ((legal → ⊥) → (a : State) → StandsFor j a → HasNone j row a) → TellsOf j row result j
   tested_told (Ok done) legal is stays none = stays_told (stays is)
-  tested_told (Err stop.Illegal) legal not stays none = none not.1
+  tested_told (Err stop.Illegal) legal not stays none = (none not.1, refl)
   tested_told (Err stop.NoMemory) legal not stays none = absurd (stops_apart not.0)
 
 module _ (j : Judged) (step : Step) (reply : Reply) (fault : Fault)
@@ -116,8 +116,11 @@ module _ (j : Judged) (step : Step) (reply : Reply) (fault : Fault)
           λ h. (subst (λ o. IsAnswerAs j.profile s o step reply t) (refuses a s stands fits) h).1,
           subst (λ o. IsAnswerAs j.profile s o step reply s) (sym (refuses a s stands fits)) (sym legal, refl),
         ))
-    refused_told (Err stop.Illegal) illegal = λ a stands s t fits h.
-        illegal.1 (sym (subst (λ o. IsAnswerAs j.profile s o step reply t) (refuses a s stands fits) h).0)
+    refused_told (Err stop.Illegal) illegal = (
+      λ a stands s t fits h.
+          illegal.1 (sym (subst (λ o. IsAnswerAs j.profile s o step reply t) (refuses a s stands fits) h).0),
+      refl,
+    )
     refused_told (Err stop.NoMemory) illegal = absurd (stops_apart illegal.0)
 
 -- A step that all states refuse that fit has one answer, and of another nothing is said.

@@ -162,14 +162,16 @@ refused_tells old step fault reply (Ok done) refused same = (
       stands refl refl),
 )
 refused_tells old step fault reply (Err Stop.NoMemory) refused differ = absurd (stops_apart differ.0)
-refused_tells old step fault reply (Err Stop.Illegal) refused differ =
-    λ a stands s t fits h.
-    let is = refused a stands in
-    let (left, found, free) = fits_free old a s (is_in old.phase Marking) (is_in old.phase Clearing) fits in
-    let all =
-    free_row_as old.profile a t left found (record { step = step; reply = reply }) (is.0, inl (fault, is.1))
-    (subst (λ (u : State). IsRowAs old.profile u (record { step = step; reply = reply }) t) free h) in
-    differ.1 (sym (refused_reply old.profile a (like t a) step fault reply is.1 all.0))
+refused_tells old step fault reply (Err Stop.Illegal) refused differ = (
+  λ a stands s t fits h.
+      let is = refused a stands in
+      let (left, found, free) = fits_free old a s (is_in old.phase Marking) (is_in old.phase Clearing) fits in
+      let all =
+      free_row_as old.profile a t left found (record { step = step; reply = reply }) (is.0, inl (fault, is.1))
+      (subst (λ (u : State). IsRowAs old.profile u (record { step = step; reply = reply }) t) free h) in
+      differ.1 (sym (refused_reply old.profile a (like t a) step fault reply is.1 all.0)),
+  refl,
+)
 
 -- Where a step is refused, and the judge tells so of each row of it, with the refusal alone its row is taken.
 abbrev pub RefusesRows : Judged → Step → Fault → Type 0
@@ -183,7 +185,7 @@ pub refused_alone : (old : Judged) (step : Step) (fault : Fault) → RefusesRows
     → IsOneAnswer old step (replies.Refused fault) old
 refused_alone old step fault refuses = record {
   taken = refuses (replies.Refused fault) (Ok tt) refl;
-  alone = λ other differ. refuses other (Err Stop.Illegal) (refl, differ);
+  alone = λ other differ. (refuses other (Err Stop.Illegal) (refl, differ)).0;
 }
 
 -- and where it isn't, nothing is said of its answer

@@ -13,3 +13,4 @@ pub mod FreedGrounds
 pub mod Queueing
 pub mod Finding
 pub mod LegalStates
+pub mod ObjectsBehind

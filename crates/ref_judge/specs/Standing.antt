@@ -25,6 +25,8 @@ use Rattle.ref_judge.specs.ProfiledRows.{IsRowAs, IsRunAs, IsLeftAs, says_anew}
 use Rattle.ref_judge.specs.Judged.{Judged, Finder, finder_at, found_by, still_left, is_behind_mark, is_judging}
 use Rattle.ref_judge.specs.Judged.{has_one, is_going, is_put, unheld, wants_memory, AreHands, AreLines, AreToldCleared}
 use Rattle.ref_judge.specs.declared.profile.Profile.{Profile}
+use Rattle.ref_judge.specs.declared.rule.Instead.{Instead}
+use Rattle.ref_judge.specs.declared.rule.Instead.TheVariants.{Only, Among, Untold}
 use Rattle.ref_judge.specs.declared.rule.Objection.{Objection}
 use Rattle.ref_judge.specs.declared.rule.Objection.TheVariants.{Illegal, NoMemory}
 use Rattle.ref_judge.specs.declared.stop.Stop.{Stop}
@@ -193,11 +195,11 @@ TakesRow old row new =
     (new.profile ≡ old.profile) × (new.config ≡ old.config)
     × ((a : State) → StandsFor old a → AreLawful old a → LeadsOn old new row a)
 
--- a judge takes the row where a state that fits has it, and stops where none has: unless memory is refused, which says
--- nothing of the row and changes nothing
+-- A judge takes the row where a state that fits has it, and stops where none has: unless memory is refused, which says
+-- nothing of the row. Where it stops nothing changes.
 abbrev pub TellsOf : Judged → Row → Result (Unit {0}) Stop → Judged → Type 0
 TellsOf old row (Ok done) new = TakesRow old row new
-TellsOf old row (Err Stop.Illegal) new = IsIllegal old row
+TellsOf old row (Err Stop.Illegal) new = IsIllegal old row × (new ≡ old)
 TellsOf old row (Err Stop.NoMemory) new = (wants_memory row.step ≡ true) × (new ≡ old)
 
 -- The row of a step with this answer is taken, and with any other no state that fits has it.
@@ -215,23 +217,27 @@ abbrev pub refused_so : Option Fault → Option Reply
 refused_so None = None
 refused_so (Some fault) = Some (Refused fault)
 
--- some state that fits has the row of the step with this reply, and none with another
+-- some state that fits has the row of the step with this reply
+abbrev pub IsLegalIn : Judged → Step → Reply → Type 0
+IsLegalIn old step reply =
+    (a : State) → StandsFor old a → AreLawful old a
+    → (s : State) × (t : State) × FitsIt old a s × IsRowAs old.profile s (record { step = step; reply = reply }) t
+
+-- and none with another
 pub record IsAloneLegal (old : Judged) (step : Step) (reply : Reply) : Type 0 where
-  pub some :
-      (a : State) → StandsFor old a → AreLawful old a
-      → (s : State) × (t : State) × FitsIt old a s
-      × IsRowAs old.profile s (record { step = step; reply = reply }) t
+  pub some : IsLegalIn old step reply
   pub alone : (other : Reply) → (reply ≡ other → ⊥) → IsIllegal old (record { step = step; reply = other })
 
--- the reply that alone is legal is named, unless a collector may have a choice
-abbrev pub NamesAnswer : Judged → Step → Option Reply → Type 0
-NamesAnswer old step None = has_one step ≡ false
-NamesAnswer old step (Some reply) = IsAloneLegal old step reply
+-- The reply that alone is legal is named; or, where a collector may have a choice, one that is legal, or none.
+abbrev pub NamesAnswer : Judged → Step → Instead → Type 0
+NamesAnswer old step (Only reply) = IsAloneLegal old step reply
+NamesAnswer old step (Among reply) = (has_one step ≡ false) × IsLegalIn old step reply
+NamesAnswer old step Untold = has_one step ≡ false
 
 -- a judge objects to a row that no state has that fits; or the memory that its step wants is refused, which says
 -- nothing of the row and changes nothing
 abbrev pub ObjectsTo : Judged → Row → Objection → Judged → Type 0
-ObjectsTo old row (Illegal breach) new = IsIllegal old row × NamesAnswer old row.step breach.legal
+ObjectsTo old row (Illegal breach) new = IsIllegal old row × NamesAnswer old row.step breach.instead
 ObjectsTo old row NoMemory new = (wants_memory row.step ≡ true) × (new ≡ old)
 
 -- ---- at first

@@ -7,6 +7,8 @@ use Rattle.ref_base.specs.declared.step.Step.{Step}
 use Rattle.ref_judge.specs.Judged.{has_one}
 use Rattle.ref_judge.specs.ProfiledRows.{IsLegalAs}
 use Rattle.ref_judge.specs.declared.profile.Profile.{Profile}
+use Rattle.ref_judge.specs.declared.rule.Instead.{Instead}
+use Rattle.ref_judge.specs.declared.rule.Instead.TheVariants.{Only, Among, Untold}
 
 -- A verdict is that the trace is legal, or else how many rows stand in front of the first with which it isn't.
 abbrev pub Judges : Profile → Config → List Row → Option ℕ → Type 0
@@ -26,7 +28,9 @@ pub record IsOnlyAnswer (profile : Profile) (config : Config) (rows : List Row) 
         (other : Reply) → ¬ (reply ≡ other)
         → ¬ (IsLegalAs profile config (rows ++ record { step = step; reply = other } ∷ []))
 
--- the only answer is named, unless a collector may have a choice
-abbrev pub NamesOnlyAnswer : Profile → Config → List Row → Step → Option Reply → Type 0
-NamesOnlyAnswer profile config rows step None = has_one step ≡ false
-NamesOnlyAnswer profile config rows step (Some reply) = IsOnlyAnswer profile config rows step reply
+-- The only answer is named; or, where a collector may have a choice, one that some collector gives there, or none.
+abbrev pub NamesAnswerBehind : Profile → Config → List Row → Step → Instead → Type 0
+NamesAnswerBehind profile config rows step (Only reply) = IsOnlyAnswer profile config rows step reply
+NamesAnswerBehind profile config rows step (Among reply) =
+    (has_one step ≡ false) × IsLegalAs profile config (rows ++ record { step = step; reply = reply } ∷ [])
+NamesAnswerBehind profile config rows step Untold = has_one step ≡ false

@@ -1,13 +1,16 @@
 //! The judge of a trace: all states of a collector that fit its rows so far.
 
-ghost use Rattle.std.specs.Prelude.{◌≡◌, true, false, if◌then◌else◌, Ok, Err, MatchResult, IfOk, replicate};
+ghost use Rattle.std.specs.Prelude.{◌≡◌, ◌&&◌, not, true, false, if◌then◌else◌, Ok, Err, MatchResult, IfOk, replicate};
+ghost use Rattle.ref_base.specs.Graphs.{is_there};
 ghost use Rattle.ref_base.specs.Limits.{is_within_limits};
+ghost use Rattle.ref_base.specs.Members.{has};
 ghost use Rattle.ref_objects.specs.Grounds.{first_ground};
-ghost use Rattle.ref_judge.specs.Judged.{has_one, has_one_answer, first_judged, no_finder, no_line};
+ghost use Rattle.ref_judge.specs.Judged.{has_one, is_behind_mark, has_one_answer, first_judged, no_finder, no_line};
 ghost use Rattle.ref_judge.specs.Standing.{DoesAs, TellsOf, TakesRow, ObjectsTo, HasOneAnswer, IsNewJudge};
-ghost use Rattle.ref_judge.specs.Standing.{refused_so, reply_of_result};
+ghost use Rattle.ref_judge.specs.Standing.{refused_so, reply_of_result, IsLegalIn, NamesAnswer};
 
 mod breaking;
+mod candidates;
 mod clearing;
 mod marking;
 mod moving;
@@ -17,11 +20,13 @@ mod queueing;
 use crate::Profile;
 use crate::hands::Hands;
 use crate::line::Line;
-use crate::rule::{Breach, Objection};
+use crate::rule::{Breach, Instead, Objection};
 use crate::stop::Stop;
 use crate::worker::Worker;
+use candidates::MOST_CANDIDATES;
 use ref_base::{
-    Actor, Config, Fault, MutNo, Phase, PlainStep, Policy, QueueNo, Reply, Row, Step, Urgency,
+    Actor, Config, Fault, MutNo, ObjNo, Phase, PlainStep, Policy, QueueNo, Reply, Row, Step,
+    Urgency,
 };
 use ref_objects::{Objects, Worklist};
 use std::alloc::{AllocError, Allocator, Global};
@@ -126,11 +131,38 @@ impl<A: Allocator + Copy> Judge<A> {
         }
     }
 
+    /// The number of the next object, or 2^32 where none is left. Takes no memory.
+    pub fn next_no(&self) -> u64
+        ensures { result ≡ self.now.ground.next }
+    {
+        self.objects.next_no()
+    }
+
+    /// Whether an object of this number is there: it was made, and no sweep freed it. Takes logarithmic time and no
+    /// memory.
+    pub fn is_there(&self, no: ObjNo) -> bool
+        ensures { result ≡ is_there self.now.ground.heap.objects no }
+    {
+        self.objects.has_object(no)
+    }
+
+    /// Whether an object of this number is there, and the last mark's end doomed it. Takes logarithmic time and no
+    /// memory.
+    pub fn is_doomed(&self, no: ObjNo) -> bool
+        ensures { result ≡ (is_behind_mark self.now.phase
+            && (is_there self.now.ground.heap.objects no && not (has self.now.ground.marked no))) }
+    {
+        matches!(self.phase, Phase::Clearing | Phase::Sweeping)
+            && self.objects.has_object(no)
+            && !self.objects.is_marked(no)
+    }
+
     /// Judges the next row. `Illegal` is where no state that fits the rows before has it, with the rule that it breaks,
-    /// and of later rows nothing is promised then. `NoMemory` comes of a scan, a clearing or a put alone, and says
-    /// nothing of the row: nothing changes, and the row may be judged again. A begin and a mark's end take the time of
-    /// the heap, and a batch that of its entries. A poll takes that of what stands in its queue, and any other row that
-    /// of a search.
+    /// and an answer that would have been legal if one is found. Of later rows nothing is promised then. `NoMemory`
+    /// comes of a scan, a clearing or a put alone, and says nothing of the row: nothing changes, and the row may be
+    /// judged again. A begin and a mark's end take the time of the heap, and a batch that of its entries. A poll takes
+    /// that of what stands in its queue, and any other row that of a search. A row that is illegal may take the time of
+    /// the heap.
     pub fn row(&mut self, row: Row) -> Result<(), Objection>
         ensures { MatchResult result (λ _. TakesRow self.old row self.new)
             (λ objection. ObjectsTo self.old row objection self.new) }
@@ -161,15 +193,49 @@ impl<A: Allocator + Copy> Judge<A> {
             (λ objection. ObjectsTo self.old (record { step = step; reply = reply }) objection self.new) }
     {
         // A name for each use.
-        let (asked, broken, told, other) = (step, step, reply, reply);
+        let (asked, broken, chosen) = (step, step, step);
+        let (told, other) = (reply, reply);
         match self.chosen_row(asked, told) {
             Ok(()) => Ok(()),
             Err(Stop::Illegal) => {
                 let rule = self.rule_of(broken, other);
-                Err(Objection::Illegal(Breach::by_rule(rule)))
+                let instead = self.first_legal(chosen);
+                Err(Objection::Illegal(Breach { rule, instead }))
             }
             Err(Stop::NoMemory) => Err(Objection::NoMemory),
         }
+    }
+
+    // The first answer that is legal of those that are tried, where a collector may have a choice. Its row is taken.
+    fn first_legal(&mut self, step: Step) -> Instead
+        requires { has_one step ≡ false }
+        ensures { NamesAnswer self.old step result }
+    {
+        for at in 0..MOST_CANDIDATES {
+            // A name for each use.
+            let (asked, tried) = (step, step);
+            let Some(reply) = self.candidate(asked, at) else {
+                return Instead::Untold;
+            };
+            let (told, named) = (reply, reply);
+            match self.take(tried, told) {
+                Ok(()) => return Instead::Among(named),
+                Err(Stop::Illegal) => {}
+                Err(Stop::NoMemory) => return Instead::Untold,
+            }
+        }
+        Instead::Untold
+    }
+
+    // Takes a row whose answer a collector chooses, if it is legal.
+    fn take(&mut self, step: Step, reply: Reply) -> Result<(), Stop>
+        requires { has_one step ≡ false }
+        ensures { MatchResult result (λ _. IsLegalIn self.old step reply) (λ _. self.new ≡ self.old) }
+    {
+        let result = self.chosen_row(step, reply);
+        // Gives the proof that the judge's value is of some state.
+        let _ = &self.config;
+        result
     }
 
     /// Takes the row of a step of which one row alone is legal, whatever is free in the rows before, and answers its

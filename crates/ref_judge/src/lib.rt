@@ -21,5 +21,5 @@ mod worker;
 pub use judge::Judge;
 pub use order::Order;
 pub use profile::Profile;
-pub use rule::{Breach, Objection, Rule};
+pub use rule::{Breach, Instead, Objection, Rule};
 pub use traces::verdict;

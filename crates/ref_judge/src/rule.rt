@@ -111,21 +111,33 @@ impl fmt::Display for Rule {
     }
 }
 
-/// What an illegal row breaks.
+/// What would have been legal in place of an illegal row's answer.
+#[derive(Clone, Copy, Debug, PartialEq, Eq)]
+pub enum Instead {
+    /// Just this answer.
+    Only(Reply),
+    /// An answer, and perhaps there are others: of such a step a collector may have a choice.
+    Among(Reply),
+    /// No answer is named: of such a step a collector may have a choice.
+    Untold,
+}
+
+/// What an illegal row breaks, and what would have been legal in its place.
 #[derive(Clone, Copy, Debug, PartialEq, Eq)]
 pub struct Breach {
-    /// The rule.
+    /// The rule, for a reader: no clause says which it is.
     pub rule: Rule,
-    /// The answer that alone would have been legal, where the collector had no choice.
-    pub legal: Option<Reply>,
+    /// What would have been legal behind the rows before: `Only` where no collector has a choice of such a step's
+    /// answer.
+    pub instead: Instead,
 }
 
 impl Breach {
-    ghost use Rattle.std.specs.Prelude.{◌≡◌, Some, None};
+    ghost use Rattle.std.specs.Prelude.{◌≡◌};
 
     // That of a row whose step has this one answer.
     pub(crate) fn by_answer(answer: Reply) -> Self
-        ensures { result.legal ≡ Some answer }
+        ensures { result.instead ≡ Instead.Only answer }
     {
         let rule = match answer {
             Reply::Refused(_) => Rule::Refusal,
@@ -133,15 +145,8 @@ impl Breach {
         };
         Breach {
             rule,
-            legal: Some(answer),
+            instead: Instead::Only(answer),
         }
-    }
-
-    // That of a row where a collector has a choice.
-    pub(crate) fn by_rule(rule: Rule) -> Self
-        ensures { result.legal ≡ None }
-    {
-        Breach { rule, legal: None }
     }
 }
 

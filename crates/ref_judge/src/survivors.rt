@@ -41,6 +41,17 @@ pub(crate) fn dooms_so_many<A: Allocator + Copy>(
     u128::from(count) + others == objects.object_count() as u128 + u128::from(born)
 }
 
+// How many it dooms.
+pub(crate) fn doomed_count<A: Allocator + Copy>(
+    objects: &Objects<A>,
+    born: u64,
+    scanned: u32,
+) -> u32 {
+    let old = objects.object_count() as u128 + u128::from(born);
+    let others = u128::from(objects.next_no()) + u128::from(scanned);
+    u32::try_from(old.saturating_sub(others)).unwrap_or(0)
+}
+
 // Whether the end of the mark dooms no object of this number.
 pub(crate) fn is_spared<A: Allocator + Copy>(objects: &Objects<A>, end: MarkEnd, no: ObjNo) -> bool
     ensures { result ≡ spares end objects.now.tags no }
@@ -147,12 +158,14 @@ pub(crate) fn broken_by_edges<A: Allocator + Copy>(objects: &Objects<A>, end: Ma
                 return rule;
             }
         }
-        next = match no.0.checked_add(1) {
-            Some(behind) => objects.first_from(ObjNo(behind)),
-            None => None,
-        };
+        next = object_behind(objects, no);
     }
     Rule::DoomedField
+}
+
+// The next object behind this one, for a walk of which no clause speaks.
+pub(crate) fn object_behind<A: Allocator + Copy>(objects: &Objects<A>, no: ObjNo) -> Option<ObjNo> {
+    objects.first_from(ObjNo(no.0.checked_add(1)?))
 }
 
 // The rule that this object breaks, which is spared, if it breaks one.

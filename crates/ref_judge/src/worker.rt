@@ -101,6 +101,11 @@ impl<A: Allocator + Copy> Worker<A> {
         self.at < self.found.len()
     }
 
+    // The reference that it may look at next, if it has one left.
+    pub(crate) fn first_left(&self) -> Option<ObjNo> {
+        Some(self.found.get(self.at)?.object)
+    }
+
     // Whether it has one left that the mark's end cleared.
     pub(crate) fn has_cleared(&self) -> bool
         ensures { result ≡ has_cleared_left self.now }

@@ -9,9 +9,12 @@ use Rattle.ref_base.specs.declared.span_rule.SpanRule.{SpanRule}
 use Rattle.ref_judge.specs.declared.profile.Profile.{Profile}
 use Rattle.ref_judge.specs.ProfiledRows.{strict}
 use Rattle.ref_log.proofs.ReadLines.{at_read, told_append, told_one, told_silent}
-use Rattle.ref_log.specs.Checking.{Fails, HaveConfig, HaveHeader, IsBehindLast, in_limits}
-use Rattle.ref_log.specs.HeadReading.{IsBehindHeader, IsBehindConfig, IsBehindHead}
-use Rattle.ref_log.specs.LogHeads.{begins_config, rule_of, profile_of, profile_or_fault, with_words}
+use Rattle.ref_base.specs.Collectors.{first_state}
+use Rattle.ref_log.specs.Checking.{AreLegalLines, Fails, HaveConfig, HaveHeader, HaveProfile, IsLogBegun, IsBehindLast}
+use Rattle.ref_log.specs.Checking.{IsLog, in_limits}
+use Rattle.ref_log.specs.HeadReading.{IsBehindHeader, IsBehindConfig, IsBehindHead, IsBehindProfile}
+use Rattle.ref_log.specs.LogHeads.{begins_config, first_names, is_naming_line, rule_of, profile_of, profile_or_fault}
+use Rattle.ref_log.specs.LogHeads.{with_words}
 use Rattle.ref_log.specs.ReadLines.{HasRead, FindsTold, IsStopped}
 use Rattle.ref_log.specs.Streams.{Streamed, line_in}
 use Rattle.ref_log.specs.declared.failure.LogFailure.{LogFailure}
@@ -22,13 +25,115 @@ use Rattle.ref_script.specs.Lines.{TextLine}
 use Rattle.ref_script.specs.Scripts.{config_of}
 use Rattle.ref_script.specs.ToldLines.{told, line_words, says_nothing}
 
+-- ---- what stops the reading of a line
+
+-- lines that say the same are those of the same log
+pub legal_alike : (given : Option Config) (read front : List TextLine) (count : ℕ) → told front ≡ told read
+    → AreLegalLines given read count → AreLegalLines given front count
+legal_alike given read front count same legal =
+    let log = legal.log in
+    record {
+      profile = legal.profile;
+      config = legal.config;
+      rows = legal.rows;
+      names = legal.names;
+      log = record {
+        named = log.named;
+        row_words = log.row_words;
+        log = subst (λ (l : List (List (List ℕ))). IsLog given l legal.profile legal.config log.named log.row_words)
+            (sym same) log.log;
+        are_rows = log.are_rows;
+        count_is = log.count_is;
+      };
+      legal = legal.legal;
+    }
+
+begun_alike : (given : Option Config) (read front : List TextLine) → told front ≡ told read → IsLogBegun given read
+    → IsLogBegun given front
+begun_alike given read front same begun =
+    elim begun [
+      | inl none ↦ inl (same ∙ none)
+      | inr some ↦
+          elim some [
+            | inl (rule, have) ↦
+                inr (inl (
+                  rule,
+                  record { header = have.header; told_is = same ∙ have.told_is; version = have.version },
+                ))
+            | inr (count, legal) ↦ inr (inr (count, legal_alike given read front count same legal))
+          ]
+    ]
+
 -- what stops the reading of a line stops the reading of a log
-pub stopped_fails : (given : Option Config) (lines : List TextLine) (failure : LogFailure) → IsStopped lines failure
-    → Fails given lines failure
-stopped_fails given lines (Line k fault) stopped = inl stopped
-stopped_fails given lines (CutOff rows line) stopped = absurd stopped
-stopped_fails given lines CannotRead stopped = tt
-stopped_fails given lines NoMemory stopped = tt
+pub stopped_fails : (given : Option Config) (lines read : List TextLine) (failure : LogFailure) → IsLogBegun given read
+    → IsStopped lines read failure → Fails given lines failure
+stopped_fails given lines read (Line k fault) begun stopped =
+    inl (record {
+      front = stopped.front;
+      line = stopped.line;
+      back = stopped.back;
+      parts = stopped.parts;
+      number = stopped.number;
+      has = (stopped.has.0, begun_alike given read stopped.front stopped.has.1 begun);
+    })
+stopped_fails given lines read (CutOff rows line) begun stopped = absurd stopped
+stopped_fails given lines read CannotRead begun stopped = tt
+stopped_fails given lines read NoMemory begun stopped = tt
+
+-- a head is a legal log of no row
+log_begun : (given : Option Config) (read : List TextLine) (profile : Profile) (config : Config) (named : Bool)
+    → IsLog given (told read) profile config named [] → IsLogBegun given read
+log_begun given read profile config named log =
+    inr (inr (
+      0,
+      record {
+        profile = profile;
+        config = config;
+        rows = [];
+        names = first_names named;
+        log = record { named = named; row_words = []; log = log; are_rows = (refl, refl); count_is = refl };
+        legal = (first_state config, refl);
+      },
+    ))
+
+unnamed_log : (given : Option Config) (read : List TextLine) (profile : Profile) (config : Config)
+    → HaveProfile given read profile config → IsLog given (told read) profile config false []
+unnamed_log given read profile config have =
+    let words = (have.header ∷ have.configuration) ++ have.profiling in
+    record {
+      header = have.header;
+      rule = have.rule;
+      configuration = have.configuration;
+      profiling = have.profiling;
+      naming = [];
+      parts = have.told_is ∙ sym (append-nil words) ∙ sym (append-nil (words ++ []));
+      version = have.version;
+      configured = have.configured;
+      profiled = have.profiled;
+      named_is = refl;
+    }
+
+strict_profile : (given : Option Config) (read : List TextLine) (config : Config) → HaveConfig given read config
+    → HaveProfile given read strict config
+strict_profile given read config have = record {
+  header = have.header;
+  rule = have.rule;
+  configuration = have.configuration;
+  profiling = [];
+  told_is = have.told_is ∙ sym (append-nil (have.header ∷ have.configuration));
+  version = have.version;
+  configured = have.configured;
+  profiled = refl;
+}
+
+profile_begun : (given : Option Config) (read : List TextLine) (profile : Profile) (config : Config)
+    → HaveProfile given read profile config → IsLogBegun given read
+profile_begun given read profile config have =
+    log_begun given read profile config false (unnamed_log given read profile config have)
+
+config_begun : (given : Option Config) (read : List TextLine) (config : Config) → HaveConfig given read config
+    → IsLogBegun given read
+config_begun given read config have = profile_begun given read strict config (strict_profile given read config have)
 
 -- the number of the line behind the last
 behind_last : (lines read : List TextLine) (k n : ℕ) → lines ≡ read → n ≡ length read → k ≡ min (n + 1) (2 ^ 64 - 1)
@@ -85,6 +190,17 @@ module _ (lines : List TextLine) (left : Option (List ℕ)) (s : Streamed) (rule
           ∙ told_one (line_in s) behind.says;
       version = behind.version;
     }
+
+    -- what stops the reading of the line behind it
+    pub header_stops : (given : Option Config) (failure : LogFailure) → IsStopped lines header_lines failure
+        → Fails given lines failure
+    header_stops given failure stopped =
+        stopped_fails given lines header_lines failure
+        (inr (inl (
+          rule,
+          subst (λ (l : List TextLine). HaveHeader l rule) (append-nil header_lines) (have_header [] refl),
+        )))
+        stopped
 
     -- the given configuration isn't within the limits of the header's version
     pub given_config_bad : (given : Config) → in_limits (Some (record given { rule = rule })) ≡ None → (k : ℕ)
@@ -160,10 +276,31 @@ module _ (lines : List TextLine) (left : Option (List ℕ)) (s : Streamed) (rule
         abbrev pub config_lines : List TextLine
         config_lines = (header_lines ++ found.between) ++ line_in new ∷ []
 
-        pub config_stops : (failure : LogFailure)
-            → ((known read : List TextLine) → HasRead known read later new → IsStopped known failure)
+        -- and they are a header and a configuration
+        have_config : (config : Config) → in_limits (config_of rule (line_words (line_in new))) ≡ Some config
+            → HaveConfig None config_lines config
+        have_config config is =
+            let have = have_header found.between found.silent in
+            record {
+              header = have.header;
+              rule = rule;
+              configuration = line_words (line_in new) ∷ [];
+              told_is = told_append (header_lines ++ found.between) (line_in new ∷ [])
+                  ∙ ap (λ (l : List (List (List ℕ))). told (header_lines ++ found.between) ++ l)
+                  (told_one (line_in new) found.at.0)
+                  ∙ ap (λ (l : List (List (List ℕ))). l ++ line_words (line_in new) ∷ []) have.told_is;
+              version = have.version;
+              configured = is;
+            }
+
+        pub config_stops : (config : Config) → in_limits (config_of rule (line_words (line_in new))) ≡ Some config
+            → (failure : LogFailure)
+            → ((known read : List TextLine) → HasRead known read later new → IsStopped known read failure)
             → Fails None lines failure
-        config_stops failure stops = stopped_fails None lines failure (stops lines config_lines found.at.1)
+        config_stops config is failure stops =
+            stopped_fails None lines config_lines failure
+            (config_begun None config_lines config (have_config config is))
+            (stops lines config_lines found.at.1)
 
         pub own_config_found : (config : Config) → in_limits (config_of rule (line_words (line_in new))) ≡ Some config
             → (last : Option (List ℕ)) (end : Streamed) (has_line : Bool)
@@ -171,20 +308,16 @@ module _ (lines : List TextLine) (left : Option (List ℕ)) (s : Streamed) (rule
             → IsBehindConfig None lines last end config has_line
         own_config_found config is last end has_line next =
             let more : FindsTold lines config_lines last end has_line = next lines config_lines found.at.1 in
-            let have = have_header found.between found.silent in
+            let have = have_config config is in
             record {
               read = config_lines ++ more.between;
               head = record {
                 header = have.header;
-                rule = rule;
-                configuration = line_words (line_in new) ∷ [];
-                told_is = told_silent config_lines more.between more.silent
-                    ∙ told_append (header_lines ++ found.between) (line_in new ∷ [])
-                    ∙ ap (λ (l : List (List (List ℕ))). told (header_lines ++ found.between) ++ l)
-                    (told_one (line_in new) found.at.0)
-                    ∙ ap (λ (l : List (List (List ℕ))). l ++ line_words (line_in new) ∷ []) have.told_is;
+                rule = have.rule;
+                configuration = have.configuration;
+                told_is = told_silent config_lines more.between more.silent ∙ have.told_is;
                 version = have.version;
-                configured = is;
+                configured = have.configured;
               };
               at = more.at;
             }
@@ -209,28 +342,9 @@ profile_fault (word ∷ words) fault is =
 
 module _ (given : Option Config) (lines : List TextLine) (left : Option (List ℕ)) (s : Streamed) (config : Config) where
   pub no_profile : (has_line : Bool) → IsBehindConfig given lines left s config has_line
-      → IsBehindHead given lines left s strict config has_line
+      → IsBehindProfile given lines left s strict config has_line
   no_profile has_line behind =
-      let have = behind.head in
-      record {
-        read = behind.read;
-        log = record {
-          row_words = [];
-          log = record {
-            header = have.header;
-            rule = have.rule;
-            configuration = have.configuration;
-            profiling = [];
-            parts = have.told_is ∙ sym (append-nil (have.header ∷ have.configuration))
-                ∙ sym (append-nil ((have.header ∷ have.configuration) ++ []));
-            version = have.version;
-            configured = have.configured;
-            profiled = refl;
-          };
-          are_rows = tt;
-        };
-        at = behind.at;
-      }
+      record { read = behind.read; head = strict_profile given behind.read config behind.head; at = behind.at }
 
   module _ (behind : IsBehindConfig given lines left s config true) where
     -- the lines that were read up to the profile's
@@ -247,38 +361,116 @@ module _ (given : Option Config) (lines : List TextLine) (left : Option (List �
         × (profile_of (line_words line) ≡ Some (Err BadProfile)))
         ((config, behind.head), bad))))
 
-    pub profile_stops : (failure : LogFailure)
-        → ((known read : List TextLine) → HasRead known read left s → IsStopped known failure)
+    -- and they are a header, a configuration and a profile
+    have_profile : (profile : Profile) → profile_of (line_words (line_in s)) ≡ Some (Ok profile)
+        → HaveProfile given profile_lines profile config
+    have_profile profile is =
+        let words = line_words (line_in s) in
+        let have = behind.head in
+        record {
+          header = have.header;
+          rule = have.rule;
+          configuration = have.configuration;
+          profiling = words ∷ [];
+          told_is = told_append behind.read (line_in s ∷ [])
+              ∙ ap (λ (l : List (List (List ℕ))). told behind.read ++ l) (told_one (line_in s) behind.at.0)
+              ∙ ap (λ (l : List (List (List ℕ))). l ++ words ∷ []) have.told_is;
+          version = have.version;
+          configured = have.configured;
+          profiled = is;
+        }
+
+    pub profile_stops : (profile : Profile) → profile_of (line_words (line_in s)) ≡ Some (Ok profile)
+        → (failure : LogFailure)
+        → ((known read : List TextLine) → HasRead known read left s → IsStopped known read failure)
         → Fails given lines failure
-    profile_stops failure stops = stopped_fails given lines failure (stops lines profile_lines behind.at.1)
+    profile_stops profile is failure stops =
+        stopped_fails given lines profile_lines failure
+        (profile_begun given profile_lines profile config (have_profile profile is))
+        (stops lines profile_lines behind.at.1)
 
     pub profile_found : (profile : Profile) → profile_of (line_words (line_in s)) ≡ Some (Ok profile)
         → (later : Option (List ℕ)) (new : Streamed) (has_row : Bool)
         → ((known read : List TextLine) → HasRead known read left s → FindsTold known read later new has_row)
-        → IsBehindHead given lines later new profile config has_row
+        → IsBehindProfile given lines later new profile config has_row
     profile_found profile is later new has_row next =
         let found : FindsTold lines profile_lines later new has_row = next lines profile_lines behind.at.1 in
-        let words = line_words (line_in s) in
-        let have = behind.head in
+        let have = have_profile profile is in
         record {
           read = profile_lines ++ found.between;
-          log = record {
-            row_words = [];
-            log = record {
-              header = have.header;
-              rule = have.rule;
-              configuration = have.configuration;
-              profiling = words ∷ [];
-              parts = told_silent profile_lines found.between found.silent
-                  ∙ told_append behind.read (line_in s ∷ [])
-                  ∙ ap (λ (l : List (List (List ℕ))). told behind.read ++ l) (told_one (line_in s) behind.at.0)
-                  ∙ ap (λ (l : List (List (List ℕ))). l ++ words ∷ []) have.told_is
-                  ∙ sym (append-nil ((have.header ∷ have.configuration) ++ words ∷ []));
-              version = have.version;
-              configured = have.configured;
-              profiled = is;
-            };
-            are_rows = tt;
+          head = record {
+            header = have.header;
+            rule = have.rule;
+            configuration = have.configuration;
+            profiling = have.profiling;
+            told_is = told_silent profile_lines found.between found.silent ∙ have.told_is;
+            version = have.version;
+            configured = have.configured;
+            profiled = have.profiled;
           };
           at = found.at;
         }
+
+-- ---- names
+
+module _ (given : Option Config) (lines : List TextLine) (left : Option (List ℕ)) (s : Streamed) (profile : Profile)
+    (config : Config)
+  where
+    pub no_naming : (has_line : Bool) → IsBehindProfile given lines left s profile config has_line
+        → IsBehindHead given lines left s profile config false has_line
+    no_naming has_line behind =
+        record {
+          read = behind.read;
+          log = unnamed_log given behind.read profile config behind.head;
+          at = behind.at;
+        }
+
+    module _ (behind : IsBehindProfile given lines left s profile config true)
+        (says_so : is_naming_line (line_words (line_in s)) ≡ true)
+      where
+        -- the lines that were read up to the one that says so
+        abbrev pub naming_lines : List TextLine
+        naming_lines = behind.read ++ line_in s ∷ []
+
+        named_log : (between : List TextLine) → told between ≡ []
+            → IsLog given (told (naming_lines ++ between)) profile config true []
+        named_log between silent =
+            let words = line_words (line_in s) in
+            let have = behind.head in
+            record {
+              header = have.header;
+              rule = have.rule;
+              configuration = have.configuration;
+              profiling = have.profiling;
+              naming = words ∷ [];
+              parts = told_silent naming_lines between silent
+                  ∙ told_append behind.read (line_in s ∷ [])
+                  ∙ ap (λ (l : List (List (List ℕ))). told behind.read ++ l) (told_one (line_in s) behind.at.0)
+                  ∙ ap (λ (l : List (List (List ℕ))). l ++ words ∷ []) have.told_is
+                  ∙ sym (append-nil (((have.header ∷ have.configuration) ++ have.profiling) ++ words ∷ []));
+              version = have.version;
+              configured = have.configured;
+              profiled = have.profiled;
+              named_is = (says_so, refl);
+            }
+
+        pub naming_stops : (failure : LogFailure)
+            → ((known read : List TextLine) → HasRead known read left s → IsStopped known read failure)
+            → Fails given lines failure
+        naming_stops failure stops =
+            stopped_fails given lines naming_lines failure
+            (log_begun given naming_lines profile config true
+            (subst (λ (l : List TextLine). IsLog given (told l) profile config true []) (append-nil naming_lines)
+            (named_log [] refl)))
+            (stops lines naming_lines behind.at.1)
+
+        pub naming_found : (later : Option (List ℕ)) (new : Streamed) (has_row : Bool)
+            → ((known read : List TextLine) → HasRead known read left s → FindsTold known read later new has_row)
+            → IsBehindHead given lines later new profile config true has_row
+        naming_found later new has_row next =
+            let found : FindsTold lines naming_lines later new has_row = next lines naming_lines behind.at.1 in
+            record {
+              read = naming_lines ++ found.between;
+              log = named_log found.between found.silent;
+              at = found.at;
+            }

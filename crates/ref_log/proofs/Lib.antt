@@ -1,6 +1,5 @@
 pub mod ByteCuts
 pub mod Parting
-pub mod OneStep
 pub mod RowLaws
 mod LogExamples
 pub mod Common
@@ -10,7 +9,13 @@ pub mod StreamLemmas
 mod Examples
 pub mod ReadLines
 pub mod HeadLines
+pub mod LineWords
+pub mod NameLemmas
+pub mod GivenNames
+mod NameExamples
+pub mod NamedLines
+mod NamedExamples
 pub mod PlacedRows
-pub mod JudgedLines
 pub mod OneRow
 pub mod PlacedBatches
+pub mod JudgedLines

@@ -14,7 +14,7 @@ use Rattle.ref_base.specs.declared.row.Row.{Row}
 use Rattle.ref_base.specs.declared.step.Step.TheVariants.{Puts}
 use Rattle.ref_judge.specs.Judged.{Judged, put_for}
 use Rattle.ref_log.specs.LogRows.{SpellsRow}
-use Rattle.ref_log.specs.WorldRows.{in_script}
+use Rattle.ref_log.specs.RowTexts.{in_script}
 use Rattle.ref_script.specs.Lines.{words_of}
 use Rattle.ref_script.specs.ReplyKinds.{IsToldSo, is_of_kind, reply_kind_of}
 use Rattle.ref_script.specs.declared.reply_kind.ReplyKind.{ReplyKind}

@@ -3,9 +3,11 @@ use Rattle.std.proofs.Common.{◌≡◌, ℕ, ◌+◌, Bool, true, false, List, 
 use Rattle.std.proofs.Common.{Ok, Err, IfSome, refl, sym, ap, ◌∙◌, subst, arith, append_assoc, append-nil}
 use Rattle.std.proofs.Common.{length-append, inl, inr, ◌==◌, ◌&&◌}
 use Rattle.std.proofs.lemmas.Bool.{cases_Bool, and_parts, false≢true}
-use Rattle.ref_log.specs.ReadLines.{AtLine, HasRead, IsPast, FindsTold, IsUnplain}
+use Rattle.ref_log.specs.ReadLines.{AtLine, HasRead, IsPast, IsStopped, FindsTold, IsUnplain}
 use Rattle.ref_log.specs.StreamAnswers.{Advances, CountsLine}
 use Rattle.ref_log.specs.Streams.{Streamed, line_in}
+use Rattle.ref_log.specs.declared.failure.LogFailure.{LogFailure}
+use Rattle.ref_log.specs.declared.failure.LogFailure.TheVariants.{Line, CutOff, CannotRead, NoMemory}
 use Rattle.ref_log.specs.declared.fault.LogFault.TheVariants.{LineTooLong}
 use Rattle.ref_log.specs.declared.stream.StreamFault.TheVariants.{TooLong}
 use Rattle.ref_script.specs.Lines.{TextLine, lines_of, onto_line}
@@ -66,7 +68,8 @@ module _ (lines read : List TextLine) (left : Option (List ℕ)) (s : Streamed) 
         (has.parts ∙ ap (λ (text : List ℕ). read ++ lines_of text) a.0 ∙ append-nil read, counts ∙ has.number)
 
     pub advance_too_long : IfSome left (λ rest. Advances (s.held ++ rest) later new (Err TooLong))
-        → CountsLine s.number new.number (Err TooLong) → AtLine lines new.number (IsUnplain LineTooLong)
+        → CountsLine s.number new.number (Err TooLong)
+        → AtLine lines new.number (λ front line. IsUnplain LineTooLong line × (told front ≡ told read))
     advance_too_long advances counts =
         let a : Advances (s.held ++ has.rest) later new (Err TooLong) =
         subst (λ (o : Option (List ℕ)). IfSome o (λ rest. Advances (s.held ++ rest) later new (Err TooLong)))
@@ -77,7 +80,7 @@ module _ (lines read : List TextLine) (left : Option (List ℕ)) (s : Streamed) 
           back = a.later;
           parts = has.parts ∙ ap (λ (l : List TextLine). read ++ l) a.lines;
           number = counts ∙ ap (λ (n : ℕ). n + 1) has.number;
-          has = a.too_long;
+          has = (a.too_long, refl);
         }
 
 -- the line that was read last is at its number
@@ -164,6 +167,21 @@ open_is_last lines read left s has open_ended =
     parts ∙ ap (λ (l : List TextLine). read ++ line_in s ∷ l) none
 
 -- ---- up to one that says something
+
+-- lines that say nothing don't tell where the reading stopped
+pub stopped_behind : (lines read between : List TextLine) → told between ≡ [] → (failure : LogFailure)
+    → IsStopped lines (read ++ between) failure → IsStopped lines read failure
+stopped_behind lines read between silent (Line k fault) stopped = record {
+  front = stopped.front;
+  line = stopped.line;
+  back = stopped.back;
+  parts = stopped.parts;
+  number = stopped.number;
+  has = (stopped.has.0, stopped.has.1 ∙ told_silent read between silent);
+}
+stopped_behind lines read between silent (CutOff rows line) stopped = absurd stopped
+stopped_behind lines read between silent CannotRead stopped = tt
+stopped_behind lines read between silent NoMemory stopped = tt
 
 module _ (lines read : List TextLine) (left : Option (List ℕ)) (s : Streamed) (passed : HasPassed lines read left s)
     (later : Option (List ℕ)) (new : Streamed)

@@ -2,13 +2,16 @@
 use Rattle.ref_script.proofs.Common.{◌≡◌, ℕ, ◌++◌, Bool, true, false, List, [], ◌∷◌, Option, Some, None, refl, sym, ap}
 use Rattle.ref_script.proofs.Common.{◌∙◌, arith, cases_Bool, inl, inr, bytes_eq, bytes_eq-Decides, subst, step_fault}
 use Rattle.ref_script.proofs.Common.{SpellsScriptStep, LineFault}
+use Rattle.ref_script.proofs.OneReading.{one_step}
 use Rattle.ref_script.proofs.Spelt.{spelt_without_fault}
 use Rattle.ref_script.specs.ReplyKinds.{IsToldSo, NoneIsToldSo, reply_kind_of}
 use Rattle.ref_script.specs.declared.script_step.ScriptRow.{ScriptRow}
 use Rattle.ref_script.specs.declared.script_step.ScriptStep.{ScriptStep}
+use Rattle.ref_log.specs.JudgedRows.{IsRowRead}
+use Rattle.ref_log.specs.declared.fault.LogFault.{LogFault}
+use Rattle.std.proofs.Common.{IfErr, MatchResult, Result, Ok, Err}
 use Rattle.ref_log.specs.LogRows.{Parts, SpellsNoRow, SpellsRow, colon, no_colon, no_padding, onto_front, parted}
 use Rattle.ref_log.specs.LogRows.{parts_fault, row_fault, step_or_reply_fault, unnumbered}
-use Rattle.ref_log.proofs.OneStep.{one_step}
 
 -- the words are those of the parts with the first colon between them
 record AreOfParts (words : List (List ℕ)) (parts : Parts) : Type 0 where
@@ -113,3 +116,10 @@ module _ (words behind : List (List ℕ)) (behind_is : behind ≡ unnumbered wor
         let told : IsToldSo (reply_kind_of row.step) parts.back row.reply =
         subst (λ (ws : List (List ℕ)). IsToldSo (reply_kind_of row.step) ws row.reply) own.1 spells.reply in
         none row.reply (subst (λ (s : ScriptStep). IsToldSo (reply_kind_of s) parts.back row.reply) same told)
+
+-- what is read of words as a row is the row that they spell, or why they spell none
+pub is_spelt : (words : List (List ℕ)) (read : Result ScriptRow LogFault)
+    → MatchResult read (SpellsRow words) (λ _. SpellsNoRow words) → IfErr read (λ fault. fault ≡ row_fault words)
+    → IsRowRead words read
+is_spelt words (Ok row) spelt fault = spelt
+is_spelt words (Err fault) none is = (none, is)

@@ -1,16 +1,17 @@
 -- What is said of a log, the text of a trace of a collector (this project's profile).
-use Rattle.std.specs.Prelude.{◌≡◌, ℕ, ◌+◌, ◌-◌, ◌^◌, min, true, false, if◌then◌else◌, List, [], ◌∷◌, ◌++◌, length}
+use Rattle.std.specs.Prelude.{◌≡◌, ℕ, ◌+◌, ◌-◌, ◌^◌, min, Bool, true, false, if◌then◌else◌, List, [], ◌∷◌, ◌++◌, length}
 use Rattle.std.specs.Prelude.{Option, Some, None, Result, Ok, Err, ◌⊎◌}
 use Rattle.ref_base.specs.declared.config.Config.{Config}
 use Rattle.ref_base.specs.declared.row.Row.{Row}
 use Rattle.ref_base.specs.declared.span_rule.SpanRule.{SpanRule}
 use Rattle.ref_base.specs.declared.span_rule.SpanRule.TheVariants.{Scaled}
 use Rattle.ref_judge.specs.ProfiledRows.{IsLegalAs, strict}
-use Rattle.ref_judge.specs.Verdicts.{NamesOnlyAnswer}
+use Rattle.ref_judge.specs.Verdicts.{NamesAnswerBehind}
 use Rattle.ref_judge.specs.declared.profile.Profile.{Profile}
-use Rattle.ref_log.specs.LogHeads.{begins_config, rule_of, profile_of}
+use Rattle.ref_log.specs.LogHeads.{begins_config, rule_of, profile_of, is_naming_line, first_names}
+use Rattle.ref_log.specs.NamedRows.{AreRows, SpellsNone}
+use Rattle.ref_log.specs.Names.{Given}
 use Rattle.ref_log.specs.ReadLines.{AtLine, IsUnplain}
-use Rattle.ref_log.specs.WorldRows.{AreRows, IsRowFault}
 use Rattle.ref_log.specs.declared.failure.Finding.{Finding}
 use Rattle.ref_log.specs.declared.failure.LogFailure.{LogFailure}
 use Rattle.ref_log.specs.declared.failure.LogFailure.TheVariants.{Line, CutOff, CannotRead, NoMemory}
@@ -62,29 +63,51 @@ IsProfiled [] profile = profile ≡ strict
 IsProfiled (words ∷ []) profile = profile_of words ≡ Some (Ok profile)
 IsProfiled (words ∷ other ∷ more) profile = ⊥
 
+-- whether objects have names behind that: a line says so, or none does
+abbrev pub IsNamed : List (List (List ℕ)) → Bool → Type 0
+IsNamed [] named = named ≡ false
+IsNamed (words ∷ []) named = (is_naming_line words ≡ true) × (named ≡ true)
+IsNamed (words ∷ other ∷ more) named = ⊥
+
+-- what the lines say is a header, a configuration unless it was given, and a profile if there is one
+pub record HaveProfile (given : Option Config) (lines : List TextLine) (profile : Profile) (config : Config) : Type 0
+  where
+    pub header : List (List ℕ)
+    pub rule : SpanRule
+    pub configuration : List (List (List ℕ))
+    pub profiling : List (List (List ℕ))
+    pub told_is : told lines ≡ header ∷ configuration ++ profiling
+    pub version : rule_of header ≡ Some rule
+    pub configured : IsConfigured given rule configuration config
+    pub profiled : IsProfiled profiling profile
+
 -- The words of the lines that say something are those of a log: a header, a configuration unless it was given, a
--- profile if there is one, and rows.
+-- profile if there is one, a line that says that objects have names if there is one, and rows.
 pub record IsLog (given : Option Config) (words : List (List (List ℕ))) (profile : Profile) (config : Config)
-    (row_words : List (List (List ℕ)))
+    (named : Bool) (row_words : List (List (List ℕ)))
     : Type 0
   where
     pub header : List (List ℕ)
     pub rule : SpanRule
     pub configuration : List (List (List ℕ))
     pub profiling : List (List (List ℕ))
-    pub parts : words ≡ header ∷ configuration ++ profiling ++ row_words
+    pub naming : List (List (List ℕ))
+    pub parts : words ≡ header ∷ configuration ++ profiling ++ naming ++ row_words
     pub version : rule_of header ≡ Some rule
     pub configured : IsConfigured given rule configuration config
     pub profiled : IsProfiled profiling profile
+    pub named_is : IsNamed naming named
 
--- the lines are those of a log of these rows
+-- the lines are those of a log of so many rows, which are these of the collector, and the names then are these
 pub record IsLogOf (given : Option Config) (lines : List TextLine) (profile : Profile) (config : Config)
-    (rows : List Row)
+    (rows : List Row) (names : Option (List Given)) (count : ℕ)
     : Type 0
   where
+    pub named : Bool
     pub row_words : List (List (List ℕ))
-    pub log : IsLog given (told lines) profile config row_words
-    pub are_rows : AreRows row_words rows
+    pub log : IsLog given (told lines) profile config named row_words
+    pub are_rows : AreRows profile config (first_names named) row_words rows names
+    pub count_is : length row_words ≡ count
 
 -- ---- what is said of it
 
@@ -93,13 +116,12 @@ pub record AreLegalLines (given : Option Config) (lines : List TextLine) (count 
   pub profile : Profile
   pub config : Config
   pub rows : List Row
-  pub log : IsLogOf given lines profile config rows
-  pub count_is : length rows ≡ count
+  pub names : Option (List Given)
+  pub log : IsLogOf given lines profile config rows names count
   pub legal : IsLegalAs profile config rows
 
 -- Up to this line they are those of a log whose last row is this one. Whatever rows the words of these lines spell,
--- they aren't legal. The rows in front of the last are. The answer that is named would have been legal instead, and no
--- other.
+-- they aren't legal. The rows in front of the last are. The answer that is named would have been legal instead.
 pub record IsIllegalAt (given : Option Config) (lines : List TextLine) (finding : Finding) : Type 0 where
   pub read : List TextLine
   pub unread : List TextLine
@@ -108,15 +130,22 @@ pub record IsIllegalAt (given : Option Config) (lines : List TextLine) (finding 
   pub profile : Profile
   pub config : Config
   pub front : List Row
-  pub number : length front + 1 ≡ finding.number
-  pub row_words : List (List (List ℕ))
-  pub log : IsLog given (told read) profile config row_words
-  pub are_rows : AreRows row_words (front ++ finding.row ∷ [])
+  pub names : Option (List Given)
+  pub log : IsLogOf given read profile config (front ++ finding.row ∷ []) names finding.number
   pub legal_before : IsLegalAs profile config front
-  pub illegal_with : (rows : List Row) → AreRows row_words rows → ¬ (IsLegalAs profile config rows)
-  pub instead : NamesOnlyAnswer profile config front finding.row.step finding.breach.legal
+  pub illegal_with :
+      (rows : List Row) (others : Option (List Given))
+      → AreRows profile config (first_names log.named) log.row_words rows others → ¬ (IsLegalAs profile config rows)
+  pub instead : NamesAnswerBehind profile config front finding.row.step finding.breach.instead
 
--- the lines in front are those of a legal log of so many rows, and the last line has no LF and spells no row
+-- the lines in front are those of a legal log of so many rows, and the line spells no row
+pub record IsNoRowOf (given : Option Config) (rows : ℕ) (fault : LogFault) (front : List TextLine) (line : TextLine)
+    : Type 0
+  where
+    pub judged : AreLegalLines given front rows
+    pub none : SpellsNone judged.profile judged.config judged.rows judged.names (line_words line) fault
+
+-- the last line is such a one, and has no LF
 pub record IsCutOff (given : Option Config) (lines : List TextLine) (rows line : ℕ) : Type 0 where
   pub front : List TextLine
   pub last : TextLine
@@ -124,13 +153,7 @@ pub record IsCutOff (given : Option Config) (lines : List TextLine) (rows line :
   pub number : line ≡ length front + 1
   pub open_ended : last.is_ended ≡ false
   pub fault : LogFault
-  pub faulty : IsRowFault (line_words last) fault
-  pub judged : AreLegalLines given front rows
-
--- the lines in front are those of a legal log, and the line spells no row
-abbrev pub IsNoRowOf : Option Config → LogFault → List TextLine → TextLine → Type 0
-IsNoRowOf given fault front line =
-    IsRowFault (line_words line) fault × ((count : ℕ) × AreLegalLines given front count)
+  pub faulty : IsNoRowOf given rows fault front last
 
 -- the number of the line behind the last, as far as numbers go
 abbrev pub IsBehindLast : List TextLine → ℕ → Type 0
@@ -167,10 +190,17 @@ IsHeadFault given BadWord lines k = ⊥
 IsHeadFault given ExtraWord lines k = ⊥
 IsHeadFault given NoReply lines k = ⊥
 
+-- the lines are those of a legal log, or begin one: they say nothing, or a header
+abbrev pub IsLogBegun : Option Config → List TextLine → Type 0
+IsLogBegun given lines =
+    (told lines ≡ []) ⊎ (((rule : SpanRule) × HaveHeader lines rule) ⊎ ((count : ℕ) × AreLegalLines given lines count))
+
 -- why there is no verdict on a log of these lines
 abbrev pub Fails : Option Config → List TextLine → LogFailure → Type 0
 Fails given lines (Line k fault) =
-    AtLine lines k (IsUnplain fault) ⊎ (IsHeadFault given fault lines k ⊎ AtLine lines k (IsNoRowOf given fault))
+    AtLine lines k (λ front line. IsUnplain fault line × IsLogBegun given front)
+    ⊎ (IsHeadFault given fault lines k
+    ⊎ AtLine lines k (λ front line. (rows : ℕ) × IsNoRowOf given rows fault front line))
 Fails given lines (CutOff rows line) = IsCutOff given lines rows line
 Fails given lines CannotRead = Unit {0}
 Fails given lines NoMemory = Unit {0}

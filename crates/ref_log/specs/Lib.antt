@@ -3,8 +3,11 @@ pub mod StreamAnswers
 pub mod LogFaults
 pub mod LogRows
 pub mod LogHeads
-pub mod WorldRows
+pub mod Names
+pub mod NameViews
+pub mod NamedRows
 pub mod RowTexts
+pub mod JudgedRows
 pub mod ReadLines
 pub mod Failures
 pub mod Checking

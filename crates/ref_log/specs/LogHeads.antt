@@ -1,4 +1,5 @@
--- The lines of a log in front of its rows (this project's profile): its header and its profile.
+-- The lines of a log in front of its rows (this project's profile): its header, its profile, and whether objects have
+-- names.
 use Rattle.std.specs.Prelude.{ℕ, Bool, true, false, if◌then◌else◌, List, [], ◌∷◌, Option, Some, None, codes}
 use Rattle.std.specs.Prelude.{Result, Ok, Err}
 use Rattle.std.specs.Option.{option_and_then}
@@ -9,6 +10,7 @@ use Rattle.ref_judge.specs.ProfiledRows.{strict}
 use Rattle.ref_judge.specs.declared.order.Order.{Order}
 use Rattle.ref_judge.specs.declared.order.Order.TheVariants.{First, Last, Any}
 use Rattle.ref_judge.specs.declared.profile.Profile.{Profile}
+use Rattle.ref_log.specs.Names.{Given}
 use Rattle.ref_log.specs.declared.fault.LogFault.{LogFault}
 use Rattle.ref_log.specs.declared.fault.LogFault.TheVariants.{BadProfile}
 use Rattle.ref_script.specs.ToldLines.{is_titled}
@@ -60,3 +62,12 @@ abbrev pub profile_of : List (List ℕ) → Option (Result Profile LogFault)
 profile_of [] = None
 profile_of (word ∷ words) =
     if bytes_eq word (codes "profile") then Some (profile_or_fault (with_words strict words)) else None
+
+-- a line that says that objects have names of the collector's own
+abbrev pub is_naming_line : List (List ℕ) → Bool
+is_naming_line words = is_titled (codes "names") (codes "any") words
+
+-- the names that were given at first: none, where objects have names
+abbrev pub first_names : Bool → Option (List Given)
+first_names true = Some []
+first_names false = None

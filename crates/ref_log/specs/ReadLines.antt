@@ -49,24 +49,25 @@ pub record FindsTold (lines read : List TextLine) (left : Option (List ℕ)) (s 
     pub at : IsAt lines (read ++ between) left s is_told
 
 -- what a line is that no line of a log may be, whatever it says
-abbrev pub IsUnplain : LogFault → List TextLine → TextLine → Type 0
-IsUnplain LineTooLong front line = most_in_line < length line.bytes
-IsUnplain NotAscii front line = is_ascii_line line ≡ false
-IsUnplain BadHeader front line = ⊥
-IsUnplain BadConfig front line = ⊥
-IsUnplain BadProfile front line = ⊥
-IsUnplain UnknownStep front line = ⊥
-IsUnplain MissingWord front line = ⊥
-IsUnplain BadWord front line = ⊥
-IsUnplain ExtraWord front line = ⊥
-IsUnplain NoReply front line = ⊥
+abbrev pub IsUnplain : LogFault → TextLine → Type 0
+IsUnplain LineTooLong line = most_in_line < length line.bytes
+IsUnplain NotAscii line = is_ascii_line line ≡ false
+IsUnplain BadHeader line = ⊥
+IsUnplain BadConfig line = ⊥
+IsUnplain BadProfile line = ⊥
+IsUnplain UnknownStep line = ⊥
+IsUnplain MissingWord line = ⊥
+IsUnplain BadWord line = ⊥
+IsUnplain ExtraWord line = ⊥
+IsUnplain NoReply line = ⊥
 
--- a line was to be read and wasn't: it is too long, or not ASCII, or the read failed, or memory did
-abbrev pub IsStopped : List TextLine → LogFailure → Type 0
-IsStopped lines (Line k fault) = AtLine lines k (IsUnplain fault)
-IsStopped lines (CutOff rows line) = ⊥
-IsStopped lines CannotRead = Unit {0}
-IsStopped lines NoMemory = Unit {0}
+-- behind what was read a line was to be read and wasn't: it is too long, or not ASCII, and the lines between say
+-- nothing; or the read failed, or memory did
+abbrev pub IsStopped : List TextLine → List TextLine → LogFailure → Type 0
+IsStopped lines read (Line k fault) = AtLine lines k (λ front line. IsUnplain fault line × (told front ≡ told read))
+IsStopped lines read (CutOff rows line) = ⊥
+IsStopped lines read CannotRead = Unit {0}
+IsStopped lines read NoMemory = Unit {0}
 
 -- each line that was read has a number that is greater than those before
 abbrev pub CountsOn : ℕ → ℕ → Result Bool LogFailure → Type 0

@@ -1,32 +1,23 @@
 -- What the text of a row tells: all of the row, but for how many notices were put in before a batch of which none was
 -- added (this project's profile).
-use Rattle.std.specs.Prelude.{◌≡◌, ◌⊎◌, ℕ, false, List}
+use Rattle.std.specs.Prelude.{◌≡◌, false}
 use Rattle.std.specs.List.{list_any}
 use Rattle.ref_base.specs.Outs.{Outs, is_added}
 use Rattle.ref_base.specs.declared.actor.Actor.{Actor}
-use Rattle.ref_base.specs.declared.out.Done.{Done}
 use Rattle.ref_base.specs.declared.reply.Reply.TheVariants as replies
 use Rattle.ref_base.specs.declared.row.Row.{Row}
 use Rattle.ref_base.specs.declared.step.Step.TheVariants.{Puts}
 use Rattle.ref_judge.specs.Judged.{Judged, put_for}
-use Rattle.ref_script.specs.declared.script_step.ScriptReply.{ScriptReply}
-use Rattle.ref_script.specs.declared.script_step.ScriptReply.TheVariants.{World}
+use Rattle.ref_script.specs.SameReplies.{IsSameReply}
+use Rattle.ref_script.specs.declared.script_step.ScriptReply.TheVariants as said
 use Rattle.ref_script.specs.declared.script_step.ScriptRow.{ScriptRow}
+use Rattle.ref_script.specs.declared.script_step.ScriptStep.TheVariants as script
 
--- what became of each notice is the same in both batches, and none was added
-pub record AddNone (one other : ScriptReply) : Type 0 where
-  pub before : ℕ
-  pub other_before : ℕ
-  pub done : List Done
-  pub none_added : list_any is_added done ≡ false
-  pub one_is : one ≡ World (replies.Outs (record { before = before; done = done }))
-  pub other_is : other ≡ World (replies.Outs (record { before = other_before; done = done }))
+-- a row of the world as a row of a script
+abbrev pub in_script : Row → ScriptRow
+in_script row = record { step = script.World row.step; reply = said.World row.reply }
 
--- the replies are the same, but for what such batches don't tell
-abbrev pub IsSameReply : ScriptReply → ScriptReply → Type 0
-IsSameReply one other = (one ≡ other) ⊎ AddNone one other
-
--- and the rows are
+-- the rows are the same, but for what such batches don't tell
 pub record IsSameRow (one other : ScriptRow) : Type 0 where
   pub step : one.step ≡ other.step
   pub reply : IsSameReply one.reply other.reply

@@ -1,8 +1,10 @@
 //! Why there is no verdict on a log.
 
+use crate::called::Called;
 use crate::fault::LogFault;
+use crate::history::Because;
 use ref_base::Row;
-use ref_judge::Breach;
+use ref_judge::{Breach, Instead};
 use std::alloc::AllocError;
 use std::fmt;
 use thiserror::Error;
@@ -71,8 +73,33 @@ pub struct Finding {
     pub line: u64,
     /// The row.
     pub row: Row,
-    /// The rule that it breaks, and the answer that alone would have been legal, where the collector had no choice.
+    /// The rule that it breaks, and an answer that would have been legal.
     pub breach: Breach,
+    /// The earlier row that settled it, if one did and is known.
+    pub because: Option<Because>,
+    /// What objects are called that the row and that answer name, where objects have names.
+    pub called: [Option<Called>; 2],
+}
+
+impl Finding {
+    ghost use Rattle.std.specs.Prelude.{◌≡◌};
+
+    /// A finding of this row without a reason or a name.
+    pub(crate) fn bare(number: u64, line: u64, row: Row, breach: Breach) -> Self
+        ensures number { result.number ≡ number }
+        ensures line { result.line ≡ line }
+        ensures row { result.row ≡ row }
+        ensures breach { result.breach ≡ breach }
+    {
+        Finding {
+            number,
+            line,
+            row,
+            breach,
+            because: None,
+            called: [None, None],
+        }
+    }
 }
 
 impl Verdict {
@@ -103,9 +130,18 @@ impl fmt::Display for Finding {
             self.number, self.line, self.row
         )?;
         write!(f, "rule: {}", self.breach.rule)?;
-        match self.breach.legal {
-            Some(reply) => write!(f, "\nlegal here: {reply}"),
-            None => Ok(()),
+        match self.breach.instead {
+            Instead::Only(reply) => write!(f, "\nlegal here: {reply}")?,
+            Instead::Among(reply) => write!(f, "\nlegal here, for one: {reply}")?,
+            Instead::Untold => {}
+        }
+        if let Some(because) = self.because {
+            write!(f, "\nbecause: {because}")?;
+        }
+        match self.called {
+            [Some(one), Some(other)] => write!(f, "\nnames: {one}, {other}"),
+            [Some(one), None] | [None, Some(one)] => write!(f, "\nnames: {one}"),
+            [None, None] => Ok(()),
         }
     }
 }

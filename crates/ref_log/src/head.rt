@@ -1,10 +1,11 @@
-//! The head of a log: its header, its configuration and its profile.
+//! The head of a log: its header, its configuration, its profile, and whether objects have names.
 
 ghost use Rattle.std.specs.Prelude.{◌≡◌, ◌||◌, [], Some, List, Option, MatchResult, MatchOption};
 ghost use Rattle.ref_base.specs.declared.config.Config.{Config as Configuration};
 ghost use Rattle.ref_log.specs.Checking.{Fails, in_limits};
 ghost use Rattle.ref_log.specs.Failures.{is_unread};
-ghost use Rattle.ref_log.specs.HeadReading.{IsBehindConfig, IsBehindHead, IsBehindHeader};
+ghost use Rattle.ref_judge.specs.declared.profile.Profile.{Profile as Loosened};
+ghost use Rattle.ref_log.specs.HeadReading.{IsBehindConfig, IsBehindHead, IsBehindHeader, IsBehindProfile};
 ghost use Rattle.ref_log.specs.LogHeads.{begins_config};
 ghost use Rattle.ref_log.specs.ReadLines.{HasRead};
 ghost use Rattle.ref_script.specs.Lines.{TextLine, words_of};
@@ -12,7 +13,7 @@ ghost use Rattle.ref_script.specs.Scripts.{config_of};
 
 use crate::failure::LogFailure;
 use crate::fault::LogFault;
-use crate::heads::{profile_of, rule_of};
+use crate::heads::{is_naming_line, profile_of, rule_of};
 use crate::stream::LineStream;
 use crate::told::{content, next_told};
 use ref_base::{Config, SpanRule};
@@ -28,6 +29,8 @@ pub struct Head {
     pub config: Config,
     /// The profile.
     pub profile: Profile,
+    /// Whether objects have names of the collector's own.
+    pub is_named: bool,
     /// Whether a line stands behind the head that says something. It is the one that was read last.
     pub has_row: bool,
 }
@@ -40,15 +43,17 @@ pub fn head_of<R: TextSource, A: Allocator>(
 ) -> Result<Head, LogFailure>
     ensures head { (lines : List TextLine) → HasRead lines [] (R.remaining reader.old) stream.old
         → MatchResult result (λ head. IsBehindHead given lines (R.remaining reader.new) stream.new head.profile
-        head.config head.has_row) (Fails given lines) }
+        head.config head.is_named head.has_row) (Fails given lines) }
     ensures failed { R.has_failed reader.new ≡ (R.has_failed reader.old || is_unread result) }
 {
     let rule = header(stream, reader)?;
     let (config, has_line) = configuration(stream, reader, rule, given)?;
-    let (profile, has_row) = profile(stream, reader, has_line)?;
+    let (profile, has_line) = profile(stream, reader, has_line)?;
+    let (is_named, has_row) = naming(stream, reader, has_line)?;
     Ok(Head {
         config,
         profile,
+        is_named,
         has_row,
     })
 }
@@ -168,7 +173,7 @@ fn profile<R: TextSource, A: Allocator>(
 ) -> Result<(Profile, bool), LogFailure>
     ensures profile { (given : Option Configuration) (lines : List TextLine) (config : Configuration)
         → IsBehindConfig given lines (R.remaining reader.old) stream.old config has_line
-        → MatchResult result (λ r. IsBehindHead given lines (R.remaining reader.new) stream.new r.0 config r.1)
+        → MatchResult result (λ r. IsBehindProfile given lines (R.remaining reader.new) stream.new r.0 config r.1)
         (Fails given lines) }
     ensures failed { R.has_failed reader.new ≡ (R.has_failed reader.old || is_unread result) }
 {
@@ -180,4 +185,24 @@ fn profile<R: TextSource, A: Allocator>(
         Some(Ok(profile)) => Ok((profile, next_told(stream, reader)?)),
         Some(Err(_)) => Err(LogFailure::Line(stream.number(), LogFault::BadProfile)),
     }
+}
+
+/// Reads up to the line behind the one that says that objects have names, if the line that was read last does. Answers
+/// whether it does, and whether there is a line.
+fn naming<R: TextSource, A: Allocator>(
+    stream: &mut LineStream<A>,
+    reader: &mut R,
+    has_line: bool,
+) -> Result<(bool, bool), LogFailure>
+    ensures naming { (given : Option Configuration) (lines : List TextLine) (profile : Loosened)
+        (config : Configuration)
+        → IsBehindProfile given lines (R.remaining reader.old) stream.old profile config has_line
+        → MatchResult result (λ r. IsBehindHead given lines (R.remaining reader.new) stream.new profile config r.0 r.1)
+        (Fails given lines) }
+    ensures failed { R.has_failed reader.new ≡ (R.has_failed reader.old || is_unread result) }
+{
+    if !has_line || !is_naming_line(content(stream)) {
+        return Ok((false, has_line));
+    }
+    Ok((true, next_told(stream, reader)?))
 }

@@ -1,8 +1,9 @@
-//! The lines of a log in front of its rows: its header and its profile.
+//! The lines of a log in front of its rows: its header, its profile, and whether objects have names.
 
 ghost use Rattle.std.specs.Prelude.{◌≡◌};
 ghost use Rattle.ref_judge.specs.ProfiledRows.{strict};
-ghost use Rattle.ref_log.specs.LogHeads.{keeping_more, ordered, profile_of, rule_of, soft_freed, with_word, with_words};
+ghost use Rattle.ref_log.specs.LogHeads.{is_naming_line, keeping_more, ordered, profile_of, rule_of, soft_freed};
+ghost use Rattle.ref_log.specs.LogHeads.{with_word, with_words};
 ghost use Rattle.ref_script.specs.Lines.{words_of};
 
 use crate::fault::LogFault;
@@ -22,6 +23,13 @@ pub fn rule_of(line: &[u8]) -> Option<SpanRule>
     } else {
         None
     }
+}
+
+/// Whether a line says that objects have names of the collector's own: `names any`.
+pub fn is_naming_line(line: &[u8]) -> bool
+    ensures { result ≡ is_naming_line (words_of line.now) }
+{
+    is_titled(line, b"names".as_slice(), b"any".as_slice())
 }
 
 /// The profile that a line gives, or its fault, where it begins with the word `profile`; `None` for any other line.

@@ -2,18 +2,23 @@
 //! the judge.
 #![tactic(auto)]
 
+mod called;
 mod check;
 mod failure;
 mod fault;
 mod head;
 mod heads;
+mod history;
+mod names;
 mod rows;
 mod stream;
 mod told;
 
+pub use called::{Called, NameText};
 pub use check::verdict_on;
 pub use failure::{Finding, LogFailure, Verdict};
 pub use fault::LogFault;
 pub use heads::{profile_of, rule_of};
+pub use history::{Because, Earlier, Settled};
 pub use rows::row_of;
 pub use stream::{LineStream, MAX_LINE, StreamFault};

@@ -35,7 +35,7 @@ pub fn row_of(line: &[u8]) -> Result<ScriptRow, LogFault>
 }
 
 /// The line behind a word of digits alone that it begins with, or all of it.
-fn behind_number(line: &[u8]) -> &[u8]
+pub(crate) fn behind_number(line: &[u8]) -> &[u8]
     ensures { words_of result.now ≡ unnumbered (words_of line.now) }
 {
     match next_word(line) {
@@ -45,14 +45,14 @@ fn behind_number(line: &[u8]) -> &[u8]
 }
 
 /// Whether each byte is a digit.
-fn has_only_digits(word: &[u8]) -> bool
+pub(crate) fn has_only_digits(word: &[u8]) -> bool
     ensures { result ≡ list_all is_ascii_digit word.now }
 {
     word.iter().all(|byte| byte.is_ascii_digit())
 }
 
 /// What stands in front of the first word that is a colon, and what stands behind it.
-fn parts_of(line: &[u8]) -> Option<(&[u8], &[u8])>
+pub(crate) fn parts_of(line: &[u8]) -> Option<(&[u8], &[u8])>
     ensures { MatchOption result (parted (words_of line.now) ≡ None) (λ r. parted (words_of line.now)
         ≡ Some (record { front = words_of r.0.now; back = words_of r.1.now })) }
 {

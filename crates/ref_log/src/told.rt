@@ -1,18 +1,15 @@
 //! The lines of a log that say something.
 
 ghost use Rattle.std.specs.Prelude.{◌≡◌, ◌||◌, List, MatchResult};
-ghost use Rattle.std.specs.Char.{is_ascii};
-ghost use Rattle.std.specs.List.{list_all};
 ghost use Rattle.ref_log.specs.Failures.{is_unread};
 ghost use Rattle.ref_log.specs.ReadLines.{CountsOn, FindsTold, HasRead, IsPast, IsStopped};
 ghost use Rattle.ref_log.specs.Streams.{line_in};
-ghost use Rattle.ref_script.specs.Lines.{TextLine, content_of, words_of};
-ghost use Rattle.ref_script.specs.ToldLines.{begins_remark, says_nothing};
+ghost use Rattle.ref_script.specs.Lines.{TextLine, content_of};
 
 use crate::failure::LogFailure;
 use crate::fault::LogFault;
 use crate::stream::{LineStream, StreamFault};
-use ref_script::next_word;
+use ref_script::{are_ascii, says_nothing};
 use ref_text::TextSource;
 use std::alloc::Allocator;
 
@@ -22,7 +19,7 @@ pub fn next_told<R: TextSource, A: Allocator>(
     reader: &mut R,
 ) -> Result<bool, LogFailure>
     ensures told { (lines read : List TextLine) → HasRead lines read (R.remaining reader.old) stream.old
-        → MatchResult result (FindsTold lines read (R.remaining reader.new) stream.new) (IsStopped lines) }
+        → MatchResult result (FindsTold lines read (R.remaining reader.new) stream.new) (IsStopped lines read) }
     ensures failed { R.has_failed reader.new ≡ (R.has_failed reader.old || is_unread result) }
 {
     while next_plain(stream, reader)? {
@@ -39,7 +36,7 @@ fn next_plain<R: TextSource, A: Allocator>(
     reader: &mut R,
 ) -> Result<bool, LogFailure>
     ensures past { (lines read : List TextLine) → HasRead lines read (R.remaining reader.old) stream.old
-        → MatchResult result (IsPast lines read (R.remaining reader.new) stream.new) (IsStopped lines) }
+        → MatchResult result (IsPast lines read (R.remaining reader.new) stream.new) (IsStopped lines read) }
     ensures count { CountsOn stream.old.number stream.new.number result }
     ensures failed { R.has_failed reader.new ≡ (R.has_failed reader.old || is_unread result) }
 {
@@ -71,36 +68,4 @@ pub fn content<A: Allocator>(stream: &LineStream<A>) -> &[u8]
         Some((last, front)) if *last == b'\r' => front,
         _ => bytes,
     }
-}
-
-/// Whether a line is blank or a remark: the first byte of its first word tells.
-fn says_nothing(content: &[u8]) -> bool
-    ensures { result ≡ says_nothing (words_of content.now) }
-{
-    match next_word(content) {
-        Some((word, _)) => begins_remark(word),
-        None => true,
-    }
-}
-
-/// Whether a word is the first of a remark.
-fn begins_remark(word: &[u8]) -> bool
-    ensures { result ≡ begins_remark word.now }
-{
-    match word.first() {
-        Some(byte) => *byte == b'#',
-        None => false,
-    }
-}
-
-/// Whether each byte is ASCII. The loop has no early end, so that the compiler takes many bytes at once.
-#[inline(never)]
-fn are_ascii(bytes: &[u8]) -> bool
-    ensures { result ≡ list_all is_ascii bytes.now }
-{
-    let mut bits = 0u8;
-    for byte in bytes {
-        bits |= *byte;
-    }
-    bits.is_ascii()
 }

@@ -1,14 +1,15 @@
 -- What became of a batch, word by word: commas, positions, items.
 use Rattle.ref_script.proofs.Common.{◌≡◌, ℕ, ◌+◌, ◌<◌, ◌≤◌, ◌==◌, true, false, Bool, List, [], ◌∷◌, ◌++◌, length}
-use Rattle.ref_script.proofs.Common.{Option, Some, None, refl, sym, ap, ◌∙◌, arith, append_assoc}
+use Rattle.ref_script.proofs.Common.{Option, Some, None, refl, sym, ap, ◌∙◌, arith}
 use Rattle.ref_script.proofs.Common.{bytes_eq, bytes_eq-Decides, codes}
-use Rattle.std.proofs.Common.{if◌then◌else◌, ◌&&◌}
+use Rattle.std.proofs.Common.{if◌then◌else◌}
 use Rattle.std.specs.Option.{option_map}
 use Rattle.std.proofs.lemmas.List.{length-append}
 use Rattle.ref_base.specs.declared.out.Done.{Done}
 use Rattle.ref_base.specs.declared.out.Done.TheVariants as done
 use Rattle.ref_script.specs.ReplyReading.{comma_cut, batch_in, added_item, last_done, onto_done, IsItem, IsNoBatch}
-use Rattle.ref_script.specs.ReplyReading.{is_want_told, position_is}
+use Rattle.ref_script.proofs.Common.{and_parts}
+use Rattle.ref_script.specs.ReplyReading.{is_want_before_more, is_want_told, position_is, behind_refused}
 use Rattle.ref_base.specs.declared.fault.Fault.TheVariants.{NoMemory}
 
 -- a comma at the end of a word, or another byte
@@ -52,6 +53,41 @@ pub item_added : (position : ℕ) (words behind rest : List (List ℕ)) (word ne
 item_added position words behind rest word next cut more is at =
     rw (cut, more, name_is word (codes "added") is, at) refl
 
+-- want of memory, as the last item and in front of others
+pub want_parts : (next : List ℕ) (words : List (List ℕ)) → is_want_told next words ≡ true
+    → (next ≡ codes "3") × (words ≡ codes "NoMemory" ∷ [])
+want_parts next [] h = absurd cc
+want_parts next (name ∷ []) h =
+    let (three, named) = and_parts (bytes_eq next (codes "3")) (bytes_eq name (codes "NoMemory")) h in
+    (name_is next (codes "3") three, ap (λ (w : List ℕ). w ∷ []) (name_is name (codes "NoMemory") named))
+want_parts next (name ∷ other ∷ words) h = absurd cc
+
+pub item_last_refused : (position : ℕ) (words behind rest left : List (List ℕ)) (word next : List ℕ)
+    → words ≡ word ∷ behind → behind ≡ next ∷ rest → bytes_eq word (codes "refused") ≡ true
+    → is_want_told next rest ≡ true → IsItem position words (done.Refused NoMemory) left false
+item_last_refused position words behind rest left word next cut more is want =
+    let (three, named) = want_parts next rest want in
+    rw (cut, more, name_is word (codes "refused") is, three, named) refl
+
+pub item_refused : (position : ℕ) (words behind rest left : List (List ℕ)) (word next name : List ℕ)
+    → words ≡ word ∷ behind → behind ≡ next ∷ rest → rest ≡ name ∷ left → bytes_eq word (codes "refused") ≡ true
+    → is_want_before_more next name ≡ true → IsItem position words (done.Refused NoMemory) left true
+item_refused position words behind rest left word next name cut more yet is want =
+    rw (cut, more, yet, name_is word (codes "refused") is, want) refl
+
+-- neither is told behind `refused`
+pub no_item_refused : (position : ℕ) (words behind rest : List (List ℕ)) (word next : List ℕ) → words ≡ word ∷ behind
+    → behind ≡ next ∷ rest → rest ≡ [] → bytes_eq word (codes "refused") ≡ true → batch_in position words ≡ None
+no_item_refused position words behind rest word next cut more none is =
+    rw (cut, more, none, name_is word (codes "refused") is) refl
+
+pub no_item_wanted : (position : ℕ) (words behind rest left : List (List ℕ)) (word next name : List ℕ)
+    → words ≡ word ∷ behind → behind ≡ next ∷ rest → rest ≡ name ∷ left → bytes_eq word (codes "refused") ≡ true
+    → is_want_before_more next name ≡ false → is_want_told next rest ≡ false → batch_in position words ≡ None
+no_item_wanted position words behind rest left word next name cut more yet is before last =
+    let told : is_want_told next (name ∷ left) ≡ false = ap (is_want_told next) (sym yet) ∙ last in
+    rw (cut, more, yet, name_is word (codes "refused") is, before, told) refl
+
 -- ---- the items so far
 
 abbrev pub joined : List Done → Option (List Done) → Option (List Done)
@@ -93,6 +129,13 @@ either_way false o p ds one other h = other h
 no_some : (ds : List Done) → None ≡ Some ds → 0 < length ds
 no_some ds h = absurd cc
 
+refused_some : (position : ℕ) (number : List ℕ) (words : List (List ℕ)) (ds : List Done)
+    → behind_refused position number words ≡ Some ds → 0 < length ds
+refused_some position number [] ds h = no_some ds h
+refused_some position number (name ∷ words) ds h =
+    either_way (is_want_before_more number name) _ _ ds (onto_some (done.Refused NoMemory) _ ds)
+    (either_way (is_want_told number (name ∷ words)) _ _ ds (one_some (done.Refused NoMemory) ds) (no_some ds)) h
+
 pub batch_some : (position : ℕ) (words : List (List ℕ)) (ds : List Done) → batch_in position words ≡ Some ds
     → 0 < length ds
 batch_some position [] ds h = no_some ds h
@@ -103,8 +146,7 @@ batch_some position (word ∷ next ∷ words) ds h =
     either_way (bytes_eq word (codes "already,")) _ _ ds (onto_some done.Already _ ds)
     (either_way (bytes_eq word (codes "closed,")) _ _ ds (onto_some done.Closed _ ds)
     (either_way (bytes_eq word (codes "added")) _ _ ds (added_some (position_is position next) words _ ds)
-    (either_way (bytes_eq word (codes "refused") && is_want_told next words) _ _ ds
-    (one_some (done.Refused NoMemory) ds) (no_some ds)))) h
+    (either_way (bytes_eq word (codes "refused")) _ _ ds (refused_some position next words ds) (no_some ds)))) h
 
 full : (ds es : List Done) (o : Option (List Done)) → ((fs : List Done) → o ≡ Some fs → 0 < length fs)
     → 32 ≤ length ds → joined ds o ≡ Some es → 32 < length es

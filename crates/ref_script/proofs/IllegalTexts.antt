@@ -1,5 +1,5 @@
 -- Texts that differ in one place from what a script or a graph text prints, and are none of it.
-use Rattle.ref_script.proofs.Common.{◌≡◌, ℕ, ◌+◌, ◌++◌, [], ◌∷◌, List, map, take, codes, refl, arith}
+use Rattle.ref_script.proofs.Common.{◌≡◌, ℕ, ◌++◌, [], ◌∷◌, List, map, take, codes, refl, arith}
 use Rattle.ref_script.proofs.Common.{Graph, plain_object, ObjectReach}
 use Rattle.ref_script.proofs.Common.{Plain, DeclaresGraph, words_of, listing_text, SpellsScriptStep}
 use Rattle.ref_script.proofs.Common.{trace_text, ScriptRow}

@@ -24,6 +24,7 @@ pub mod DeclaredSpelt
 pub mod GraphLines
 pub mod ScriptLines
 pub mod OneReading
+pub mod OneReply
 pub mod OneGraph
 pub mod FaultLaws
 pub mod Printing

@@ -87,7 +87,7 @@ one_form Turn Turn x y operands others us vs (a ∷ ws) known also of og h k =
     cc
 
 -- words spell at most one step
-one_step : (s t : ScriptStep) (words : List (List ℕ)) → SpellsScriptStep words s → SpellsScriptStep words t → s ≡ t
+pub one_step : (s t : ScriptStep) (words : List (List ℕ)) → SpellsScriptStep words s → SpellsScriptStep words t → s ≡ t
 one_step s t words h k = grind (arith, one_form, form_of_step s, form_of_step t)
 
 one_list : (lines : List (List (List ℕ))) (r s : List ScriptStep) → SpellSteps lines r → SpellSteps lines s → r ≡ s

@@ -18,6 +18,7 @@ use Rattle.ref_base.specs.declared.reply.Reply.TheVariants as replies
 use Rattle.ref_script.specs.Numerals.{is_numeral}
 use Rattle.ref_script.specs.ReplyKinds.{AreNumbers, HasCauseIn, IsInRanges, is_of_one}
 use Rattle.ref_script.specs.ReplyReading.{numbers_in_front, behind_numbers, notices_in, took_in, reply_counted}
+use Rattle.ref_script.specs.ReplyReading.{Counted}
 use Rattle.ref_script.specs.ReplyReading.{short_replies, all_faults, fault_numbered, fault_in, exact_below}
 use Rattle.ref_script.specs.ReplyReading.{cause_in, notice_in, single_in, is_padded, if_so_named}
 use Rattle.ref_script.proofs.ExactNumbers.{decimal_is_exact}
@@ -105,13 +106,11 @@ took_back ns numbers =
 
 -- ---- any reply of no batch
 
-no_short : (o : Option ℕ) → option_and_then (reply_counted short_replies (codes "added")) o ≡ None
-no_short None = refl
-no_short (Some n) = refl
-
-no_short_cycle : (o : Option ℕ) → option_and_then (reply_counted short_replies (codes "cycle")) o ≡ None
-no_short_cycle None = refl
-no_short_cycle (Some n) = refl
+-- a name that no row of a table has
+pub none_counted : (cs : List Counted) (name : List ℕ) (o : Option ℕ) → ((n : ℕ) → reply_counted cs name n ≡ None)
+    → option_and_then (reply_counted cs name) o ≡ None
+none_counted cs name None none = refl
+none_counted cs name (Some n) none = none n
 
 pub single_back : (r : Reply) → IsInRanges r → is_of_one r ≡ true → single_in (told_words r) ≡ Some r
 single_back (replies.Object n) h one = rw (short n h) refl
@@ -124,8 +123,10 @@ single_back (replies.Skipped n) h one = rw (short n h) refl
 single_back (replies.Swept n) h one = rw (short n h) refl
 single_back (replies.Selected n) h one = rw (short n h) refl
 single_back (replies.Moved n) h one = rw (short n h) refl
-single_back (replies.Added n) h one = rw (no_short (exact_below (2 ^ 32) (decimal n)), long n h) refl
-single_back (replies.Cycle n) h one = rw (no_short_cycle (exact_below (2 ^ 32) (decimal n)), long n h) refl
+single_back (replies.Added n) h one =
+    rw (none_counted short_replies (codes "added") (exact_below (2 ^ 32) (decimal n)) (λ m. refl), long n h) refl
+single_back (replies.Cycle n) h one =
+    rw (none_counted short_replies (codes "cycle") (exact_below (2 ^ 32) (decimal n)) (λ m. refl), long n h) refl
 single_back (replies.Refers true) h one = refl
 single_back (replies.Refers false) h one = refl
 single_back (replies.Refused f) h one = ap (λ o. option_map (λ g. replies.Refused g) o) (refusal_back f)

@@ -4,7 +4,8 @@ use Rattle.ref_script.proofs.Common.{None}
 use Rattle.ref_script.proofs.Common.{refl, sym, ap, ◌∙◌, arith, inl, inr, codes, bytes_eq, words_of, map}
 use Rattle.std.proofs.Common.{decimal, if◌then◌else◌}
 use Rattle.std.specs.Option.{MatchOption, option_map}
-use Rattle.ref_base.specs.Outs.{Outs}
+use Rattle.std.specs.List.{list_any}
+use Rattle.ref_base.specs.Outs.{Outs, is_added}
 use Rattle.ref_base.specs.declared.reply.Reply.{Reply}
 use Rattle.ref_base.specs.declared.reply.Reply.TheVariants as replies
 use Rattle.ref_script.specs.ReplyKinds.{AreNumbers, IsToldReply, NoneIsTold, IsInRanges, is_of_one, is_of_polls}
@@ -40,7 +41,7 @@ one_told words r h =
       words_are = text_told r t.ranges t.of_one ∙ t.words_are;
     }
 
-one_back : (words : List (List ℕ)) (r : Reply) → IsToldReply is_of_one words r → single_in words ≡ Some r
+pub one_back : (words : List (List ℕ)) (r : Reply) → IsToldReply is_of_one words r → single_in words ≡ Some r
 one_back words r h =
     ap single_in (sym h.words_are ∙ text_told r h.ranges h.of_kind) ∙ single_back r h.ranges h.of_kind
 
@@ -104,7 +105,7 @@ polls_one : (words : List (List ℕ)) (r : Reply) → is_of_one r ≡ true → I
 polls_one words r one told =
     ap polled_in (sym told.words_are ∙ text_told r told.ranges one) ∙ polls_of_one r told.ranges told.of_kind one
 
-polls_back : (words : List (List ℕ)) (r : Reply) → IsToldReply is_of_polls words r → polled_in words ≡ Some r
+pub polls_back : (words : List (List ℕ)) (r : Reply) → IsToldReply is_of_polls words r → polled_in words ≡ Some r
 polls_back words (replies.TookSome ns) told =
     ap polled_in (sym told.words_are ∙ took_words ns told.ranges.1) ∙ took_back ns told.ranges
 polls_back words (replies.Outs outs) told = let kind = told.of_kind in absurd cc
@@ -148,19 +149,28 @@ puts_batch words outs half h =
           batch_text outs.before outs.done read.1 small ∙ ap (λ k. told_batch k outs.done) h.0 ∙ read.0;
     }
 
+-- a batch is read back from its words
+module _ (words : List (List ℕ)) (outs : Outs) (told : IsToldReply is_of_puts words (replies.Outs outs)) where
+  pub batch_below : outs.before + length outs.done < 2 ^ 64
+  batch_below = let half = told.ranges.0 in let few = told.ranges.1 in omega (arith, half, few)
+
+  pub batch_words : words ≡ told_batch outs.before outs.done
+  batch_words = sym told.words_are ∙ batch_text outs.before outs.done told.of_kind batch_below
+
+  pub first_back : list_any is_added outs.done ≡ true → first_position words ≡ outs.before
+  first_back any =
+      ap first_position batch_words ∙ position_back outs.before outs.done told.of_kind told.ranges.0 any
+
+  pub done_back : batch_in (first_position words) words ≡ Some outs.done
+  done_back =
+      ap (batch_in (first_position words)) batch_words
+      ∙ batch_back outs.before (first_position words) outs.done told.of_kind batch_below first_back
+
 -- no batch was read, so there is none
 no_batch : (words : List (List ℕ)) (outs : Outs) → IsNoBatch (first_position words) words
     → IsToldReply is_of_puts words (replies.Outs outs) → ⊥
 no_batch words outs none told =
-    let half = told.ranges.0 in
-    let small : outs.before + length outs.done < 2 ^ 64 = omega (arith, half, told.ranges.1) in
-    let words_are : words ≡ told_batch outs.before outs.done =
-    sym told.words_are ∙ batch_text outs.before outs.done told.of_kind small in
-    let back : batch_in (first_position words) words ≡ Some outs.done =
-    ap (batch_in (first_position words)) words_are
-    ∙ batch_back outs.before (first_position words) outs.done told.of_kind small
-    (λ any. ap first_position words_are ∙ position_back outs.before outs.done told.of_kind half any) in
-    omega (arith, none outs.done back, told.ranges.1)
+    omega (arith, none outs.done (done_back words outs told), told.ranges.1)
 
 pub puts_one : (words : List (List ℕ)) (r : Reply) → single_in words ≡ Some r → is_of_put r ≡ false
     → IsToldReply is_of_puts words r
@@ -172,7 +182,7 @@ puts_one words r h other =
     }
 
 -- nor is there another reply, where what was read of one thing is told of a put alone, or nothing was
-single_of : (words : List (List ℕ)) (r : Reply) → is_of_one r ≡ true → IsToldReply is_of_puts words r
+pub single_of : (words : List (List ℕ)) (r : Reply) → is_of_one r ≡ true → IsToldReply is_of_puts words r
     → single_in words ≡ Some r
 single_of words r one told =
     one_back words r (record { of_kind = one; ranges = told.ranges; words_are = told.words_are })
@@ -260,7 +270,7 @@ jobs_told (name ∷ words) r h =
           ]
     ]
 
-jobs_back : (words : List (List ℕ)) (r : ScriptReply) → IsToldSo kinds.Jobs words r → jobs_in words ≡ Some r
+pub jobs_back : (words : List (List ℕ)) (r : ScriptReply) → IsToldSo kinds.Jobs words r → jobs_in words ≡ Some r
 jobs_back words (said.World (replies.Refused f)) told =
     ap jobs_in (sym told.words_are ∙ refused_words f)
     ∙ ap (λ o. option_map (λ g. said.World (replies.Refused g)) o) (refusal_back f)

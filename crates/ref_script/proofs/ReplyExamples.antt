@@ -1,13 +1,16 @@
 -- Replies read back from words that one can read off by hand, and words that tell none.
 use Rattle.ref_script.proofs.Common.{◌≡◌, [], ◌∷◌, Some, None, codes, refl, words_of}
-use Rattle.ref_base.specs.declared.fault.Fault.TheVariants.{HandEmpty}
-use Rattle.ref_base.specs.declared.out.Done.TheVariants.{Added, Already}
+use Rattle.ref_script.proofs.Common.{arith}
+use Rattle.ref_base.specs.Outs.{Outs}
+use Rattle.ref_base.specs.declared.fault.Fault.TheVariants.{HandEmpty, NoMemory}
+use Rattle.ref_base.specs.declared.out.Done.TheVariants.{Added, Already, Refused}
 use Rattle.ref_base.specs.declared.reply.Reply.TheVariants as replies
 use Rattle.ref_script.specs.ReplyKinds.{IsToldReply, IsToldSo, NoneIsTold, NoneIsToldSo, is_of_one, is_of_polls}
+use Rattle.ref_script.specs.ReplyKinds.{is_of_puts}
 use Rattle.ref_script.specs.ReplyReading.{batch_in}
 use Rattle.ref_script.specs.declared.reply_kind.ReplyKind.TheVariants.{Jobs}
 use Rattle.ref_script.specs.declared.script_step.ScriptReply.TheVariants.{Registered}
-use Rattle.ref_script.proofs.ReplyAnswers.{jobs_answer, one_answer, polls_answer}
+use Rattle.ref_script.proofs.ReplyAnswers.{jobs_answer, no_puts, one_answer, polls_answer, puts_batch}
 
 -- promise: reply_of: took of a poll is one number
 took_of_a_poll : IsToldReply is_of_one (words_of (codes "took 2")) (replies.Took 2)
@@ -45,3 +48,23 @@ positions_of_a_batch = refl
 -- promise: reply_of: positions of a batch follow one another
 positions_that_jump : batch_in 3 (words_of (codes "added 3, already, added 5")) ≡ None
 positions_that_jump = refl
+
+-- `refused 3 NoMemory, added 0`
+refused_then_added : Outs
+refused_then_added = record { before = 0; done = Refused NoMemory ∷ Added ∷ [] }
+
+-- promise: reply_of: a batch goes on behind a refusal
+a_batch_goes_on_behind_a_refusal :
+    IsToldReply is_of_puts (words_of (codes "refused 3 NoMemory, added 0")) (replies.Outs refused_then_added)
+unfolding refused_then_added
+a_batch_goes_on_behind_a_refusal =
+    puts_batch (words_of (codes "refused 3 NoMemory, added 0")) refused_then_added (omega arith)
+    (refl, refl, omega arith)
+
+-- promise: reply_of: in a batch only want of memory refuses a notice
+another_fault_in_a_batch : NoneIsTold is_of_puts (words_of (codes "refused 24 HandEmpty, added 0"))
+another_fault_in_a_batch =
+    no_puts (words_of (codes "refused 24 HandEmpty, added 0")) (λ ds some. none some) (λ r some. none some)
+  where
+    none : {X Y : Type 0} {x : X} → None ≡ Some x → Y
+    none some = absurd cc

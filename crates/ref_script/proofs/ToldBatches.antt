@@ -4,7 +4,7 @@ use Rattle.ref_script.proofs.Common.{length}
 use Rattle.ref_script.proofs.Common.{Option, Some, None, inl, inr, refl, sym, ap, ◌∙◌, arith, append_assoc, codes}
 use Rattle.ref_script.proofs.Common.{list_all, words_of}
 use Rattle.ref_script.proofs.Common.{bytes_eq}
-use Rattle.std.proofs.Common.{decimal, if◌then◌else◌, ◌&&◌, not}
+use Rattle.std.proofs.Common.{decimal, if◌then◌else◌, not}
 use Rattle.std.specs.Char.{is_ascii_digit}
 use Rattle.std.specs.Option.{option_map}
 use Rattle.std.specs.List.{list_any}
@@ -14,19 +14,18 @@ use Rattle.ref_base.specs.Faults.{name_of, number_of}
 use Rattle.ref_base.specs.Outs.{is_added, out_of, outs_of}
 use Rattle.ref_base.specs.Replies.{outs_text, out_words}
 use Rattle.ref_base.specs.Texts.{text_of}
-use Rattle.ref_base.specs.declared.fault.Fault.{Fault}
 use Rattle.ref_base.specs.declared.fault.Fault.TheVariants.{NoMemory}
 use Rattle.ref_base.specs.declared.out.Done.{Done}
 use Rattle.ref_base.specs.declared.out.Done.TheVariants as done
 use Rattle.ref_base.specs.declared.out.Out.{Out}
 use Rattle.ref_base.specs.declared.out.Out.TheVariants as outs
-use Rattle.ref_script.specs.ReplyKinds.{is_want, is_batch_told}
+use Rattle.ref_script.specs.ReplyKinds.{is_batch_told}
 use Rattle.ref_script.specs.ReplyReading.{comma_cut, batch_in, added_item, onto_done, last_done, exact_below}
-use Rattle.ref_script.specs.ReplyReading.{is_this_number}
+use Rattle.ref_script.specs.ReplyReading.{is_this_number, is_want_before_more, behind_refused}
 use Rattle.ref_script.specs.ReplyReading.{position_is, position_cut, is_want_told, first_position, is_text_word}
-use Rattle.ref_script.proofs.BatchWords.{item_already, item_closed, name_is, with_comma}
+use Rattle.ref_script.proofs.BatchWords.{item_already, item_closed, name_is, want_parts, with_comma}
 use Rattle.ref_script.proofs.ExactNumbers.{decimal_digits, decimal_is_exact, exact_is_decimal}
-use Rattle.ref_script.proofs.ToldReplies.{chosen, chosen_only, split}
+use Rattle.ref_script.proofs.ToldReplies.{chosen, chosen_only, guarded, split}
 use Rattle.ref_script.proofs.ReplyTexts.{one_long, refused_words}
 use Rattle.ref_script.proofs.ReplyWords.{decimal_no_space, no_space_word, word_in_front}
 use Rattle.std.proofs.lemmas.List.{length-append}
@@ -48,7 +47,8 @@ abbrev pub onto_words : ℕ → Done → List (List ℕ) → List (List ℕ)
 onto_words before done.Added words = codes "added" ∷ (decimal before ++ 44 ∷ []) ∷ words
 onto_words before done.Already words = codes "already," ∷ words
 onto_words before done.Closed words = codes "closed," ∷ words
-onto_words before (done.Refused f) words = []
+onto_words before (done.Refused f) words =
+    codes "refused" ∷ decimal (number_of f) ∷ (name_of f ++ 44 ∷ []) ∷ words
 
 abbrev pub told_batch : ℕ → List Done → List (List ℕ)
 told_batch before [] = []
@@ -93,21 +93,16 @@ position_comma k before small same =
 
 -- ---- a batch is read back
 
-told_cons : (before : ℕ) (e : Done) (ds : List Done) → is_batch_told (e ∷ ds) ≡ true
+pub told_cons : (before : ℕ) (e : Done) (ds : List Done)
     → (w : List ℕ) × (ws : List (List ℕ)) × (told_batch before (e ∷ ds) ≡ w ∷ ws)
-told_cons before done.Added [] h = (_, _, refl)
-told_cons before done.Already [] h = (_, _, refl)
-told_cons before done.Closed [] h = (_, _, refl)
-told_cons before (done.Refused f) [] h = (_, _, refl)
-told_cons before done.Added (d ∷ ds) h = (_, _, refl)
-told_cons before done.Already (d ∷ ds) h = (_, _, refl)
-told_cons before done.Closed (d ∷ ds) h = (_, _, refl)
-told_cons before (done.Refused f) (d ∷ ds) h = absurd cc
-
-want_back : (k : ℕ) (f : Fault) → is_want f ≡ true
-    → batch_in k (item_words k (done.Refused f)) ≡ Some (done.Refused f ∷ [])
-want_back k NoMemory h = rw (decimal_digit 3 (omega arith)) refl
-want_back k fault h = absurd cc
+told_cons before done.Added [] = (_, _, refl)
+told_cons before done.Already [] = (_, _, refl)
+told_cons before done.Closed [] = (_, _, refl)
+told_cons before (done.Refused f) [] = (_, _, refl)
+told_cons before done.Added (d ∷ ds) = (_, _, refl)
+told_cons before done.Already (d ∷ ds) = (_, _, refl)
+told_cons before done.Closed (d ∷ ds) = (_, _, refl)
+told_cons before (done.Refused f) (d ∷ ds) = (_, _, refl)
 
 pub batch_back : (before k : ℕ) (ds : List Done) → is_batch_told ds ≡ true → before + length ds < 2 ^ 64
     → (list_any is_added ds ≡ true → k ≡ before) → batch_in k (told_batch before ds) ≡ Some ds
@@ -116,20 +111,24 @@ batch_back before k (done.Added ∷ []) h small same =
     rw (position_told k before (omega (arith, small)) (same refl)) refl
 batch_back before k (done.Already ∷ []) h small same = refl
 batch_back before k (done.Closed ∷ []) h small same = refl
-batch_back before k (done.Refused f ∷ []) h small same = want_back k f h
+batch_back before k (done.Refused NoMemory ∷ []) h small same = rw (decimal_digit 3 (omega arith)) refl
+batch_back before k (done.Refused fault ∷ []) h small same = absurd cc
 batch_back before k (done.Added ∷ e ∷ ds) h small same =
     rw (position_comma k before (omega (arith, small)) (same refl))
     (ap (onto_done done.Added)
     (batch_back (before + 1) (k + 1) (e ∷ ds) h (omega (arith, small)) (λ any. omega (arith, same refl))))
 batch_back before k (done.Already ∷ e ∷ ds) h small same =
-    let (w, ws, cons) = told_cons before e ds h in
+    let (w, ws, cons) = told_cons before e ds in
     item_already k _ (told_batch before (e ∷ ds)) ws (codes "already,") w refl cons refl
     ∙ ap (onto_done done.Already) (batch_back before k (e ∷ ds) h (omega (arith, small)) same)
 batch_back before k (done.Closed ∷ e ∷ ds) h small same =
-    let (w, ws, cons) = told_cons before e ds h in
+    let (w, ws, cons) = told_cons before e ds in
     item_closed k _ (told_batch before (e ∷ ds)) ws (codes "closed,") w refl cons refl
     ∙ ap (onto_done done.Closed) (batch_back before k (e ∷ ds) h (omega (arith, small)) same)
-batch_back before k (done.Refused f ∷ e ∷ ds) h small same = absurd cc
+batch_back before k (done.Refused NoMemory ∷ e ∷ ds) h small same =
+    rw (decimal_digit 3 (omega arith))
+    (ap (onto_done (done.Refused NoMemory)) (batch_back before k (e ∷ ds) h (omega (arith, small)) same))
+batch_back before k (done.Refused fault ∷ e ∷ ds) h small same = absurd cc
 
 -- the first position is read back too
 pub position_back : (before : ℕ) (ds : List Done) → is_batch_told ds ≡ true → before < 2 ^ 63
@@ -152,7 +151,9 @@ position_back before (done.Added ∷ e ∷ ds) h half any =
     ) refl
 position_back before (done.Already ∷ e ∷ ds) h half any = position_back before (e ∷ ds) h half any
 position_back before (done.Closed ∷ e ∷ ds) h half any = position_back before (e ∷ ds) h half any
-position_back before (done.Refused f ∷ e ∷ ds) h half any = absurd cc
+position_back before (done.Refused NoMemory ∷ e ∷ ds) h half any =
+    rw (decimal_digit 3 (omega arith)) (position_back before (e ∷ ds) h half any)
+position_back before (done.Refused fault ∷ e ∷ ds) h half any = absurd cc
 
 -- ---- what is read is told
 
@@ -173,6 +174,15 @@ closed_more : (k : ℕ) (es : List Done) (words : List (List ℕ)) → Reads k w
     → Reads k (codes "closed," ∷ words) (done.Closed ∷ es)
 closed_more k [] words h = let none = h.1 in absurd cc
 closed_more k (e ∷ es) words h = (ap (λ (t : List (List ℕ)). codes "closed," ∷ t) h.0, h.1)
+
+refused_more : (k : ℕ) (es : List Done) (words : List (List ℕ)) → Reads k words es
+    → Reads k (codes "refused" ∷ codes "3" ∷ codes "NoMemory," ∷ words) (done.Refused NoMemory ∷ es)
+refused_more k [] words h = let none = h.1 in absurd cc
+refused_more k (e ∷ es) words h = (
+  rw (decimal_digit 3 (omega arith))
+      (ap (λ (t : List (List ℕ)). codes "refused" ∷ codes "3" ∷ codes "NoMemory," ∷ t) h.0),
+  h.1,
+)
 
 added_more : (k : ℕ) (es : List Done) (words : List (List ℕ)) → Reads (k + 1) words es
     → Reads k (codes "added" ∷ (decimal k ++ 44 ∷ []) ∷ words) (done.Added ∷ es)
@@ -207,13 +217,11 @@ position_parts k word b h = by (comma_cut word) refl b h
     by (Some front) is false e =
         let (at, differ) = chosen_only (is_this_number k (exact_below (2 ^ 64) front)) true false e in absurd cc
 
-want_parts : (next : List ℕ) (words : List (List ℕ)) → is_want_told next words ≡ true
-    → (next ≡ codes "3") × (words ≡ codes "NoMemory" ∷ [])
-want_parts next [] h = absurd cc
-want_parts next (name ∷ []) h =
-    let (three, named) = and_parts (bytes_eq next (codes "3")) (bytes_eq name (codes "NoMemory")) h in
-    (name_is next (codes "3") three, ap (λ (w : List ℕ). w ∷ []) (name_is name (codes "NoMemory") named))
-want_parts next (name ∷ other ∷ words) h = absurd cc
+before_more_parts : (number name : List ℕ) → is_want_before_more number name ≡ true
+    → (number ≡ codes "3") × (name ≡ codes "NoMemory,")
+before_more_parts number name h =
+    let (three, named) = and_parts (bytes_eq number (codes "3")) (bytes_eq name (codes "NoMemory,")) h in
+    (name_is number (codes "3") three, name_is name (codes "NoMemory,") named)
 
 want_reads : (k : ℕ) → Reads k (codes "refused" ∷ codes "3" ∷ codes "NoMemory" ∷ []) (done.Refused NoMemory ∷ [])
 want_reads k = (rw (decimal_digit 3 (omega arith)) refl, refl)
@@ -238,45 +246,59 @@ added_reads k next words more ds rest h = by (position_is k next) refl h
         let (none, same) = last_parts done.Added words ds e in
         rw (position_parts k next false is, none, ← same) (refl, refl)
 
-pub batch_read : (k : ℕ) (words : List (List ℕ)) (ds : List Done) → batch_in k words ≡ Some ds → Reads k words ds
-batch_read k [] ds h = absurd cc
-batch_read k (word ∷ []) ds h =
-    elim (chosen (bytes_eq word (codes "already")) (done.Already ∷ []) ds _ h) [
-      | inl is ↦ rw (name_is word (codes "already") is.0, ← is.1) (refl, refl)
-      | inr other ↦
-          let (is, same) = chosen_only (bytes_eq word (codes "closed")) (done.Closed ∷ []) ds other in
-          rw (name_is word (codes "closed") is, ← same) (refl, refl)
-    ]
-batch_read k (word ∷ next ∷ words) ds h =
-    elim (split (bytes_eq word (codes "already,")) (onto_done done.Already (batch_in k (next ∷ words))) _ ds h) [
-      | inl is ↦
-          let (es, more_is, same) = onto_parts done.Already (batch_in k (next ∷ words)) ds is.1 in
-          rw (name_is word (codes "already,") is.0, ← same)
-          (already_more k es (next ∷ words) (batch_read k (next ∷ words) es more_is))
-      | inr other ↦
-          elim (split (bytes_eq word (codes "closed,")) (onto_done done.Closed (batch_in k (next ∷ words)))
-          _ ds other) [
-            | inl is ↦
-                let (es, more_is, same) = onto_parts done.Closed (batch_in k (next ∷ words)) ds is.1 in
-                rw (name_is word (codes "closed,") is.0, ← same)
-                (closed_more k es (next ∷ words) (batch_read k (next ∷ words) es more_is))
-            | inr another ↦
-                elim (split (bytes_eq word (codes "added"))
-                (added_item (position_is k next) words (batch_in (k + 1) words)) _ ds another) [
-                  | inl is ↦
-                      rw (name_is word (codes "added") is.0)
-                      (added_reads k next words (batch_in (k + 1) words) ds
-                      (λ es e. batch_read (k + 1) words es e) is.1)
-                  | inr last ↦
-                      let (want, same) =
-                      chosen_only (bytes_eq word (codes "refused") && is_want_told next words)
-                      (done.Refused NoMemory ∷ []) ds last in
-                      let (is, told) = and_parts (bytes_eq word (codes "refused")) (is_want_told next words) want in
-                      let (three, named) = want_parts next words told in
-                      rw (name_is word (codes "refused") is, three, named, ← same) (want_reads k)
-                ]
-          ]
-    ]
+mutual
+  pub batch_read : (k : ℕ) (words : List (List ℕ)) (ds : List Done) → batch_in k words ≡ Some ds → Reads k words ds
+  batch_read k [] ds h = absurd cc
+  batch_read k (word ∷ []) ds h =
+      elim (chosen (bytes_eq word (codes "already")) (done.Already ∷ []) ds _ h) [
+        | inl is ↦ rw (name_is word (codes "already") is.0, ← is.1) (refl, refl)
+        | inr other ↦
+            let (is, same) = chosen_only (bytes_eq word (codes "closed")) (done.Closed ∷ []) ds other in
+            rw (name_is word (codes "closed") is, ← same) (refl, refl)
+      ]
+  batch_read k (word ∷ next ∷ words) ds h =
+      elim (split (bytes_eq word (codes "already,")) (onto_done done.Already (batch_in k (next ∷ words))) _ ds h) [
+        | inl is ↦
+            let (es, more_is, same) = onto_parts done.Already (batch_in k (next ∷ words)) ds is.1 in
+            rw (name_is word (codes "already,") is.0, ← same)
+            (already_more k es (next ∷ words) (batch_read k (next ∷ words) es more_is))
+        | inr other ↦
+            elim (split (bytes_eq word (codes "closed,")) (onto_done done.Closed (batch_in k (next ∷ words)))
+            _ ds other) [
+              | inl is ↦
+                  let (es, more_is, same) = onto_parts done.Closed (batch_in k (next ∷ words)) ds is.1 in
+                  rw (name_is word (codes "closed,") is.0, ← same)
+                  (closed_more k es (next ∷ words) (batch_read k (next ∷ words) es more_is))
+              | inr another ↦
+                  elim (split (bytes_eq word (codes "added"))
+                  (added_item (position_is k next) words (batch_in (k + 1) words)) _ ds another) [
+                    | inl is ↦
+                        rw (name_is word (codes "added") is.0)
+                        (added_reads k next words (batch_in (k + 1) words) ds
+                        (λ es e. batch_read (k + 1) words es e) is.1)
+                    | inr refused ↦
+                        let (is, want) =
+                        guarded (bytes_eq word (codes "refused")) (behind_refused k next words) ds refused in
+                        rw (name_is word (codes "refused") is) (refused_read k next words ds want)
+                  ]
+            ]
+      ]
+
+  refused_read : (k : ℕ) (number : List ℕ) (words : List (List ℕ)) (ds : List Done)
+      → behind_refused k number words ≡ Some ds → Reads k (codes "refused" ∷ number ∷ words) ds
+  refused_read k number [] ds h = absurd cc
+  refused_read k number (name ∷ words) ds h =
+      elim (split (is_want_before_more number name) (onto_done (done.Refused NoMemory) (batch_in k words)) _ ds h) [
+        | inl is ↦
+            let (es, more_is, same) = onto_parts (done.Refused NoMemory) (batch_in k words) ds is.1 in
+            let (three, named) = before_more_parts number name is.0 in
+            rw (three, named, ← same) (refused_more k es words (batch_read k words es more_is))
+        | inr last ↦
+            let (want, same) =
+            chosen_only (is_want_told number (name ∷ words)) (done.Refused NoMemory ∷ []) ds last in
+            let (three, named) = want_parts number (name ∷ words) want in
+            rw (three, named, ← same) (want_reads k)
+      ]
 
 -- ---- the words are those of the text
 
@@ -302,6 +324,10 @@ already_step rest = refl
 
 closed_step : (rest : List ℕ) → codes "closed" ++ (codes ", " ++ rest) ≡ codes "closed," ++ 32 ∷ rest
 closed_step rest = refl
+
+refused_step : (rest : List ℕ) → text_of (out_words (outs.Refused NoMemory)) ++ (codes ", " ++ rest)
+    ≡ codes "refused" ++ 32 ∷ (codes "3" ++ 32 ∷ (codes "NoMemory," ++ 32 ∷ rest))
+refused_step rest = rw (decimal_digit 3 (omega arith)) refl
 
 outs_step : (o p : Out) (os : List Out)
     → outs_text (o ∷ p ∷ os) ≡ text_of (out_words o) ++ (codes ", " ++ outs_text (p ∷ os))
@@ -334,4 +360,16 @@ batch_text before (done.Closed ∷ e ∷ ds) h small =
     ∙ closed_step (outs_text (outs_of before (e ∷ ds))))
     ∙ word_in_front (codes "closed,") (outs_text (outs_of before (e ∷ ds))) refl
     ∙ ap (λ (s : List (List ℕ)). codes "closed," ∷ s) (batch_text before (e ∷ ds) h (omega (arith, small)))
-batch_text before (done.Refused f ∷ e ∷ ds) h small = absurd cc
+batch_text before (done.Refused NoMemory ∷ e ∷ ds) h small =
+    let rest : List ℕ = outs_text (outs_of before (e ∷ ds)) in
+    ap words_of (outs_step (outs.Refused NoMemory) (out_of before e) (outs_of (behind_item before e) ds)
+    ∙ refused_step rest)
+    ∙ word_in_front (codes "refused") (codes "3" ++ 32 ∷ (codes "NoMemory," ++ 32 ∷ rest)) refl
+    ∙ ap (λ (s : List (List ℕ)). codes "refused" ∷ s)
+    (word_in_front (codes "3") (codes "NoMemory," ++ 32 ∷ rest) refl)
+    ∙ ap (λ (s : List (List ℕ)). codes "refused" ∷ codes "3" ∷ s) (word_in_front (codes "NoMemory,") rest refl)
+    ∙ ap (λ (s : List (List ℕ)). codes "refused" ∷ codes "3" ∷ codes "NoMemory," ∷ s)
+    (batch_text before (e ∷ ds) h (omega (arith, small)))
+    ∙ ap (λ (n : List ℕ). codes "refused" ∷ n ∷ codes "NoMemory," ∷ told_batch before (e ∷ ds))
+    (sym (decimal_digit 3 (omega arith)))
+batch_text before (done.Refused fault ∷ e ∷ ds) h small = absurd cc

@@ -17,8 +17,10 @@ pub mod LineReading
 pub mod TraceTexts
 pub mod ReplyKinds
 pub mod ReplyReading
+pub mod SameReplies
 pub mod Answers
 pub mod Listings
 pub mod DeclarationViews
 pub mod GraphReading
 pub mod TextReading
+pub mod WorldRows

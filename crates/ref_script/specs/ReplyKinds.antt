@@ -5,7 +5,6 @@ use Rattle.std.specs.List.{list_all}
 use Rattle.ref_base.specs.Replies.{reply_text}
 use Rattle.ref_base.specs.declared.cause.Cause.{Cause}
 use Rattle.ref_base.specs.declared.cause.Cause.TheVariants.{Own, Cycle}
-use Rattle.ref_base.specs.declared.fault.Fault.{Fault}
 use Rattle.ref_base.specs.declared.fault.Fault.TheVariants.{NoMemory}
 use Rattle.ref_base.specs.declared.out.Done.{Done}
 use Rattle.ref_base.specs.declared.out.Done.TheVariants as done
@@ -46,17 +45,16 @@ is_of_polls (replies.Took n) = false
 is_of_polls (replies.Outs outs) = false
 is_of_polls reply = true
 
--- what became of one item at least: only the last was refused, if one was, and that for want of memory
-abbrev pub is_want : Fault → Bool
-is_want NoMemory = true
-is_want fault = false
+-- an item that was added, or not, or that was refused for want of memory
+abbrev pub is_item_told : Done → Bool
+is_item_told (done.Refused NoMemory) = true
+is_item_told (done.Refused fault) = false
+is_item_told d = true
 
+-- what became of one item at least, where only want of memory refused one
 abbrev pub is_batch_told : List Done → Bool
 is_batch_told [] = false
-is_batch_told (done.Refused fault ∷ []) = is_want fault
-is_batch_told (done.Refused fault ∷ d ∷ ds) = false
-is_batch_told (d ∷ []) = true
-is_batch_told (d ∷ e ∷ ds) = is_batch_told (e ∷ ds)
+is_batch_told (d ∷ ds) = list_all is_item_told (d ∷ ds)
 
 -- a reply that tells what became of each notice, or isn't told of a put
 abbrev pub is_of_puts : Reply → Bool

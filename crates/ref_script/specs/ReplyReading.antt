@@ -259,23 +259,36 @@ added_item None words more = None
 added_item (Some true) words more = onto_done done.Added more
 added_item (Some false) words more = last_done done.Added words
 
--- the words behind `refused` tell want of memory
+-- the words behind `refused` tell want of memory, and no item more
 abbrev pub is_want_told : List ℕ → List (List ℕ) → Bool
 is_want_told number (name ∷ []) = bytes_eq number (codes "3") && bytes_eq name (codes "NoMemory")
 is_want_told number words = false
 
--- what became of each item, where the next that was added has this position
-abbrev pub batch_in : ℕ → List (List ℕ) → Option (List Done)
-batch_in position [] = None
-batch_in position (word ∷ []) =
-    if bytes_eq word (codes "already") then Some (done.Already ∷ []) else
-    (if bytes_eq word (codes "closed") then Some (done.Closed ∷ []) else None)
-batch_in position (word ∷ next ∷ words) =
-    if bytes_eq word (codes "already,") then onto_done done.Already (batch_in position (next ∷ words)) else
-    (if bytes_eq word (codes "closed,") then onto_done done.Closed (batch_in position (next ∷ words)) else
-    (if bytes_eq word (codes "added") then added_item (position_is position next) words (batch_in (position + 1) words)
-    else (if bytes_eq word (codes "refused") && is_want_told next words
-    then Some (done.Refused faults.NoMemory ∷ []) else None)))
+-- the two words behind `refused` tell want of memory, and by the comma that items follow
+abbrev pub is_want_before_more : List ℕ → List ℕ → Bool
+is_want_before_more number name = bytes_eq number (codes "3") && bytes_eq name (codes "NoMemory,")
+
+abbrev mutual
+  -- what became of each item, where the next that was added has this position
+  pub batch_in : ℕ → List (List ℕ) → Option (List Done)
+  batch_in position [] = None
+  batch_in position (word ∷ []) =
+      if bytes_eq word (codes "already") then Some (done.Already ∷ []) else
+      (if bytes_eq word (codes "closed") then Some (done.Closed ∷ []) else None)
+  batch_in position (word ∷ next ∷ words) =
+      if bytes_eq word (codes "already,") then onto_done done.Already (batch_in position (next ∷ words)) else
+      (if bytes_eq word (codes "closed,") then onto_done done.Closed (batch_in position (next ∷ words)) else
+      (if bytes_eq word (codes "added")
+      then added_item (position_is position next) words (batch_in (position + 1) words) else
+      (if bytes_eq word (codes "refused") then behind_refused position next words else None)))
+
+  -- what became of each item, where the first was refused, by the words behind `refused`
+  pub behind_refused : ℕ → List ℕ → List (List ℕ) → Option (List Done)
+  behind_refused position number [] = None
+  behind_refused position number (name ∷ words) =
+      if is_want_before_more number name
+      then onto_done (done.Refused faults.NoMemory) (batch_in position words) else
+      (if is_want_told number (name ∷ words) then Some (done.Refused faults.NoMemory ∷ []) else None)
 
 -- the words begin with an item: behind it more follow, or none does
 abbrev pub IsItem : ℕ → List (List ℕ) → Done → List (List ℕ) → Bool → Type 0

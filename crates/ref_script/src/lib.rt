@@ -27,5 +27,5 @@ pub use reply_kind::ReplyKind;
 pub use script::{Script, config_of, script_of};
 pub use script_step::{ScriptReply, ScriptRow, ScriptStep, say_row};
 pub use steps::step_of;
-pub use told::is_titled;
+pub use told::{are_ascii, is_titled, says_nothing};
 pub use version::{is_in_version, trace_title};

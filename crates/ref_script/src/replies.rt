@@ -7,7 +7,7 @@ ghost use Rattle.ref_script.specs.ReplyKinds.{NoneIsToldSo};
 ghost use Rattle.ref_script.specs.ReplyReading.{AreInFront, bare_replies, batch_in, cause_in, comma_cut};
 ghost use Rattle.ref_script.specs.ReplyReading.{exact_behind};
 ghost use Rattle.ref_script.specs.ReplyReading.{first_position, is_this_number, is_of_put, is_want_told, jobs_in};
-ghost use Rattle.ref_script.specs.ReplyReading.{IsBatch, IsItem};
+ghost use Rattle.ref_script.specs.ReplyReading.{IsBatch, IsItem, is_want_before_more};
 ghost use Rattle.ref_script.specs.ReplyReading.{IsNoBatch, polled_in, position_in, position_is, ran_in, said_in};
 ghost use Rattle.ref_script.specs.ReplyReading.{exact_below, fault_numbered, is_padded, long_replies, notice_in};
 ghost use Rattle.ref_script.specs.ReplyReading.{notices_in, numbers_in_front, plain_in, fault_in, reply_counted};
@@ -366,7 +366,7 @@ fn position_word(word: &[u8], position: u64) -> Option<bool>
     None
 }
 
-/// Whether the words behind `refused` tell want of memory.
+/// Whether the words behind `refused` tell want of memory, and no item more.
 fn is_want(number: &[u8], line: &[u8]) -> bool
     ensures { result ≡ is_want_told number.now (words_of line.now) }
 {
@@ -374,6 +374,13 @@ fn is_want(number: &[u8], line: &[u8]) -> bool
         return false;
     };
     next_word(rest).is_none() && is_name(number, b"3") && is_name(name, b"NoMemory")
+}
+
+/// Whether the two words behind `refused` tell want of memory, and by the comma that items follow.
+fn is_want_before_more(number: &[u8], name: &[u8]) -> bool
+    ensures { result ≡ is_want_before_more number.now name.now }
+{
+    is_name(number, b"3") && is_name(name, b"NoMemory,")
 }
 
 /// The first item of a batch, the line behind it, and whether more items follow there. The next that was added has this
@@ -407,8 +414,15 @@ fn item(line: &[u8], position: u64) -> Option<(Done, &[u8], bool)>
         }
         return Some((Done::Added, rest, false));
     }
-    if is_name(word, b"refused") && is_want(next, rest) {
-        return Some((Done::Refused(Fault::NoMemory), rest, false));
+    if !is_name(word, b"refused") {
+        return None;
+    }
+    let (name, left) = next_word(rest)?;
+    if is_want_before_more(next, name) {
+        return Some((Done::Refused(Fault::NoMemory), left, true));
+    }
+    if is_want(next, rest) {
+        return Some((Done::Refused(Fault::NoMemory), left, false));
     }
     None
 }

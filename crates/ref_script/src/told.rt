@@ -112,7 +112,7 @@ fn plain(line: Line<'_>, is_known_ascii: bool) -> Result<&[u8], LineFault>
 /// Whether each byte is ASCII. The loop has no early end, so that the compiler takes many bytes at once. It is kept out
 /// of its callers.
 #[inline(never)]
-fn are_ascii(bytes: &[u8]) -> bool
+pub fn are_ascii(bytes: &[u8]) -> bool
     ensures { result ≡ list_all is_ascii bytes.now }
 {
     let mut bits = 0u8;
@@ -123,7 +123,7 @@ fn are_ascii(bytes: &[u8]) -> bool
 }
 
 /// Whether a line is blank or a remark: the first byte that isn't a space tells.
-fn says_nothing(content: &[u8]) -> bool
+pub fn says_nothing(content: &[u8]) -> bool
     ensures { result ≡ says_nothing (words_of content.now) }
 {
     for byte in content {

@@ -18,12 +18,13 @@ use Rattle.ref_script.specs.Scripts.{AreScript}
 use Rattle.ref_script.specs.Versions.{trace_title}
 use Rattle.refrun.specs.Traces.{PrintsTrace, script_steps_of, TellsRow, TellsTrace}
 use Rattle.ref_script.specs.TraceTexts.{numbered}
+use Rattle.ref_script.specs.WorldRows.{world_row, world_rows}
 use Rattle.ref_base.specs.CollectorRows.{IsRow, IsRun}
 use Rattle.ref_base.specs.declared.reply.Reply.{Reply}
 use Rattle.ref_base.specs.declared.step.Step.{Step}
 use Rattle.ref_world.specs.Standing.{IsRowOf}
 use Rattle.ref_base.specs.declared.row.Row.{Row}
-use Rattle.refrun.specs.ScriptRuns.{world_row, world_rows, RunsIn, IsScriptRow}
+use Rattle.refrun.specs.ScriptRuns.{RunsIn, IsScriptRow}
 use Rattle.ref_script.specs.ScriptSteps.{script_row_text}
 use Rattle.ref_script.specs.declared.script_step.ScriptReply.TheVariants as replies
 use Rattle.ref_script.specs.declared.script_step.ScriptStep.TheVariants as scripts

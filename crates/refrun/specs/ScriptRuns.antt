@@ -1,7 +1,7 @@
 -- The rows of a script: those of the world are rows of the abstract collector, and those of jobs are rows of one
 -- cleaner's table (Java SE 17 `java.lang.ref.Cleaner` for an action that runs at most once, as its reference is
 -- cleared; the numbers of jobs: this project's profile).
-use Rattle.std.specs.Prelude.{◌≡◌, ◌≢◌, ℕ, List, [], ◌∷◌, ◌++◌, Option, Some, None, Ok, Err, All, Contains}
+use Rattle.std.specs.Prelude.{◌≡◌, ◌≢◌, ℕ, List, [], ◌∷◌, Option, Some, None, Ok, Err, All, Contains}
 use Rattle.std.specs.Prelude.{IsPermutation}
 use Rattle.ref_base.specs.Heaps.{slot_at}
 use Rattle.ref_base.specs.Refusals.{clear_refusal}
@@ -11,7 +11,6 @@ use Rattle.ref_base.specs.declared.config.Config.{Config}
 use Rattle.ref_base.specs.declared.fault.Fault.{Fault}
 use Rattle.ref_base.specs.declared.plain_step.PlainStep.TheVariants.{Clear}
 use Rattle.ref_base.specs.declared.reply.Reply.TheVariants.{Done, Refused}
-use Rattle.ref_base.specs.declared.row.Row.{Row}
 use Rattle.ref_base.specs.declared.step.Step.TheVariants.{Plain}
 use Rattle.ref_queue.specs.CleanTables.{Registry, new_registry, Registers, Takes}
 use Rattle.ref_script.specs.declared.script_step.ScriptReply.{ScriptReply}
@@ -19,18 +18,6 @@ use Rattle.ref_script.specs.declared.script_step.ScriptReply.TheVariants as repl
 use Rattle.ref_script.specs.declared.script_step.ScriptRow.{ScriptRow}
 use Rattle.ref_script.specs.declared.script_step.ScriptStep.{ScriptStep}
 use Rattle.ref_script.specs.declared.script_step.ScriptStep.TheVariants as steps
-
--- ---- the rows of the world
-
--- a row of the world is itself; a job that was run cleared its reference; any other row of jobs is none of the world's
-abbrev pub world_row : ScriptStep → ScriptReply → List Row
-world_row (steps.World step) (replies.World reply) = record { step = step; reply = reply } ∷ []
-world_row (steps.Run m s) (replies.Ran ran) = record { step = Plain (Clear m s); reply = Done } ∷ []
-world_row step reply = []
-
-abbrev pub world_rows : List ScriptRow → List Row
-world_rows [] = []
-world_rows (row ∷ rows) = world_row row.step row.reply ++ world_rows rows
 
 -- ---- the rows of jobs
 

@@ -5,12 +5,13 @@ use Rattle.ref_base.specs.declared.config.Config.{Config}
 use Rattle.ref_base.specs.declared.span_rule.SpanRule.{SpanRule}
 use Rattle.ref_world.specs.Cores.{Core}
 use Rattle.ref_script.specs.Answers.{AnswersText}
-use Rattle.refrun.specs.ScriptRuns.{StageJobs, world_rows, IsScriptTrace}
+use Rattle.refrun.specs.ScriptRuns.{StageJobs, IsScriptTrace}
 use Rattle.refrun.specs.ScriptStanding.{IsScriptRowOf, RunsScriptFrom}
 use Rattle.ref_script.specs.ScriptSteps.{script_row_text}
 use Rattle.ref_script.specs.Scripts.{IsScript}
 use Rattle.ref_script.specs.TextFaults.{script_fault}
 use Rattle.ref_script.specs.TraceTexts.{trace_text}
+use Rattle.ref_script.specs.WorldRows.{world_rows}
 use Rattle.ref_text.specs.declared.fault.TextFault.{TextFault}
 use Rattle.ref_script.specs.declared.script_step.ScriptReply.{ScriptReply}
 use Rattle.ref_script.specs.declared.script_step.ScriptRow.{ScriptRow}

@@ -3,7 +3,7 @@
 ghost use Rattle.std.specs.Prelude.{◌≡◌, ◌<◌, ◌+◌};
 
 use ref_base::{Config, SpanRule};
-use ref_log::{LogFailure, LogFault, Verdict, verdict_on};
+use ref_log::{LogFailure, Verdict, verdict_on};
 use ref_queue::{Action, Job};
 use ref_script::{config_of, strength_text};
 use refrun::{FromReader, TextFault, ToWriter, run_script};
@@ -135,16 +135,15 @@ fn cut_off(alloc: Global, failure: &LogFailure) -> Result<String, AllocError> {
     }
 }
 
-/// Whether a judge takes the trace of a script, or its rows aren't those of a collector alone.
+/// Whether a judge takes the trace of a script.
 pub fn is_judged_legal(alloc: Global, script: &[u8], trace: &[u8]) -> bool {
     let Some(config) = config_in(script) else {
         return false;
     };
-    match verdict_on(alloc, &mut FromReader::new(trace), Some(config)) {
-        Ok(Verdict::Legal { .. }) => true,
-        Err(LogFailure::Line(_, LogFault::UnknownStep)) => true,
-        _ => false,
-    }
+    matches!(
+        verdict_on(alloc, &mut FromReader::new(trace), Some(config)),
+        Ok(Verdict::Legal { .. })
+    )
 }
 
 /// The configuration in a script's lines.

@@ -59,8 +59,9 @@ and of a trace without a line of its configuration:
   refrun run < SCRIPT | refrun check --config 1,1,1,8,10
 
 It says that the trace is legal, or names the first row that no right collector
-can have given behind the rows before it, the rule that the row breaks and, where
-the collector had no choice, the answer that is legal there.
+can have given behind the rows before it, the rule that the row breaks and, as far
+as these are known, an answer that is legal there and the earlier row that settled
+it. A line `names any` behind the profile lets objects have names, as addresses.
 
 docs/FORMATS.md has the lines of a trace, the profiles, the rules and every fault.
 

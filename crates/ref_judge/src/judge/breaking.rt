@@ -118,12 +118,12 @@ fn puts_rule(objects: Nos, reply: Reply) -> Rule {
     }
 }
 
-// Whether a batch tells of each notice of the hand, up to one for which memory is refused.
+// Whether a batch tells of each notice of the hand, up to the first for which memory is refused.
 fn tells_of_each(objects: Nos, outs: Outs) -> bool {
     let told = outs.as_slice();
-    match told.last() {
-        Some(last) if last.is_refused() => told.len() <= objects.as_slice().len(),
-        _ => told.len() == objects.as_slice().len(),
+    match told.iter().position(|done| done.is_refused()) {
+        Some(place) => place + 1 == told.len() && told.len() <= objects.as_slice().len(),
+        None => told.len() == objects.as_slice().len(),
     }
 }
 

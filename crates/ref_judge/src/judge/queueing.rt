@@ -254,7 +254,7 @@ fn added_by<A: Allocator + Copy>(
 }
 
 // Whether a reference was ever put in, where these were by the batch itself.
-fn was_put<A: Allocator + Copy>(objects: &Objects<A>, added: &[ObjNo], no: ObjNo) -> bool
+pub(super) fn was_put<A: Allocator + Copy>(objects: &Objects<A>, added: &[ObjNo], no: ObjNo) -> bool
     ensures { result ≡ (is_put objects.now.tags no || has added.now no) }
 {
     objects.link_of(no) != 0 || added.contains(&no)

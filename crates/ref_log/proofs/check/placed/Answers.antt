@@ -1,30 +1,26 @@
-use Rattle.std.proofs.Common.{◌≡◌, false, sym, subst, ◌∙◌, rules, tests}
-use Rattle.std.proofs.lemmas.Iterator.{YieldsList-from_slice}
-use Rattle.std.proofs.lemmas.Iterator.Search.{any_from_yields_List}
-use Rattle.std.specs.List.{list_any}
-use Rattle.ref_base.specs.Outs.{Outs, is_added}
-use Rattle.ref_base.specs.declared.reply.Reply.TheVariants as replies
-use Rattle.ref_log.proofs.PlacedRows.{moved_placed, moved_spelt}
+use Rattle.std.proofs.Common.{◌≡◌, ℕ, List, refl, subst}
+use Rattle.ref_base.specs.declared.reply.Reply.{Reply}
+use Rattle.ref_base.specs.declared.step.Step.{Step}
 use Rattle.ref_log.specs.LogRows.{SpellsRow}
-use Rattle.ref_log.specs.WorldRows.{in_script}
+use Rattle.ref_log.specs.RowTexts.{in_script}
+use Rattle.ref_script.specs.declared.script_step.ScriptReply.{ScriptReply}
+use Rattle.ref_script.specs.declared.script_step.ScriptReply.TheVariants as replies
+use Rattle.ref_script.specs.declared.script_step.ScriptRow.{ScriptRow}
+use Rattle.ref_script.specs.declared.script_step.ScriptStep.{ScriptStep}
+use Rattle.ref_script.specs.declared.script_step.ScriptStep.TheVariants as steps
 use Rattle.ref_log.proofs.check.placed.Goals as goal
 
-pub returns-else-any-clause-text : goal.returns-else-any-clause-text
-returns-else-any-clause-text g c =
-    let outs = c.in-Puts-Outs.outs in
-    let any_is : c.any.result ≡ list_any is_added outs.done =
-    any_from_yields_List is_added _ _ c.any.result c.any.ensures.ran (YieldsList-from_slice outs.done cc)
-    (λ x b q k. search (rules, tests)) in
-    let none : list_any is_added outs.done ≡ false = sym any_is ∙ c.if-any.false in
-    λ words spelt. subst
-    (λ (o : Outs). SpellsRow words (in_script (record { step = c.args.row.step; reply = replies.Outs o })))
-    (sym c.behind.ensures)
-    (moved_spelt outs c.put_before-before.result c.put_before-before.ensures.few none words c.args.row
-    c.in-Puts-Outs.is-1 spelt)
+by_parts : (words : List (List ℕ)) (row : ScriptRow) (step : Step) (reply : Reply) → row.step ≡ steps.World step
+    → row.reply ≡ replies.World reply → SpellsRow words row
+    → SpellsRow words (in_script (record { step = step; reply = reply }))
+by_parts words row step reply step_is reply_is spelt =
+    subst (λ (s : ScriptStep). SpellsRow words (record { step = s; reply = replies.World reply })) step_is
+    (subst (λ (r : ScriptReply). SpellsRow words (record { step = row.step; reply = r })) reply_is spelt)
 
-pub returns-else-any-clause-placed : goal.returns-else-any-clause-placed
-returns-else-any-clause-placed g c =
-    let before = c.put_before-before in
-    λ who other puts told none. moved_placed c.args.judge.now c.in-Puts-Outs.actor who before.result
-    c.in-Puts-Outs.outs c.behind.result other before.ensures.count c.behind.ensures (sym c.in-Puts-Outs.is-0 ∙ puts)
-    told
+pub returns-in-World-reply-clause-text : goal.returns-in-World-reply-clause-text
+returns-in-World-reply-clause-text g c words spelt = (
+  in_script c.placed_row.result,
+  c.placed_row.ensures.text words
+      (by_parts words c.args.row c.in-World.step c.in-World-reply.reply c.in-World.is c.in-World-reply.is spelt),
+  refl,
+)

@@ -1,6 +1,6 @@
 use Rattle.std.proofs.Common.{Some}
 use Rattle.ref_log.proofs.Common.{sym, ap, ◌∙◌, err_from_is_err_and}
-use Rattle.ref_log.proofs.HeadLines.{config_twice, given_config_bad, given_config_found, stopped_fails}
+use Rattle.ref_log.proofs.HeadLines.{config_twice, given_config_bad, given_config_found, header_stops}
 use Rattle.ref_log.specs.LogHeads.{begins_config}
 use Rattle.ref_script.specs.Lines.{words_of}
 use Rattle.ref_log.proofs.head.given_config.Goals as goal
@@ -12,7 +12,9 @@ returns-in_default-clause-config g c lines behind =
 pub returns-in_err-has_line-clause-config : goal.returns-in_err-has_line-clause-config
 returns-in_err-has_line-clause-config g c lines behind =
     let p = err_from_is_err_and c.from_residual.result c.from_residual.ensures.1 in
-    rw (p.1, p.2) (stopped_fails (Some c.args.given) lines _ (c.in_err-has_line.ensures.told lines _ behind.has))
+    rw (p.1, p.2)
+    (header_stops lines _ _ c.args.rule behind (Some c.args.given) _
+    (c.in_err-has_line.ensures.told lines _ behind.has))
 
 pub returns-then-begins_config-clause-config : goal.returns-then-begins_config-clause-config
 returns-then-begins_config-clause-config g c lines behind =

@@ -1,4 +1,4 @@
-use Rattle.ref_log.proofs.Common.{[], sym, ap, ◌∙◌, ◌+◌, ◌-◌, ◌^◌, err_from_is_err_and}
+use Rattle.ref_log.proofs.Common.{[], refl, inl, sym, ap, ◌∙◌, ◌+◌, ◌-◌, ◌^◌, err_from_is_err_and}
 use Rattle.std.proofs.Common.{min}
 use Rattle.ref_log.proofs.HeadLines.{header_bad, header_found, header_missing, stopped_fails}
 use Rattle.ref_script.specs.Lines.{words_of}
@@ -8,7 +8,7 @@ use Rattle.ref_log.proofs.head.header.Goals as goal
 pub returns-in_err-next_told-clause-header : goal.returns-in_err-next_told-clause-header
 returns-in_err-next_told-clause-header g c given lines has =
     let p = err_from_is_err_and c.from_residual.result c.from_residual.ensures.1 in
-    rw (p.1, p.2) (stopped_fails given lines _ (c.in_err-next_told.ensures.told lines [] has))
+    rw (p.1, p.2) (stopped_fails given lines [] _ (inl refl) (c.in_err-next_told.ensures.told lines [] has))
 
 pub returns-then-not-branch-clause-header : goal.returns-then-not-branch-clause-header
 returns-then-not-branch-clause-header g c given lines has =

@@ -1,6 +1,6 @@
 use Rattle.std.proofs.Common.{min}
 use Rattle.ref_log.proofs.Common.{sym, ap, ◌∙◌, ◌+◌, ◌-◌, ◌^◌, err_from_is_err_and}
-use Rattle.ref_log.proofs.HeadLines.{config_bad, config_missing, config_stops, own_config_found, stopped_fails}
+use Rattle.ref_log.proofs.HeadLines.{config_bad, config_missing, config_stops, header_stops, own_config_found}
 use Rattle.ref_log.specs.Checking.{in_limits}
 use Rattle.ref_script.specs.Lines.{words_of}
 use Rattle.ref_script.specs.Scripts.{config_of}
@@ -10,7 +10,8 @@ use Rattle.ref_log.proofs.head.own_config.Goals as goal
 pub returns-in_err-next_told-clause-config : goal.returns-in_err-next_told-clause-config
 returns-in_err-next_told-clause-config g c lines behind =
     let p = err_from_is_err_and c.from_residual.result c.from_residual.ensures.1 in
-    rw (p.1, p.2) (stopped_fails None lines _ (c.in_err-next_told.ensures.told lines _ behind.has))
+    rw (p.1, p.2)
+    (header_stops lines _ _ c.args.rule behind None _ (c.in_err-next_told.ensures.told lines _ behind.has))
 
 pub returns-then-not-branch-clause-config : goal.returns-then-not-branch-clause-config
 returns-then-not-branch-clause-config g c lines behind =
@@ -25,7 +26,10 @@ returns-in_err-next_told-in-Some-clause-config g c lines behind =
     let p = err_from_is_err_and c.from_residual-in_err-next_told-in-Some.result
     c.from_residual-in_err-next_told-in-Some.ensures.1 in
     rw (p.1, p.2)
-    (config_stops lines _ _ c.args.rule behind _ _ found _ c.in_err-next_told-in-Some.ensures.told)
+    (config_stops lines _ _ c.args.rule behind _ _ found _
+    (sym (c.in-Some.ensures ∙ ap in_limits (c.config_of.ensures
+    ∙ ap (λ content. config_of c.args.rule (words_of content)) c.content.ensures))) _
+    c.in_err-next_told-in-Some.ensures.told)
 
 pub returns-in_ok-next_told-in-Some-clause-config :
     goal.returns-in_ok-next_told-in-Some-clause-config

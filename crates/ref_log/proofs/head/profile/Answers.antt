@@ -18,6 +18,8 @@ returns-in_err-next_told-in-Some-Ok-clause-profile g c given lines config behind
     let p = err_from_is_err_and c.from_residual.result c.from_residual.ensures.1 in
     rw (p.1, p.2)
     (profile_stops given lines _ _ config (rw c.if-not-has_line.false at behind) _
+    (ap (λ content. profile_of (words_of content)) (sym c.content.ensures) ∙ sym c.in-Some-Ok.ensures
+    ∙ ap Some c.in-Some-Ok.field-0-is) _
     c.in_err-next_told-in-Some-Ok.ensures.told)
 
 pub returns-in_ok-next_told-in-Some-Ok-clause-profile :

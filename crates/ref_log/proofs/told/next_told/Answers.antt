@@ -1,6 +1,6 @@
 use Rattle.std.proofs.Common.{ℕ, arith, List, sym, ap, ◌∙◌}
 use Rattle.ref_log.proofs.Common.{err_from_is_err_and}
-use Rattle.ref_log.proofs.ReadLines.{passed_more, passed_found, passed_all}
+use Rattle.ref_log.proofs.ReadLines.{passed_more, passed_found, passed_all, stopped_behind}
 use Rattle.ref_script.specs.Lines.{words_of}
 use Rattle.ref_script.specs.ToldLines.{says_nothing}
 use Rattle.ref_log.proofs.told.next_told.Goals as goal
@@ -9,7 +9,8 @@ pub returns-in_err-next_plain-clause-told : goal.returns-in_err-next_plain-claus
 returns-in_err-next_plain-clause-told g c = λ lines read has.
     let passed = c.loop-stream.invariant.0 lines read has in
     let p = err_from_is_err_and c.from_residual.result c.from_residual.ensures.1 in
-    rw (p.1, p.2) (c.in_err-next_plain.ensures.past lines _ passed.has)
+    rw (p.1, p.2)
+    (stopped_behind lines read passed.between passed.silent _ (c.in_err-next_plain.ensures.past lines _ passed.has))
 
 pub returns-then-not-says_nothing-clause-told : goal.returns-then-not-says_nothing-clause-told
 returns-then-not-says_nothing-clause-told g c = λ lines read has.

@@ -1,4 +1,4 @@
-use Rattle.std.proofs.Common.{◌∙◌, sym, inl, inr}
+use Rattle.std.proofs.Common.{◌∙◌, refl, sym, inl, inr}
 use Rattle.ref_base.specs.declared.phase.Phase.TheVariants.{Clearing}
 use Rattle.ref_base.specs.declared.plain_step.PlainStep.TheVariants as plain
 use Rattle.ref_base.specs.declared.step.Step.TheVariants as steps
@@ -13,12 +13,14 @@ returns-in-Err g c =
     c.is_refused.result c.is_refused.ensures
 
 pub returns-in_default-reply : goal.returns-in_default-reply
-returns-in_default-reply g c =
-    no_answer c.args.self.now c.args.worker c.in_default.ensures c.args.reply c.in_default-reply.not-Nothing
-    (λ n look. elim look [
-      | inl cleared ↦ c.in_default-reply.not-Cleared n cleared
-      | inr others ↦ elim others [
-        | inl kept ↦ c.in_default-reply.not-Kept n kept
-        | inr skipped ↦ c.in_default-reply.not-Skipped n skipped
-      ]
-    ])
+returns-in_default-reply g c = (
+  no_answer c.args.self.now c.args.worker c.in_default.ensures c.args.reply c.in_default-reply.not-Nothing
+      (λ n look. elim look [
+        | inl cleared ↦ c.in_default-reply.not-Cleared n cleared
+        | inr others ↦ elim others [
+          | inl kept ↦ c.in_default-reply.not-Kept n kept
+          | inr skipped ↦ c.in_default-reply.not-Skipped n skipped
+        ]
+      ]),
+  refl,
+)

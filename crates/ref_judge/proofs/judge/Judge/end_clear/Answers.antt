@@ -1,4 +1,4 @@
-use Rattle.std.proofs.Common.{◌∙◌, sym, ap}
+use Rattle.std.proofs.Common.{◌∙◌, refl, sym, ap}
 use Rattle.std.specs.Prelude.{None, Option, List}
 use Rattle.std.specs.List.{list_any}
 use Rattle.std.proofs.lemmas.Bool.{or_left, or_right}
@@ -29,14 +29,17 @@ returns-in-Err g c =
 pub returns-then-self : goal.returns-then-self
 returns-then-self g c =
     rw (← c.self.view_is)
-    (rw c.in-Done.is (not_done _ (ap now_clearing c.self.view_is ∙ c.in_default.ensures)
-    (elim c.then-self.branch [
-      | then-self-via-then-self w ↦ or_left _ _ w.if-self.true
-      | then-self-via-else-self+then-has_any_cleared w ↦
-          or_right _ _
-          (ap (λ (ws : List Finder). list_any has_cleared_left ws) (sym w.deref.ensures.value)
-          ∙ sym w.has_any_cleared.ensures ∙ w.if-has_any_cleared.true)
-    ])))
+    (rw c.in-Done.is (
+      not_done _ (ap now_clearing c.self.view_is ∙ c.in_default.ensures)
+          (elim c.then-self.branch [
+            | then-self-via-then-self w ↦ or_left _ _ w.if-self.true
+            | then-self-via-else-self+then-has_any_cleared w ↦
+                or_right _ _
+                (ap (λ (ws : List Finder). list_any has_cleared_left ws) (sym w.deref.ensures.value)
+                ∙ sym w.has_any_cleared.ensures ∙ w.if-has_any_cleared.true)
+          ]),
+      refl,
+    ))
 
 pub invariant_of-self : goal.invariant_of-self
 invariant_of-self g c =
@@ -47,10 +50,12 @@ invariant_of-self g c =
 pub returns-then-not-may_any_have_more : goal.returns-then-not-may_any_have_more
 returns-then-not-may_any_have_more g c =
     rw (← c.self.view_is)
-    (rw (← c.in_ok-is_refused-in_default-reply.ensures)
-    (none_left _ (ap now_clearing c.self.view_is ∙ c.in_default.ensures)
-    (ap (λ (ws : List Finder). list_any has_more_left ws) (sym c.deref-in_default-reply.ensures.value)
-    ∙ sym c.may_any_have_more.ensures ∙ c.if-not-may_any_have_more.true)))
+    (rw (← c.in_ok-is_refused-in_default-reply.ensures) (
+      none_left _ (ap now_clearing c.self.view_is ∙ c.in_default.ensures)
+          (ap (λ (ws : List Finder). list_any has_more_left ws) (sym c.deref-in_default-reply.ensures.value)
+          ∙ sym c.may_any_have_more.ensures ∙ c.if-not-may_any_have_more.true),
+      refl,
+    ))
 
 pub invariant_of-self-in_default-reply : goal.invariant_of-self-in_default-reply
 invariant_of-self-in_default-reply g c =

@@ -43,7 +43,7 @@ returns-in_err-is_legal-in-Doomed g c =
           simp may refl
     ] in
     rw (p.1, p.2, no.0, c.in-Doomed.is)
-    (ends_none j c.in-Doomed.count (in_marking j.phase c.in_default.ensures) none)
+    (ends_none j c.in-Doomed.count (in_marking j.phase c.in_default.ensures) none, refl)
 
 pub doom-requires-clause-marks : goal.doom-requires-clause-marks
 doom-requires-clause-marks g c = in_marking c.args.self.now.phase c.in_default.ensures
@@ -66,9 +66,11 @@ returns-in_err-is_refused-in_default-reply g c =
     err_from_is_err_and c.from_residual-in_err-is_refused-in_default-reply.result
     c.from_residual-in_err-is_refused-in_default-reply.ensures.1 in
     let no = c.in_err-is_refused-in_default-reply.ensures in
-    rw (p.1, p.2, no.0)
-    (other_none j (in_marking j.phase c.in_default.ensures) c.args.reply (λ is. no.1 (sym is))
-    c.in_default-reply.not-Doomed)
+    rw (p.1, p.2, no.0) (
+      other_none j (in_marking j.phase c.in_default.ensures) c.args.reply (λ is. no.1 (sym is))
+          c.in_default-reply.not-Doomed,
+      refl,
+    )
 
 pub returns-in_err-is_legal-in_default-reply : goal.returns-in_err-is_legal-in_default-reply
 returns-in_err-is_legal-in_default-reply g c =
@@ -77,7 +79,7 @@ returns-in_err-is_legal-in_default-reply g c =
     c.from_residual-in_err-is_legal-in_default-reply.ensures.1 in
     let no = illegal_bit _ _ c.in_err-is_legal-in_default-reply.ensures in
     rw (← c.self.view_is, p.1, p.2, no.0, ← c.in_ok-is_refused-in_default-reply.ensures)
-    (grey_none _ (in_marking c.self.inside.phase (ap now_marking c.self.view_is ∙ c.in_default.ensures)) no.1)
+    (grey_none _ (in_marking c.self.inside.phase (ap now_marking c.self.view_is ∙ c.in_default.ensures)) no.1, refl)
 
 pub invariant_of-self : goal.invariant_of-self
 invariant_of-self g c =

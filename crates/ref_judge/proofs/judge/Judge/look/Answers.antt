@@ -1,4 +1,4 @@
-use Rattle.std.proofs.Common.{arith, ◌≡◌, ◌∙◌, sym, ap, subst}
+use Rattle.std.proofs.Common.{arith, ◌≡◌, ◌∙◌, refl, sym, ap, subst}
 use Rattle.std.proofs.lemmas.Result.{err_from_is_err_and}
 use Rattle.ref_judge.specs.Judged.{Judged}
 use Rattle.ref_judge.proofs.PassedRows.{within_workers}
@@ -16,9 +16,11 @@ index-requires g c =
 pub returns-in_default : goal.returns-in_default
 returns-in_default g c =
     let none = subst (λ (j : Judged). MayLook j c.args.worker) (sym c.self.view_is) c.requires.none in
-    rw (← c.self.view_is)
-    (none_tells _ c.self.invariant c.args.worker _ c.args.no none c.args.reply c.requires.names c.worker.view_is _
-    c.index.ensures _ c.find.ensures c.in_default.is)
+    rw (← c.self.view_is) (
+      none_tells _ c.self.invariant c.args.worker _ c.args.no none c.args.reply c.requires.names c.worker.view_is _
+          c.index.ensures _ c.find.ensures c.in_default.is,
+      refl,
+    )
 
 pub returns-in_err-check_look : goal.returns-in_err-check_look
 returns-in_err-check_look g c =
@@ -27,9 +29,11 @@ returns-in_err-check_look g c =
     let differ =
     subst (λ (j : Judged). answer_by j c.in-Some.is_cleared c.args.no ≡ c.args.reply → ⊥) (sym c.self.view_is)
     c.in_err-check_look.ensures.1 in
-    rw (← c.self.view_is, p.1, p.2, c.in_err-check_look.ensures.0)
-    (other_tells _ c.self.invariant c.args.worker _ c.args.no none c.args.reply c.requires.names c.worker.view_is _
-    c.index.ensures _ c.find.ensures _ _ c.in-Some.is differ)
+    rw (← c.self.view_is, p.1, p.2, c.in_err-check_look.ensures.0) (
+      other_tells _ c.self.invariant c.args.worker _ c.args.no none c.args.reply c.requires.names c.worker.view_is _
+          c.index.ensures _ c.find.ensures _ _ c.in-Some.is differ,
+      refl,
+    )
 
 pub index_mut-requires : goal.index_mut-requires
 index_mut-requires g c =

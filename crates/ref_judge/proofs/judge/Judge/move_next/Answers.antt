@@ -1,4 +1,4 @@
-use Rattle.std.proofs.Common.{sym, ◌∙◌, inl, inr, ap}
+use Rattle.std.proofs.Common.{sym, ◌∙◌, inl, inr, ap, refl}
 use Rattle.std.specs.Prelude.{Bool, Result, Ok, Err, if◌then◌else◌}
 use Rattle.ref_base.specs.Graphs.{is_there}
 use Rattle.ref_judge.specs.Judged.{Judged}
@@ -37,11 +37,13 @@ returns g c =
           (λ none. no_move j k w.in-Moved.no none c.in_default.ensures))
       | in-Nothing w ↦ rw w.in-Nothing.is (rw w.result-is (stays_told j _ (none_stays j k c.in_default.ensures)))
       | in_default-reply w ↦
-          rw w.result-is
-          (λ a stands s t fits h.
-          elim (move_answers s t c.args.reply (move_accepted j a s t stands fits k c.args.reply c.in_default.ensures
-          h)) [
-            | inl none ↦ w.in_default-reply.not-Nothing none
-            | inr moved ↦ w.in_default-reply.not-Moved moved.0 moved.1
-          ])
+          rw w.result-is (
+            λ a stands s t fits h.
+                elim (move_answers s t c.args.reply (move_accepted j a s t stands fits k c.args.reply
+                c.in_default.ensures h)) [
+                  | inl none ↦ w.in_default-reply.not-Nothing none
+                  | inr moved ↦ w.in_default-reply.not-Moved moved.0 moved.1
+                ],
+            refl,
+          )
     ]

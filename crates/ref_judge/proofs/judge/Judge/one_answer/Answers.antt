@@ -1,4 +1,4 @@
-use Rattle.std.proofs.Common.{None, ap, refl, subst, sym, ◌∙◌}
+use Rattle.std.proofs.Common.{refl, subst, sym, ◌∙◌}
 use Rattle.ref_base.specs.declared.step.Step.TheVariants as steps
 use Rattle.ref_judge.specs.Standing.{IsSettled}
 use Rattle.ref_judge.proofs.AnsweredRows.{does_alone}

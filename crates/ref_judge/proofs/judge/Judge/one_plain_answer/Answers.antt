@@ -1,4 +1,4 @@
-use Rattle.std.proofs.Common.{Some, arith, refl, subst, sym, ◌∙◌, ◌≡◌}
+use Rattle.std.proofs.Common.{arith, refl, subst, sym, ◌∙◌}
 use Rattle.ref_base.specs.declared.phase.Phase.TheVariants.{Clearing, Marking, Moving}
 use Rattle.ref_base.specs.declared.plain_step.PlainStep.TheVariants as plain
 use Rattle.ref_base.specs.declared.step.Step.TheVariants as steps

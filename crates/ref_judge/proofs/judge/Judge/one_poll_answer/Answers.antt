@@ -1,4 +1,4 @@
-use Rattle.std.proofs.Common.{None, Some, refl, subst, sym, ◌∙◌, ◌≡◌}
+use Rattle.std.proofs.Common.{None, refl, subst, sym, ◌∙◌, ◌≡◌}
 use Rattle.ref_base.specs.declared.step.Step.TheVariants as steps
 use Rattle.ref_judge.specs.Judged.{Judged, naming_refusal}
 use Rattle.ref_judge.proofs.PollDone.{poll_called, poll_filled}

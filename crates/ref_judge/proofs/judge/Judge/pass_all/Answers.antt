@@ -1,4 +1,4 @@
-use Rattle.std.proofs.Common.{arith, ◌∙◌, ℕ, sym, ap, length, List}
+use Rattle.std.proofs.Common.{arith, ◌∙◌, ℕ, refl, sym, ap, length, List}
 use Rattle.std.proofs.lemmas.Bool.{true≢false}
 use Rattle.ref_base.specs.Refusals.{work_refusal}
 use Rattle.ref_base.specs.declared.phase.Phase.TheVariants.{Clearing}
@@ -29,10 +29,12 @@ returns-then-has_cleared g c =
     ∙ c.requires in
     let within = within_workers _ k none c.self.invariant.state c.self.invariant.stands in
     rw (← c.self.view_is)
-    (rw (← c.worker.view_is)
-    (some_cleared _ k none
-    (ap has_cleared_left (sym (c.index.ensures ∙ at_any c.self.inside.workers.items k _ no_finder within))
-    ∙ sym c.has_cleared.ensures ∙ c.if-has_cleared.true)))
+    (rw (← c.worker.view_is) (
+      some_cleared _ k none
+          (ap has_cleared_left (sym (c.index.ensures ∙ at_any c.self.inside.workers.items k _ no_finder within))
+          ∙ sym c.has_cleared.ensures ∙ c.if-has_cleared.true),
+      refl,
+    ))
 
 pub returns-then-not-may_others_have_more : goal.returns-then-not-may_others_have_more
 returns-then-not-may_others_have_more g c =
@@ -42,10 +44,12 @@ returns-then-not-may_others_have_more g c =
     ∙ ap (λ (n : ℕ). work_refusal c.args.self.now.ground.heap c.args.self.now.phase Clearing n) c.worker.view_is
     ∙ c.requires in
     rw (← c.self.view_is)
-    (rw (← c.worker.view_is)
-    (none_waits _ k none c.if-self.true
-    (ap (λ (ws : List Finder). others_from k 0 ws) (sym c.deref.ensures.value)
-    ∙ sym c.may_others_have_more.ensures ∙ c.if-not-may_others_have_more.true)))
+    (rw (← c.worker.view_is) (
+      none_waits _ k none c.if-self.true
+          (ap (λ (ws : List Finder). others_from k 0 ws) (sym c.deref.ensures.value)
+          ∙ sym c.may_others_have_more.ensures ∙ c.if-not-may_others_have_more.true),
+      refl,
+    ))
 
 pub index_mut-requires : goal.index_mut-requires
 index_mut-requires g c =

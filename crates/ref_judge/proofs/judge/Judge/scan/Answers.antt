@@ -1,4 +1,4 @@
-use Rattle.std.proofs.Common.{◌∙◌, ℕ, ap, sym, inl, inr}
+use Rattle.std.proofs.Common.{◌∙◌, ℕ, ap, refl, sym, inl, inr}
 use Rattle.ref_base.specs.Refusals.{work_refusal}
 use Rattle.std.specs.Prelude.{Option}
 use Rattle.ref_base.specs.declared.fault.Fault.{Fault}
@@ -24,19 +24,23 @@ returns-in-Err g c =
 pub returns-then-not-self : goal.returns-then-not-self
 returns-then-not-self g c =
     let none = c.in_default.ensures in
-    rw c.in-Scanned.is
-    (scanned_none c.args.self.now c.args.worker c.in-Scanned.no none (elim c.then-not-self.branch [
-      | then-not-self-via-then-not-self w ↦
-          inl (ap (λ (j : Judged). j.may_be_left) (sym c.self.view_is) ∙ w.if-not-self.true)
-      | then-not-self-via-else-not-self+then-not-is_left w ↦ inr (sym w.is_left.ensures ∙ w.if-not-is_left.true)
-    ]))
+    rw c.in-Scanned.is (
+      scanned_none c.args.self.now c.args.worker c.in-Scanned.no none (elim c.then-not-self.branch [
+        | then-not-self-via-then-not-self w ↦
+            inl (ap (λ (j : Judged). j.may_be_left) (sym c.self.view_is) ∙ w.if-not-self.true)
+        | then-not-self-via-else-not-self+then-not-is_left w ↦ inr (sym w.is_left.ensures ∙ w.if-not-is_left.true)
+      ]),
+      refl,
+    )
 
 pub returns-then-not-self-2 : goal.returns-then-not-self-2
 returns-then-not-self-2 g c =
     rw (← c.self.view_is)
-    (rw c.in-Nothing.is
-    (none_none _ c.args.worker (ap (now_scanning c.args.worker) c.self.view_is ∙ c.in_default.ensures)
-    c.if-not-self-2.true))
+    (rw c.in-Nothing.is (
+      none_none _ c.args.worker (ap (now_scanning c.args.worker) c.self.view_is ∙ c.in_default.ensures)
+          c.if-not-self-2.true,
+      refl,
+    ))
 
 pub invariant_of-self : goal.invariant_of-self
 invariant_of-self g c =
@@ -51,6 +55,8 @@ returns-else-not-self-2 g c =
     c.if-not-self-2.false))
 
 pub returns-in_default-reply : goal.returns-in_default-reply
-returns-in_default-reply g c =
-    others_none c.args.self.now c.args.worker c.in_default.ensures c.args.reply c.in_default-reply.not-Nothing
-    c.in_default-reply.not-Scanned
+returns-in_default-reply g c = (
+  others_none c.args.self.now c.args.worker c.in_default.ensures c.args.reply c.in_default-reply.not-Nothing
+      c.in_default-reply.not-Scanned,
+  refl,
+)

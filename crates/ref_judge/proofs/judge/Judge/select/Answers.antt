@@ -1,4 +1,4 @@
-use Rattle.std.proofs.Common.{sym, ◌∙◌, inl, inr, ap}
+use Rattle.std.proofs.Common.{sym, ◌∙◌, inl, inr, ap, refl}
 use Rattle.ref_base.specs.declared.step.Step.TheVariants as steps
 use Rattle.ref_base.specs.declared.plain_step.PlainStep.TheVariants as plain
 use Rattle.ref_base.specs.Refusals.{select_refusal}
@@ -35,17 +35,22 @@ returns-after-fault g c =
           rw w.result-is
           (stays_told j _ (choice_stays j c.in-Refused.fault w.in-NoRoom.is c.in_default.ensures))
       | in_default-fault w ↦
-          rw w.result-is
-          (no_choice j c.in-Refused.fault w.in_default-fault.not-NoRoom w.in_default-fault.not-AddressesSpent
-          c.in_default.ensures)
+          rw w.result-is (
+            no_choice j c.in-Refused.fault w.in_default-fault.not-NoRoom w.in_default-fault.not-AddressesSpent
+                c.in_default.ensures,
+            refl,
+          )
     ])
 
 pub returns-in_default-reply : goal.returns-in_default-reply
-returns-in_default-reply g c = λ a stands s t fits h.
-    elim (select_accepted c.args.self.now a s t stands fits c.args.reply c.in_default.ensures h) [
-      | inl chosen ↦ c.in_default-reply.not-Selected chosen.0 chosen.1.0
-      | inr refused ↦ elim refused.0 [
-        | inl room ↦ c.in_default-reply.not-Refused NoRoom room
-        | inr spent ↦ c.in_default-reply.not-Refused AddressesSpent spent
-      ]
-    ]
+returns-in_default-reply g c = (
+  λ a stands s t fits h.
+      elim (select_accepted c.args.self.now a s t stands fits c.args.reply c.in_default.ensures h) [
+        | inl chosen ↦ c.in_default-reply.not-Selected chosen.0 chosen.1.0
+        | inr refused ↦ elim refused.0 [
+          | inl room ↦ c.in_default-reply.not-Refused NoRoom room
+          | inr spent ↦ c.in_default-reply.not-Refused AddressesSpent spent
+        ]
+      ],
+  refl,
+)
