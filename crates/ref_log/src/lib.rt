@@ -1,5 +1,5 @@
-//! The log of a collector's run, judged: its lines are read one by one, in the memory of one line, of one chunk and of
-//! the judge.
+//! The log of a collector's run, judged: its lines are read one by one, in the memory of one line, of one chunk, of the
+//! names of its objects and of the judge.
 #![tactic(auto)]
 
 mod called;
