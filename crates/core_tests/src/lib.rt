@@ -29,6 +29,8 @@ mod objects;
 #[cfg(test)]
 mod queues;
 #[cfg(test)]
+mod rows;
+#[cfg(test)]
 mod scarce;
 #[cfg(test)]
 mod space;

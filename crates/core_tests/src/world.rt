@@ -7,7 +7,6 @@ mod judged;
 mod memory;
 mod random;
 mod rounds;
-mod rows;
 mod scale;
 mod starts;
 mod stories;

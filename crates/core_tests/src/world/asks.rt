@@ -3,8 +3,8 @@
 ghost use Rattle.std.specs.Prelude.{◌≡◌, IfOk, length};
 ghost use Rattle.ref_world.specs.Cores.{core_queue_at};
 
-use super::rows::{M, PUT, RELEASE, new, object, own, poll, took, unhook, weak};
 use super::{CONFIG, do_steps};
+use crate::rows::{M, PUT, RELEASE, new, object, own, poll, took, unhook, weak};
 use ref_base::{Config, Fault, MutNo, ObjNo, QueueNo, Reply, SlotNo};
 use ref_world::World;
 use std::alloc::{Allocator, Global};

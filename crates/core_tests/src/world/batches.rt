@@ -1,11 +1,11 @@
 //! Several notices that are put in at once, where memory runs out. Worked traces of batches are scripts, files of the
 //! program `refrun_cases`.
 
-use super::rows::{
+use super::{TWO_WORKERS, do_steps};
+use crate::rows::{
     END_CLEAR, END_MARK, begin, clear_next, cleared, drop_slot, hands, new, object, of_one_cycle,
     outs, polls, refused, scan, scanned, took_some, weak, worker_puts_all,
 };
-use super::{TWO_WORKERS, do_steps};
 use crate::scarce::MOST;
 use rationed::Rationed;
 use ref_base::{Done, Fault, Reply, Step};

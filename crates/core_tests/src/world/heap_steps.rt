@@ -1,8 +1,8 @@
 //! The heap's own machine, step by step: the holds and notices that go with its replies.
 
 use super::CONFIG;
-use super::rows::{nos, of_one_cycle};
 use crate::hand::{foreign, keep, leak};
+use crate::rows::{nos, of_one_cycle};
 use ref_base::Cause::{Cycle, Own};
 use ref_base::{
     Batch, Cause, Fault, HeapStep, MOST_IN_BATCH, MutNo, Nos, ObjNo, Parcel, PlainStep, QueueNo,

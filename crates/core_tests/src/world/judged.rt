@@ -1,7 +1,7 @@
 //! What a judge says of traces: a world's is legal, and with another reply a row isn't.
 
 use super::CONFIG;
-use super::rows::{
+use crate::rows::{
     END_MARK, PUT, begin, clear_next, cleared, drop_slot, new, object, own, poll, scan, scanned,
     soft, took, unhook, weak,
 };

@@ -1,12 +1,12 @@
 //! Worlds whose memory runs out.
 
-use super::rows::{
+use super::{CONFIG, are_rows, do_steps, steps_of};
+use crate::rows::{
     END_MOVE, PUT, RELEASE, SELECT, adopt, begin, clear, clear_next, cleared, close, copy,
     drop_slot, get, hands, load, move_next, moved, new, nos, object, outs, own, poll, polls,
     refers_to, refused, scan, scanned, store, sweep, took, unhook, weak, worker_puts,
     worker_puts_all, worker_releases,
 };
-use super::{CONFIG, are_rows, do_steps, steps_of};
 use crate::scarce::MOST;
 use rationed::Rationed;
 use ref_base::{Config, Done, Fault, PlainStep, QueueNo, Reply, Step, WorkerNo};

@@ -1,10 +1,10 @@
 //! A heap that lives longer than the numbers of its rounds last.
 
-use super::rows::{
+use super::{CONFIG, do_steps};
+use crate::rows::{
     END_CLEAR, END_MARK, END_SWEEP, SWEEP, begin, drop_slot, load, new, object, scan, scanned,
     store,
 };
-use super::{CONFIG, do_steps};
 use ref_base::Reply;
 use ref_world::World;
 use std::test::Fail;

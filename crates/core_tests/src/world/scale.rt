@@ -1,10 +1,10 @@
 //! A heap of as many cells as there may be.
 
-use super::rows::{
+use super::{CONFIG, do_steps};
+use crate::rows::{
     END_CLEAR, END_MARK, END_SWEEP, SWEEP, begin, clear_next, cleared, drop_slot, new, object,
     refused, scan, scanned, soft,
 };
-use super::{CONFIG, do_steps};
 use ref_base::{Config, Fault, Reply, SpanRule, Step};
 use ref_world::World;
 use std::process::Abort;

@@ -1,10 +1,10 @@
 //! Worlds whose numbers begin elsewhere than at one.
 
-use super::rows::{
+use super::{CONFIG, do_steps};
+use crate::rows::{
     begin, clear_next, cleared, drop_slot, hand, new, object, of_cycle, poll, refused, scan,
     scanned, took, weak, worker_puts,
 };
-use super::{CONFIG, do_steps};
 use rationed::Rationed;
 use ref_base::{Config, Fault, PlainStep, Reply, Step};
 use ref_objects::Start;

@@ -1,11 +1,11 @@
 //! Worked traces, as lists of steps and step by step. More of them are scripts, files of the program `refrun_cases`.
 
 use super::asks::{Lists, have_lists};
-use super::rows::{
+use super::{CONFIG, TWO_WORKERS, do_steps, runs_as};
+use crate::rows::{
     RELEASE, adopt, begin, clear_next, cleared, drop_slot, hand, new, object, of_cycle, poll, scan,
     scanned, took, weak, worker_puts,
 };
-use super::{CONFIG, TWO_WORKERS, do_steps, runs_as};
 use ref_base::{PlainStep, Reply, Step};
 use ref_world::World;
 use std::test::Fail;
