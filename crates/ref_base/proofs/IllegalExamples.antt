@@ -167,7 +167,7 @@ abbrev rooted : List ℕ → Graph
 rooted roots = record { objects = objects; roots = roots }
 
 -- the rows that lead there, and others behind
-abbrev after_scanning : List Row → List Row
+abbrev pub after_scanning : List Row → List Row
 after_scanning rows =
     row (steps.Plain (plain.New 0 0 0)) (replies.Object 1) ∷
     row (steps.Plain (plain.Refer 0 Weak 1 0 (Some 0) 0)) (replies.Object 2) ∷
@@ -199,6 +199,7 @@ kept_doomed =
     (row (steps.Plain (plain.Get 0 3 1)) (replies.Object 1) ∷
     row (steps.Plain plain.EndMark) (replies.Doomed 1) ∷ [])
 
+-- promise: Judge::row: what a get answered in a mark is kept
 kept_doomed_is_not_legal : ¬ (IsLegal (config_of 1) kept_doomed)
 kept_doomed_is_not_legal legal = grind arith
 
@@ -229,7 +230,7 @@ kept_by_the_span_itself =
     row (steps.Plain (plain.Scan 0)) (replies.Scanned 2) ∷
     row (steps.Plain (plain.Scan 0)) (replies.Scanned 1) ∷ []
 
--- promise: Marker::begin, World::step: a scaled span is not the configuration's own
+-- promise: Marker::begin, World::step: a scaled span is neither the configuration's own nor goes by what was shaded
 kept_by_the_span_itself_is_not_legal : ¬ (IsLegal (scaled_config_of 1) kept_by_the_span_itself)
 kept_by_the_span_itself_is_not_legal legal = grind (arith, it_is_not_kept)
 
@@ -242,6 +243,7 @@ selected_twice =
     row (steps.Plain plain.EndMove) replies.Done ∷
     row (steps.Plain plain.Select) (replies.Selected 2) ∷ []
 
+-- promise: Marker::select, World::step: objects are chosen once between two cycles
 selected_twice_is_not_legal : ¬ (IsLegal (config_of 1) selected_twice)
 selected_twice_is_not_legal legal = grind arith
 
@@ -275,6 +277,7 @@ abbrev pending : ℕ → ℕ → ℕ → Pending
 pending n q cycle = record { object = n; queue = q; cycle = cycle }
 
 -- one hand takes references of two cycles
+-- promise: Heap::hand_batch, World::step: a batch has no notices of two cycles
 no_hand_crosses_a_cycle : (b : State)
     → ¬ (IsRow (waiting_for_hands (pending 2 0 1 ∷ pending 6 0 2 ∷ []))
     (row (steps.Hands 0 32) (replies.Notices (2 ∷ 6 ∷ []) 0 1 0)) b)
@@ -282,6 +285,7 @@ no_hand_crosses_a_cycle b is =
     let told : replies.Notices (2 ∷ 6 ∷ []) 0 1 0 ≡ replies.Notices (2 ∷ []) 0 1 0 = is.1.0 in absurd cc
 
 -- or of two queues
+-- promise: Heap::hand_batch, World::step: a batch has no notices of two queues
 no_hand_crosses_a_queue : (b : State)
     → ¬ (IsRow (waiting_for_hands (pending 2 0 1 ∷ pending 6 1 1 ∷ []))
     (row (steps.Hands 0 32) (replies.Notices (2 ∷ 6 ∷ []) 0 1 0)) b)
@@ -296,6 +300,7 @@ no_hand_leaves_what_goes_with_it b is =
     let told : replies.Notices (2 ∷ []) 0 1 0 ≡ replies.Notices (2 ∷ 6 ∷ []) 0 1 0 = is.1.0 in absurd cc
 
 -- more than 32 are asked for
+-- promise: World::step: a hand of 33 is refused
 no_hand_is_of_33 : (b : State)
     → ¬ (IsRow (waiting_for_hands (pending 2 0 1 ∷ [])) (row (steps.Hands 0 33) (replies.Notices (2 ∷ []) 0 1 0)) b)
 no_hand_is_of_33 b is = let told : replies.Notices (2 ∷ []) 0 1 0 ≡ replies.Refused BadConfig = is.0 in absurd cc

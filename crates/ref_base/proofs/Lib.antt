@@ -98,5 +98,7 @@ mod ReplayExamples
 mod OrderExamples
 mod LegalExamples
 mod IllegalExamples
+pub mod WrongRows
+mod RightRows
 mod Examples
 pub mod WantedMemory

@@ -1,8 +1,16 @@
--- What goes with another pending reference, worked, and what doesn't.
+-- What an unhook that is refused leaves, and what goes with another pending reference, worked, and what doesn't.
 use Rattle.ref_clear.proofs.Common.{◌≡◌, ℕ, true, refl, ap, [], ◌∷◌, Some, Pending, Cycle, ClearHeap}
 use Rattle.ref_clear.proofs.Common.{pending_at}
+use Rattle.ref_base.specs.declared.fault.Fault.{Fault}
+use Rattle.ref_base.specs.declared.heap_step.HeapStep.TheVariants as heap
+use Rattle.ref_clear.specs.ClearCalls.{refusal_in, after_in}
 use Rattle.ref_clear.specs.ClearViews.{front_count, stays_behind, HandsNext}
 use Rattle.ref_base.specs.declared.reply.Reply.TheVariants.{Notice, Nothing}
+
+-- promise: Heap::unhook: nothing is cleared where its hold can't be counted, or it is refused otherwise
+a_refused_unhook_clears_nothing : (c : ClearHeap) (m s : ℕ) (fault : Fault)
+    → refusal_in c (heap.Unhook m s) ≡ Some fault → after_in c (heap.Unhook m s) ≡ c
+a_refused_unhook_clears_nothing c m s fault is = rw is refl
 
 abbrev first : Pending
 first = record { object = 3; queue = 0; cycle = 2 }

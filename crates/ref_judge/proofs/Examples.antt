@@ -86,7 +86,16 @@ takes_the_last =
     row (steps.Put (Mutator 0)) (replies.Added 1) ∷
     row (steps.Poll 0 0) (replies.Took 3) ∷ []
 
-abbrev with_order : Order → Profile
+-- of the one notice that stands another is taken
+abbrev pub takes_what_does_not_stand : List Row
+takes_what_does_not_stand =
+    row (steps.Plain (plain.New 0 0 0)) (replies.Object 1) ∷
+    row (steps.Plain (plain.Refer 0 Weak 1 0 (Some 0) 0)) (replies.Object 2) ∷
+    row (steps.Unhook 0 1) (replies.Notice 2 0 Own) ∷
+    row (steps.Put (Mutator 0)) (replies.Added 0) ∷
+    row (steps.Poll 0 0) (replies.Took 1) ∷ []
+
+abbrev pub with_order : Order → Profile
 with_order order = record strict { order = order }
 
 it_may_take_the_last : IsLegalAs (with_order Last) (config_of 1) takes_the_last

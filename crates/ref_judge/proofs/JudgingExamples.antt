@@ -19,6 +19,9 @@ use Rattle.ref_judge.specs.Verdicts.{Judges, IsOnlyAnswer, NamesAnswerBehind}
 use Rattle.ref_judge.specs.declared.rule.Instead.TheVariants.{Only, Among, Untold}
 use Rattle.ref_judge.proofs.ProfiledSteps.{legal_as, stop, ◌⨾◌}
 use Rattle.ref_judge.proofs.Examples.{keeps_more, takes_the_last, the_strict_may_not_take_the_last}
+use Rattle.ref_judge.proofs.Examples.{with_order, takes_what_does_not_stand}
+use Rattle.ref_base.proofs.WrongRows.{dooms_a_root}
+use Rattle.ref_judge.specs.declared.order.Order.TheVariants.{Any}
 use Rattle.ref_judge.proofs.IdleRows.{kept_rows_are_legal}
 
 -- ---- idle rows
@@ -156,14 +159,35 @@ it_is_not_the_only_one : ¬ (NamesAnswerBehind keeps_more (config_of 1) begins_a
     (Only (replies.Scanned 1)))
 it_is_not_the_only_one only = only.others replies.Nothing (λ is. absurd cc) a_scan_may_answer_none.1
 
--- of a step with one answer some answer is named
+-- promise: Judge::row: of a step with one answer some answer is named
 none_is_named : ¬ (NamesAnswerBehind keeps_more (config_of 1) [] (steps.Plain (plain.New 0 0 0)) Untold)
 none_is_named many = false≢true (sym many)
+
+-- promise: Judge::row: the answer that is named as the only one is that one
+no_other_is_the_only_one : ¬ (NamesAnswerBehind keeps_more (config_of 1) makes_one (steps.Plain (plain.Scan 0))
+    (Only replies.Nothing))
+no_other_is_the_only_one only = let legal = only.legal in grind arith
+
+-- promise: Judge::row: an answer that is named is legal
+no_answer_is_named_that_is_not_legal : ¬ (NamesAnswerBehind keeps_more (config_of 1) begins_a_cycle
+    (steps.Plain (plain.Scan 0)) (Among (replies.Scanned 7)))
+no_answer_is_named_that_is_not_legal named = let legal = named.1 in grind arith
+
+-- ---- what no profile loosens
+
+-- promise: Judge::row: a collector that keeps more dooms no root either
+no_root_is_doomed_where_more_is_kept : ¬ (IsLegalAs keeps_more (config_of 1) dooms_a_root)
+no_root_is_doomed_where_more_is_kept legal = grind arith
+
+-- promise: Judge::row: a queue of any order gives what stands in it alone
+what_does_not_stand_is_not_taken : ¬ (IsLegalAs (with_order Any) (config_of 1) takes_what_does_not_stand)
+what_does_not_stand_is_not_taken legal = grind arith
 
 -- ---- memory
 
 a_put_wants_memory : wants_memory (steps.Put (Mutator 0)) ≡ true
 a_put_wants_memory = refl
 
+-- promise: Judge::row: no memory is refused where none is wanted
 a_poll_wants_none : wants_memory (steps.Poll 0 0) ≡ false
 a_poll_wants_none = refl

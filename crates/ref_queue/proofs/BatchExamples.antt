@@ -36,9 +36,11 @@ positions_follow_one_another = refl
 it_ends_at_what_finds_no_memory : AnswersBatch object_of queue_of one_stands batch (Ok one_refused)
 it_ends_at_what_finds_no_memory = (refl, refl, (refl, ((refl, (refl, refl, refl)), tt)), refl)
 
+-- promise: Queue::put_batch: what was not added stands in front of what was not tried
 what_came_back_stands_in_front_of_what_was_not_tried : left_by batch (Ok one_refused) ≡ batch
 what_came_back_stands_in_front_of_what_was_not_tried = refl
 
+-- promise: Queue::put_batch: no item behind one that found no memory is tried
 it_does_not_go_on_after_a_refused_item : ¬ (AnswersBatch object_of queue_of one_stands batch
     (Ok (record { before = 2; done = Already ∷ Refused NoMemory ∷ Added ∷ [] })))
 it_does_not_go_on_after_a_refused_item is = let over = is.3 in absurd cc
@@ -91,6 +93,7 @@ the_last_is_not_told_first : (left : Lists Slip) (items : List Slip)
 the_last_is_not_told_first left items is =
     let first : 9 ≡ 8 = ap (λ (ns : List ℕ). get_or ns 0 0) is.1 in absurd (omega (arith, first))
 
+-- promise: Queue::poll_batch: what is taken first stands first in the batch
 nor_does_it_stand_first_in_the_batch : (left : Lists Slip)
     → ¬ (AnswersPolls object_of two_stand 5 [] (Took (8 ∷ 9 ∷ [])) left ((9, 1) ∷ (8, 1) ∷ []))
 nor_does_it_stand_first_in_the_batch left is =

@@ -7,7 +7,11 @@ use Rattle.ref_base.specs.QueueLists.{Lists}
 use Rattle.ref_base.specs.declared.fault.Fault.TheVariants.{WrongQueue, NoMemory, TableClosed, RegisteredTwice}
 use Rattle.ref_queue.specs.NumberBlocks.{is_told, TellsNumbers}
 use Rattle.ref_queue.specs.CleanTables.{Registry, Registers, Takes, TakesAny, FindsFirst}
-use Rattle.ref_queue.specs.QueueAnswers.{AnswersPut, AnswersPoll}
+use Rattle.ref_queue.specs.QueueAnswers.{AnswersPut, AnswersPoll, after_put}
+use Rattle.ref_base.specs.QueueLists.{was_put}
+use Rattle.std.specs.Prelude.{Result}
+use Rattle.ref_base.specs.declared.fault.Fault.{Fault}
+use Rattle.ref_queue.specs.declared.queue.Put.{Put}
 use Rattle.ref_queue.proofs.TableLemmas.{either_first, first_out}
 use Rattle.ref_queue.specs.declared.queue.Put.TheVariants.{Added, Already, Closed}
 use Rattle.ref_queue.specs.declared.queue.Polled.TheVariants.{Took, Empty, Closed as Ended}
@@ -76,6 +80,17 @@ what_is_another_queues_is_refused = ((λ own. absurd (omega (arith, own))), refl
 memory_is_not_wanted_before_a_repeat_is_told : ¬ (AnswersPut object_of queue_of one_stands (7, 1)
     (Err (NoMemory, (7, 1))))
 memory_is_not_wanted_before_a_repeat_is_told is = true≢false is.0.1
+
+abbrev no_memory_for_nine : Result (Put Slip) (Fault × Slip)
+no_memory_for_nine = Err (NoMemory, (9, 1))
+
+it_may_find_no_memory : AnswersPut object_of queue_of one_stands (9, 1) no_memory_for_nine
+it_may_find_no_memory = ((refl, refl, refl), refl)
+
+-- promise: Queue::put: what found no memory doesn't count as put in
+what_finds_no_memory_was_not_put_in : was_put object_of
+    (after_put object_of queue_of one_stands (9, 1) no_memory_for_nine) (9, 1) ≡ false
+what_finds_no_memory_was_not_put_in = refl
 
 it_is_taken : AnswersPoll object_of one_stands (Took (8, 1)) (record one_stands { taken = 7 ∷ 8 ∷ []; stands = [] })
 it_is_taken = (refl, refl)

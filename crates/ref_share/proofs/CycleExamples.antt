@@ -143,9 +143,11 @@ module _ {A : Type 0} (start : Option ClearHeap) (queues : List (SharedQueue A))
     ),
   )
 
+  -- promise: cycle: a cycle that never begins is none
   never_begun : ¬ (IsBegun 5 Normal (seat []) (Ok tt) (seat []))
   never_begun begun = let none = begun.2.2 in absurd cc
 
+  -- promise: cycle: an urgent cycle is begun as one
   begun_less_urgent : ¬ (IsBegun 5 Urgent (seat []) (Ok tt) (seat (begins ∷ [])))
   begun_less_urgent begun =
       let steps = ap (λ (calls : List HeapEntry). map (λ call. call.step) calls) begun.2.2 in absurd cc

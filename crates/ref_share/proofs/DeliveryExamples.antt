@@ -284,6 +284,14 @@ module _ {A : Type 0} (start : Option ClearHeap) (first second : SharedQueue A) 
   it_works_by_one_delivery called =
       (seat [], s ∷ t ∷ [], (refl, refl), inl (0, Ok (Added 2 1 0), refl, it_is_delivered called))
 
+  -- all that a delivery hands on is put in, as a law says
+  -- promise: deliver_all: nothing is handed on and lost
+  what_is_lost_keeps_no_pace : (queue_view t).mine ≡ []
+      → ¬ (KeepsPace 0 queues (seat (hands 2 ∷ [])) (s ∷ t ∷ []))
+  what_is_lost_keeps_no_pace none pace =
+      let are : [] ≡ notice 2 ∷ [] = ap (notices_put 0 1) (sym none) ∙ pace 1 t (omega arith) refl in
+      absurd (omega (arith, ap length are))
+
   -- what was handed on second was put in first
   another_order_keeps_no_pace : (queue_view u).mine ≡ puts_in 6 0 ∷ puts_in 2 1 ∷ []
       → ¬ (KeepsPace 0 queues (seat (hands 2 ∷ hands 6 ∷ [])) (s ∷ u ∷ []))

@@ -8,6 +8,7 @@ use Rattle.ref_space.specs.Pages.{is_sparse, sparse_count, sparse_cells, choosin
 use Rattle.ref_space.specs.Pages.{choose_refusal, choice, after_choice, renumbered, renumbered_uses}
 use Rattle.ref_space.specs.Pages.{AreBetween, AreEmptied, AreFramed, IsFirstFree, IsRenumbered}
 use Rattle.ref_space.specs.PageViews.{AreMapped}
+use Rattle.ref_space.specs.Moves.{AreFree}
 
 -- a page whose first cells are taken, so many
 abbrev filled : ℕ → ℕ → ℕ → Use
@@ -79,6 +80,15 @@ too_few_pages_come_first = refl
 
 nothing_changes_then : after_choice (at_next (2 ^ 32) three) ≡ at_next (2 ^ 32) three
 nothing_changes_then = refl
+
+-- ---- where what is chosen moves
+
+-- Objects lie in the first two cells of the chosen page, at places 0 and 1, and both were to move to place 66.
+-- promise: Table::select: no two objects are to move to one cell
+no_two_move_to_one_cell : ¬ (AreFree (false ∷ false ∷ replicate 126 true) (66 ∷ 66 ∷ replicate 126 0)
+    (chosen_page (filled 5 0 2) ∷ filled 6 1 3 ∷ []))
+no_two_move_to_one_cell are =
+    let same : 0 ≡ 1 = are.apart 0 1 (refl, refl) (refl, refl) refl in absurd (omega (arith, same))
 
 -- ---- where the next object is placed
 

@@ -65,6 +65,7 @@ a_cell_is_given_back : with_cell three 0 1 true
     ≡ record full_page { free = false ∷ true ∷ [] } ∷ half_page ∷ empty_page ∷ []
 a_cell_is_given_back = refl
 
+-- promise: Pages::give, Pages::place: a cell that was given back in an earlier page is the next place
 and_is_the_next_place : next_place (with_cell three 0 1 true) ≡ Some (0, 1)
 and_is_the_next_place = refl
 

@@ -12,6 +12,7 @@ use Rattle.ref_space.specs.Moves.{Ways, ways_of}
 use Rattle.ref_space.specs.Pages.{Use, fresh_page, use_of}
 use Rattle.ref_space.proofs.Common.{zero, suc}
 use Rattle.ref_space.specs.Tables.{with_occupant, without_occupant, LieOnce, RoundView, IfRead, word_name}
+use Rattle.ref_space.specs.Tables.{made_entry, blanked_unless_marked, moved_from}
 use Rattle.ref_space.proofs.Common.{◌==◌, eqb-true, ◌∙◌}
 use Rattle.std.proofs.lemmas.Bool.{eq-eqb, true≢false}
 use Rattle.ref_space.proofs.Common.{arith}
@@ -57,10 +58,11 @@ no_word_in_front_of_the_first leads = false≢true leads
 a_slot_may_hold_it : leads_by R unmoved occupants true (word_of_place R 0) ≡ true
 a_slot_may_hold_it = refl
 
--- promise: Table::set_slot, Table::copy_slot: a slot holds words of the good colour alone
+-- promise: Table::set_slot, Table::copy_slot, Table::load, Table::begin: a slot holds words of the good colour alone
 no_slot_holds_it_in_another_colour : leads_by R unmoved occupants true (word_of_place A 0) ≡ true → ⊥
 no_slot_holds_it_in_another_colour leads = false≢true leads
 
+-- promise: Table::load: a word from before is healed in the good colour, by where its object lies
 it_is_healed_by_the_good_colour : healed_word R unmoved occupants (word_of_place A 0) ≡ word_of_place R 0
 it_is_healed_by_the_good_colour = refl
 
@@ -158,6 +160,25 @@ table = record {
   round = record { number = 1; good = R; read = None };
 }
 
+-- promise: Table::push: a new object has null fields alone, whatever lay in its cell
+a_new_object_has_null_fields : (made_entry 1 8 2 None false).object.fields ≡ None ∷ None ∷ []
+a_new_object_has_null_fields = refl
+
+-- in the next round, in which it isn't marked
+-- promise: Table::condemn: what is condemned refers to nothing
+what_is_condemned_refers_to_nothing : (blanked_unless_marked 2 seven).object.fields ≡ None ∷ None ∷ []
+what_is_condemned_refers_to_nothing = refl
+
+-- the object moves from place 0 to place 1, and words of the colour from before lead to the place that it left
+-- promise: Table::move_next: a word to the old place leads to what moved
+its_old_word_leads_to_it : target_by (ways_of (record { uses = pages; next = 6 }) (1 ∷ []) A true) (None ∷ Some 7 ∷ [])
+    (word_of_place A 0) ≡ Some 7
+its_old_word_leads_to_it = refl
+
+-- promise: Table::move_next, Table::load: a move forgets no way from an old place
+no_way_is_forgotten : (t : Table) (from : ℕ) → (moved_from t from).ways.forwards ≡ t.ways.forwards
+no_way_is_forgotten t from = refl
+
 number_8_is_unnamed : IsUnnamed table 8
 number_8_is_unnamed = record { slots = refl; objects = (refl, tt) }
 
@@ -205,7 +226,7 @@ null_was_read is = refl
 a_good_word_was_read : IfRead after_a_load 7 (Some 1) (are_in_colour A (coloured_word A 5 3))
 a_good_word_was_read is = refl
 
--- promise: Table::word_at, Table::word_of_referent: a word of another colour wasn't read last
+-- promise: Table::word_at, Table::word_of_referent, Table::load: a word of another colour wasn't read last
 no_word_from_before_was_read : IfRead after_a_load 7 (Some 1) (are_in_colour A (coloured_word R 5 3)) → ⊥
 no_word_from_before_was_read so = true≢false (sym (so refl))
 

@@ -1,2 +1,3 @@
 pub mod Common
 pub mod WriteLemmas
+mod FaultExamples
