@@ -16,29 +16,32 @@ const PARTS: [&str; 5] = ["moves", "batches", "jobs", "soft", "hide"];
 
 /// The subcommand, its numbers and its option.
 pub fn command<'a>(alloc: Global) -> Result<Command<'a>, Error> {
-    let seed = Arg::new(alloc, "seed")
-        .value_name("SEED")
-        .required(true)
-        .value_parser(ValueParser::unsigned(0, u64::MAX))
-        .help("What the script is drawn from");
-    let steps = Arg::new(alloc, "steps")
-        .value_name("STEPS")
-        .required(true)
-        .value_parser(ValueParser::unsigned(1, MOST_STEPS))
-        .help("How many steps it has: 1 to 100,000");
-    let with = Arg::new(alloc, "with")
-        .long("with")
-        .value_name("PARTS")
-        .action(ArgAction::Append)
-        .value_delimiter(',')
-        .value_parser(ValueParser::Names(&PARTS))
-        .help("What it has besides the plain steps, with commas between [default: all]");
     let command = Command::new(alloc, "random")
         .about("Prints a script of steps at random, which tries what people forget")
         .after_help(help::RANDOM)
-        .arg(seed)?
-        .arg(steps)?
-        .arg(with)?;
+        .arg(
+            Arg::new(alloc, "seed")
+                .value_name("SEED")
+                .required(true)
+                .value_parser(ValueParser::unsigned(0, u64::MAX))
+                .help("What the script is drawn from"),
+        )?
+        .arg(
+            Arg::new(alloc, "steps")
+                .value_name("STEPS")
+                .required(true)
+                .value_parser(ValueParser::unsigned(1, MOST_STEPS))
+                .help("How many steps it has: 1 to 100,000"),
+        )?
+        .arg(
+            Arg::new(alloc, "with")
+                .long("with")
+                .value_name("PARTS")
+                .action(ArgAction::Append)
+                .value_delimiter(',')
+                .value_parser(ValueParser::Names(&PARTS))
+                .help("What it has besides the plain steps, with commas between [default: all]"),
+        )?;
     Ok(command)
 }
 

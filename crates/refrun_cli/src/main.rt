@@ -55,15 +55,7 @@ fn main(rt: HostRuntime) -> ExitCode {
 
 /// What the words ask for: `run`, `strength`, `random`, `check` or `stress`.
 fn command_of<'a>(alloc: Global, words: &'a [String]) -> Result<ArgMatches<'a>, Error> {
-    let run = Command::new(alloc, "run")
-        .about("Reads a script on standard input and prints its trace")
-        .override_usage("refrun run < SCRIPT")
-        .after_help(help::RUN);
-    let strength = Command::new(alloc, "strength")
-        .about("Reads a graph text on standard input and prints a strength per object")
-        .override_usage("refrun strength < GRAPH")
-        .after_help(help::STRENGTH);
-    Command::new(alloc, "refrun")
+    let program = Command::new(alloc, "refrun")
         .bin_name("refrun")?
         .about(
             "Runs scripts of reference processing, judges traces, and tells how strongly objects are reachable",
@@ -71,12 +63,29 @@ fn command_of<'a>(alloc: Global, words: &'a [String]) -> Result<ArgMatches<'a>, 
         .version("0.1.0")
         .after_help(help::PROGRAM)
         .subcommand_required(true)
-        .subcommand(run)?
-        .subcommand(strength)?
-        .subcommand(drawing::command(alloc)?)?
-        .subcommand(checking::command(alloc)?)?
-        .subcommand(stressing::command(alloc)?)?
-        .try_get_matches_from(words)
+        .subcommand(
+            Command::new(alloc, "run")
+                .about("Reads a script on standard input and prints its trace")
+                .override_usage("refrun run < SCRIPT")
+                .after_help(help::RUN),
+        )?
+        .subcommand(
+            Command::new(alloc, "strength")
+                .about("Reads a graph text on standard input and prints a strength per object")
+                .override_usage("refrun strength < GRAPH")
+                .after_help(help::STRENGTH),
+        )?;
+    let program = with(program, drawing::command(alloc))?;
+    let program = with(program, checking::command(alloc))?;
+    with(program, stressing::command(alloc))?.try_get_matches_from(words)
+}
+
+/// The program with one more subcommand, where there was memory for it.
+fn with<'a>(
+    program: Command<'a>,
+    command: Result<Command<'a>, Error>,
+) -> Result<Command<'a>, Error> {
+    Ok(program.subcommand(command?)?)
 }
 
 /// Runs the script on standard input.

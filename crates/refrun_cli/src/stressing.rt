@@ -25,16 +25,6 @@ const ROUNDS: u64 = 100;
 
 /// The subcommand and its options.
 pub fn command<'a>(alloc: Global) -> Result<Command<'a>, Error> {
-    let quiet = Arg::new(alloc, "quiet")
-        .long("quiet")
-        .action(ArgAction::SetTrue)
-        .help("Doesn't tell how far the run is");
-    let keep = Arg::new(alloc, "keep")
-        .long("keep")
-        .value_name("FOLDER")
-        .action(ArgAction::Set)
-        .value_parser(ValueParser::NonEmptyString)
-        .help("Writes the run's lists into the folder");
     let command = Command::new(alloc, "stress")
         .about("Runs threads over one heap and one queue, and checks the queue's lists")
         .after_help(help::STRESS)
@@ -59,8 +49,20 @@ pub fn command<'a>(alloc: Global) -> Result<Command<'a>, Error> {
         .arg(count(alloc, "seconds", "S", i64::from(u32::MAX)).help(
             "Begins no round after so many seconds",
         ))?
-        .arg(keep)?
-        .arg(quiet)?;
+        .arg(
+            Arg::new(alloc, "keep")
+                .long("keep")
+                .value_name("FOLDER")
+                .action(ArgAction::Set)
+                .value_parser(ValueParser::NonEmptyString)
+                .help("Writes the run's lists into the folder"),
+        )?
+        .arg(
+            Arg::new(alloc, "quiet")
+                .long("quiet")
+                .action(ArgAction::SetTrue)
+                .help("Doesn't tell how far the run is"),
+        )?;
     Ok(command)
 }
 
