@@ -11,6 +11,8 @@
 #[cfg(test)]
 mod batches;
 #[cfg(test)]
+mod chains;
+#[cfg(test)]
 mod clean_tables;
 #[cfg(test)]
 mod clearing;
@@ -34,6 +36,8 @@ mod rows;
 mod scarce;
 #[cfg(test)]
 mod space;
+#[cfg(test)]
+mod steps;
 #[cfg(test)]
 mod told;
 #[cfg(test)]
