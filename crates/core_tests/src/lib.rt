@@ -39,8 +39,6 @@ mod space;
 #[cfg(test)]
 mod steps;
 #[cfg(test)]
-mod told;
-#[cfg(test)]
 mod uses;
 #[cfg(test)]
 mod world;

@@ -3,15 +3,15 @@
 use super::Bench;
 use crate::hand::released;
 use crate::rows::{
-    END_CLEAR, END_MARK, END_MOVE, END_SWEEP, M, RELEASE, SELECT, adopt, begin, clear, clear_next,
-    cleared, copy, drop_slot, get, hand, load, move_next, moved, new, object, own, refers_to,
-    refused, scan, scanned, soft_with_fields, store, sweep, unhook,
+    END_CLEAR, END_MARK, END_SWEEP, M, adopt, begin, clear, clear_next, cleared, copy, drop_slot,
+    get, hand, load, new, object, own, refers_to, refused, scan, scanned, soft_with_fields, store,
+    sweep, unhook,
 };
-use crate::steps::{agree, make_in};
+use crate::steps::agree;
 use bumpalo::Bump;
 use rationed::Rationed;
 use ref_base::{
-    Cause, Config, Fault, MutNo, ObjNo, Phase, PlainStep, QueueNo, Reply, SlotNo, SpanRule, Step,
+    Cause, Config, Fault, ObjNo, Phase, PlainStep, QueueNo, Reply, SlotNo, SpanRule, Step,
     Strength, WorkerNo,
 };
 use ref_clear::{Heap, Pending};
@@ -28,12 +28,6 @@ const SMALL: Config = Config {
     cells: 4,
     span: 10,
     rule: SpanRule::Fixed,
-};
-
-/// A configuration with cells that fill two pages: so there are four.
-const TWO_PAGES: Config = Config {
-    cells: 128,
-    ..SMALL
 };
 
 /// A phantom reference in slot 7 to what slot 6 holds, for queue 1.
@@ -132,77 +126,17 @@ fn after_new_no_call_takes_memory(rt: HostRuntime) -> Result<(), Fail> {
     Ok(())
 }
 
-/// The calls of moves. Of objects 1 to 65, which fill a page and one cell of the next, the first and the last live.
-fn move_all<A: Allocator + Copy>(rt: &impl Abort, bench: &mut Bench<A>) {
-    agree(rt, bench, &[(new(0, 1), object(1))]);
-    make_in(rt, bench, 1, 2..66);
-    let story = [
-        (store(0, 0, 1), Reply::Done),
-        // There is no other page but one with few objects.
-        (SELECT, refused(Fault::NoRoom)),
-        (begin(9), Reply::Cycle(1)),
-        (scan(0), scanned(1)),
-        (scan(0), scanned(65)),
-        (END_MARK, Reply::Doomed(63)),
-        (END_CLEAR, Reply::Done),
-        (sweep(0), Reply::Swept(63)),
-        (END_SWEEP, Reply::Done),
-        (SELECT, Reply::Selected(2)),
-    ];
-    agree(rt, bench, &story);
-    assert!(rt; bench.heap.phase() == Phase::Moving);
-    let story = [
-        // This moves what it loads.
-        (load(2, 0, 0), object(65)),
-        (END_MOVE, refused(Fault::MovesLeft)),
-        (move_next(1), moved(1)),
-        (move_next(0), Reply::Nothing),
-        (END_MOVE, Reply::Done),
-        (SELECT, refused(Fault::WrongPhase)),
-        (move_next(0), refused(Fault::WrongPhase)),
-        (END_MOVE, refused(Fault::WrongPhase)),
-    ];
-    agree(rt, bench, &story);
-    assert!(rt; bench.heap.phase() == Phase::Idle && bench.heap.object_count() == 2);
-}
-
-#[test]
-fn no_call_of_moves_takes_memory(rt: HostRuntime) -> Result<(), Fail> {
-    let memory = Rationed::new(rt.alloc());
-    let mut bench = Bench::new(Heap::new(&memory, TWO_PAGES, 1)?);
-    memory.ration(0);
-    move_all(&rt, &mut bench);
-    assert!(rt; !memory.lift(), "no request is refused");
-    bench.end();
-    Ok(())
-}
-
 #[test]
 fn a_heap_out_of_limits_is_refused_before_memory_is_taken(rt: HostRuntime) {
     let none = Rationed::new(rt.alloc());
     none.ration(0);
-    let refused = [
-        (SMALL, Fault::NoMemory),
-        (
-            Config {
-                workers: 0,
-                ..SMALL
-            },
-            Fault::BadConfig,
-        ),
-        (
-            Config {
-                workers: 9,
-                ..SMALL
-            },
-            Fault::BadConfig,
-        ),
-    ];
-    for (row, &(config, want)) in refused.iter().enumerate() {
-        match Heap::new(&none, config, 1) {
-            Ok(_heap) => panic!(rt; "row {row} is made"),
-            Err(fault) => assert!(rt; fault == want, "row {row}: {fault}"),
-        }
+    for (workers, want) in [
+        (2, Fault::NoMemory),
+        (0, Fault::BadConfig),
+        (9, Fault::BadConfig),
+    ] {
+        let made = Heap::new(&none, Config { workers, ..SMALL }, 1);
+        assert!(rt; made.err() == Some(want), "{workers} workers");
     }
 }
 

@@ -8,7 +8,7 @@ use crate::rows::{
     hand, new, object, of_cycle, own, refers_to, refused, scan, scanned, sweep, unhook,
     unregistered, weak,
 };
-use crate::steps::{agree, make_in};
+use crate::steps::agree;
 use ref_base::{
     Config, Fault, ObjNo, Phase, PlainStep, QueueNo, Reply, SlotNo, Step, Urgency, WorkerNo,
 };
@@ -36,44 +36,6 @@ fn bench_from(alloc: Global, cycle: u64) -> Result<Bench, Fault> {
 /// Object 1 in slot 0, and a weak reference to it in slot 1.
 fn made() -> [(Step, Reply); 2] {
     [(new(0, 0), object(1)), (weak(1, 0, 0), object(2))]
-}
-
-#[test]
-fn an_unregistered_reference_has_no_notice(rt: HostRuntime) -> Result<(), Fail> {
-    let mut bench = bench_of(rt.alloc())?;
-    let story = [
-        (new(0, 0), object(1)),
-        (unregistered(1, 0), object(2)),
-        (unhook(1), Reply::Nothing),
-        (get(3, 1), Reply::Null),
-    ];
-    agree(&rt, &mut bench, &story);
-    assert!(rt; bench.heap.queue_of(ObjNo(2)) == None && bench.heap.hold_count() == 0);
-    bench.end();
-    Ok(())
-}
-
-#[test]
-fn death_is_reported_after_a_cycle(rt: HostRuntime) -> Result<(), Fail> {
-    let mut bench = bench_of(rt.alloc())?;
-    agree(&rt, &mut bench, &made());
-    let story = [
-        (drop_slot(0), Reply::Done),
-        (begin(5), Reply::Cycle(1)),
-        (scan(0), scanned(2)),
-        (scan(0), Reply::Nothing),
-        (END_MARK, Reply::Doomed(1)),
-        (clear_next(0), cleared(2)),
-        (END_CLEAR, Reply::Done),
-        (hand(0), of_cycle(2, 1, 0)),
-    ];
-    agree(&rt, &mut bench, &story);
-    assert!(rt; bench.heap.hold_count() == 1);
-    agree(&rt, &mut bench, &[(adopt(2), object(2))]);
-    assert!(rt; bench.heap.hold_count() == 0);
-    assert!(rt; bench.heap.slot_of(M, SlotNo(2)) == Ok(Some(ObjNo(2))));
-    bench.end();
-    Ok(())
 }
 
 #[test]
@@ -111,17 +73,20 @@ fn each_unhook_gives_a_notice(rt: HostRuntime) -> Result<(), Fail> {
 }
 
 #[test]
-fn an_unhook_that_is_refused_takes_no_hold(rt: HostRuntime) -> Result<(), Fail> {
+fn an_unhook_that_is_refused_or_has_no_queue_takes_no_hold(rt: HostRuntime) -> Result<(), Fail> {
     let mut bench = bench_of(rt.alloc())?;
     agree(&rt, &mut bench, &made());
     let story = [
         (unhook(16), refused(Fault::NoSuchActor)),
         (unhook(2), refused(Fault::EmptySlot)),
         (unhook(0), refused(Fault::NotAReference)),
+        (unregistered(3, 0), object(3)),
+        (unhook(3), Reply::Nothing),
+        (get(4, 3), Reply::Null),
         (RELEASE, refused(Fault::HandEmpty)),
     ];
     agree(&rt, &mut bench, &story);
-    assert!(rt; bench.heap.hold_count() == 0);
+    assert!(rt; bench.heap.hold_count() == 0 && bench.heap.queue_of(ObjNo(3)) == None);
     assert!(rt; bench.heap.queue_of(ObjNo(2)) == Some(QueueNo(0)));
     bench.end();
     Ok(())
@@ -221,6 +186,10 @@ fn a_notice_tells_the_last_cycle(rt: HostRuntime) -> Result<(), Fail> {
     agree(&rt, &mut bench, &story);
     pends(&rt, &bench.heap, (0, 0), Some((2, u64::MAX)));
     agree(&rt, &mut bench, &[(hand(0), of_cycle(2, u64::MAX, 0))]);
+    assert!(rt; bench.heap.hold_count() == 1);
+    agree(&rt, &mut bench, &[(adopt(2), object(2))]);
+    assert!(rt; bench.heap.hold_count() == 0);
+    assert!(rt; bench.heap.slot_of(M, SlotNo(2)) == Ok(Some(ObjNo(2))));
     bench.end();
     Ok(())
 }

@@ -2,41 +2,20 @@
 
 use super::{cycle_ended, found, sweep_begun};
 use crate::objects::config;
-use crate::rows::{END_MARK, begin, refused, scan};
+use crate::rows::{END_MARK, begin, refused};
 use crate::steps::agree;
 use ref_base::{Fault, PlainStep, Reply, Step, Urgency};
 use ref_mark::Marker;
 use ref_objects::{Start, Worklist};
 use std::test::Fail;
 
-const NO_ACTOR: Reply = Reply::Refused(Fault::NoSuchActor);
-
-const WRONG_PHASE: Reply = Reply::Refused(Fault::WrongPhase);
-
 #[test]
-fn each_step_has_its_phase(rt: HostRuntime) -> Result<(), Fail> {
+fn what_was_found_is_looked_at_in_clearing_alone(rt: HostRuntime) -> Result<(), Fail> {
     let mut heap = Marker::new(rt.alloc(), config(8), 1)?;
-    let story = [
-        (scan(0), WRONG_PHASE),
-        (scan(1), NO_ACTOR),
-        (END_MARK, WRONG_PHASE),
-    ];
-    agree(&rt, &mut heap, &story);
-    assert!(rt; found(&mut heap, 0) == WRONG_PHASE);
-    let story = [
-        (begin(3), Reply::Cycle(1)),
-        (begin(0), WRONG_PHASE),
-        (scan(1), NO_ACTOR),
-    ];
-    agree(&rt, &mut heap, &story);
-    assert!(rt; found(&mut heap, 1) == NO_ACTOR);
-    assert!(rt; found(&mut heap, 0) == WRONG_PHASE);
-    let story = [
-        (END_MARK, Reply::Doomed(0)),
-        (END_MARK, WRONG_PHASE),
-        (scan(0), WRONG_PHASE),
-    ];
-    agree(&rt, &mut heap, &story);
+    assert!(rt; found(&mut heap, 0) == Reply::Refused(Fault::WrongPhase));
+    agree(&rt, &mut heap, &[(begin(3), Reply::Cycle(1))]);
+    assert!(rt; found(&mut heap, 1) == Reply::Refused(Fault::NoSuchActor));
+    assert!(rt; found(&mut heap, 0) == Reply::Refused(Fault::WrongPhase));
     Ok(())
 }
 

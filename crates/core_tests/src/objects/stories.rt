@@ -23,21 +23,6 @@ const fn start(obj: u32, page: u32) -> Start {
 }
 
 #[test]
-fn no_cell_is_told_at_the_last_cell(rt: HostRuntime) -> Result<(), Fail> {
-    let (mut heap, mut condemned) = heap_of(rt.alloc(), 2)?;
-    make(&rt, &mut heap, &[0, 0]);
-    let story = [
-        (new(2, 0), refused(Fault::NoCell)),
-        (drop_slot(1), Reply::Done),
-    ];
-    agree(&rt, &mut heap, &story);
-    assert!(rt; swept(&mut heap, &mut condemned, 2));
-    agree(&rt, &mut heap, &[(new(2, 0), object(3))]);
-    assert!(rt; heap.object_count() == 2);
-    Ok(())
-}
-
-#[test]
 fn the_last_number_is_given_once(rt: HostRuntime) -> Result<(), Fail> {
     let mut heap = Objects::starting(rt.alloc(), config(8), 1, start(u32::MAX, 1))?;
     assert!(rt; heap.next_no() == 4_294_967_295);
