@@ -3,7 +3,7 @@
 use ref_base::{Config, Fault, Policy, SpanRule, Urgency};
 use ref_space::{first_policy, keeps, policy_from, scaled};
 
-/// So many mutators, workers, queues and cells.
+/// A configuration with so many mutators, workers, queues and cells.
 const fn sized(mutators: u32, workers: u32, queues: u32, cells: u32) -> Config {
     Config {
         mutators,

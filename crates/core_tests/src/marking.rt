@@ -64,6 +64,18 @@ fn mutated(heap: &mut Marker, step: PlainStep) -> Reply
             source,
         } => value(heap.copy(mutator, slot, source)),
         PlainStep::Drop { mutator, slot } => done(heap.drop_slot(mutator, slot)),
+        _ => at_reference(heap, step),
+    }
+}
+
+// What a mutator asks of a reference, or else the collector.
+fn at_reference(heap: &mut Marker, step: PlainStep) -> Reply
+    requires { IsHealing heap.old }
+    ensures { IsHealing heap.new }
+{
+    // Gives the proof that what is unhealed is there.
+    known(heap.objects());
+    match step {
         PlainStep::Get {
             mutator,
             slot,
