@@ -73,37 +73,27 @@ fn numbers_stand_in_order(rt: HostRuntime) {
     assert!(rt; numbers(0) != numbers(1), "one is not none");
 }
 
-/// What became of four items, where seven were put in before: the second was put in before, and for the last there was
-/// no memory.
-fn outs() -> Outs {
+#[test]
+fn what_was_added_has_positions_in_a_row(rt: HostRuntime) {
+    assert!(rt; Outs::new(7).is_empty(), "nothing was tried");
+    assert!(rt; Outs::new(7).get(0) == None);
+    // Seven were put in before.
     let mut outs = Outs::new(7);
     outs.push(Done::Added);
     outs.push(Done::Already);
     outs.push(Done::Added);
     outs.push(Done::Refused(Fault::NoMemory));
-    outs
-}
-
-#[test]
-fn what_was_added_has_positions_in_a_row(rt: HostRuntime) {
-    assert!(rt; Outs::new(7).is_empty(), "nothing was tried");
-    assert!(rt; Outs::new(7).get(0) == None);
     let told = [
         Out::Added(7),
         Out::Already,
         Out::Added(8),
         Out::Refused(Fault::NoMemory),
     ];
-    let outs = outs();
     assert!(rt; outs.len() == 4 && outs.get(4) == None);
     for (place, out) in told.iter().enumerate() {
         assert!(rt; outs.get(place) == Some(*out), "item {place}");
     }
-}
-
-#[test]
-fn outs_tell_apart_what_was_tried(rt: HostRuntime) {
-    assert!(rt; outs() != Outs::new(7));
+    assert!(rt; outs != Outs::new(7), "what was tried is told");
     let mut closed = Outs::new(0);
     closed.push(Done::Closed);
     assert!(rt; closed.get(0) == Some(Out::Closed));

@@ -1,10 +1,10 @@
-//! The hand of a story, which has one hold at most: a hold can't stand in a table.
+//! The hand of a story, which has one hold at most, and what becomes of holds that are tried.
 
 use crate::objects::config;
-use crate::told::Told;
-use ref_base::{Fault, MutNo, ObjNo, SlotNo};
+use ref_base::{Batch, Fault, MutNo, ObjNo, SlotNo};
+use ref_clear::Notice;
 use ref_objects::{Hold, Objects};
-use std::alloc::Global;
+use std::alloc::{Allocator, Global};
 
 /// A hold of object 1 of a heap of number 2, where the heaps of stories have number 1.
 pub fn foreign(alloc: Global) -> Result<Hold, Fault> {
@@ -26,43 +26,56 @@ pub fn keep(hand: &mut Option<Hold>, hold: Hold) {
     leak(hand.replace(hold));
 }
 
-/// What the hand has.
-pub fn shown(hand: &Option<Hold>) -> Told {
-    match hand {
-        Some(hold) => Told::Held(hold.obj().0, hold.heap_no()),
-        None => Told::EmptyHand,
-    }
-}
-
-/// Takes a hold into the hand.
-pub fn taken(hand: &mut Option<Hold>, answer: Result<Hold, Fault>) -> Told {
+/// The fault of a hold that wasn't given: one that was is given up.
+pub fn fault_of(answer: Result<Hold, Fault>) -> Option<Fault> {
     match answer {
         Ok(hold) => {
-            keep(hand, hold);
-            shown(hand)
+            hold.leak();
+            None
         }
-        Err(fault) => Told::Refused(fault),
+        Err(fault) => Some(fault),
     }
 }
 
-/// What a heap answers that was to take the hand's hold back into a slot: one that it refuses is in the hand again.
-pub fn adopted(hand: &mut Option<Hold>, answer: Result<ObjNo, (Fault, Hold)>) -> Told {
+/// What a heap answers that took a hold back into a slot: one that it refuses is given up.
+pub fn adopted(answer: Result<ObjNo, (Fault, Hold)>) -> Result<ObjNo, Fault> {
     match answer {
-        Ok(no) => Told::Object(no.0),
+        Ok(no) => Ok(no),
         Err((fault, back)) => {
-            keep(hand, back);
-            Told::Refused(fault)
+            back.leak();
+            Err(fault)
         }
     }
 }
 
-/// What a heap answers that was to take the hand's hold back: one that it refuses is in the hand again.
-pub fn released(hand: &mut Option<Hold>, answer: Result<(), (Fault, Hold)>) -> Told {
+/// What a heap answers that took a hold back: one that it refuses is given up.
+pub fn released(answer: Result<(), (Fault, Hold)>) -> Result<(), Fault> {
     match answer {
-        Ok(()) => Told::Done,
+        Ok(()) => Ok(()),
         Err((fault, back)) => {
-            keep(hand, back);
-            Told::Refused(fault)
+            back.leak();
+            Err(fault)
         }
     }
+}
+
+/// The fault, and the object and the heap of the hold that comes back, which is given up.
+pub fn refused_with<T: Drop>(answer: Result<T, (Fault, Hold)>) -> Option<(Fault, u32, u64)> {
+    match answer {
+        Ok(_) => None,
+        Err((fault, back)) => {
+            let told = (fault, back.obj().0, back.heap_no());
+            back.leak();
+            Some(told)
+        }
+    }
+}
+
+/// Gives up the notices of a batch.
+pub fn give_up<A: Allocator>(batch: Batch<Notice, A>) {
+    let mut batch = batch;
+    while let Some(notice) = batch.take_first() {
+        notice.into_hold().leak();
+    }
+    batch.end();
 }

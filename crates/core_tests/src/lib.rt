@@ -11,6 +11,8 @@
 #[cfg(test)]
 mod batches;
 #[cfg(test)]
+mod chains;
+#[cfg(test)]
 mod clean_tables;
 #[cfg(test)]
 mod clearing;
@@ -35,7 +37,7 @@ mod scarce;
 #[cfg(test)]
 mod space;
 #[cfg(test)]
-mod told;
+mod steps;
 #[cfg(test)]
 mod uses;
 #[cfg(test)]

@@ -2,59 +2,43 @@
 
 use ref_base::{Config, Fault, Policy, SpanRule, Urgency};
 use ref_space::{first_policy, keeps, policy_from, scaled};
-use std::process::Abort;
 
-/// Each of these is checked with this answer.
-fn agree(rt: &impl Abort, table: &[Config], want: Result<(), Fault>) {
-    for config in table {
-        assert!(rt; config.check() == want, "{config:?}");
+/// A configuration with so many mutators, workers, queues and cells.
+const fn sized(mutators: u32, workers: u32, queues: u32, cells: u32) -> Config {
+    Config {
+        mutators,
+        workers,
+        queues,
+        cells,
+        span: u64::MAX,
+        rule: SpanRule::Scaled,
     }
 }
 
-const LEAST: Config = Config {
-    mutators: 1,
-    workers: 1,
-    queues: 1,
-    cells: 1,
-    span: 0,
-    rule: SpanRule::Fixed,
-};
-
-const MOST: Config = Config {
-    mutators: 8,
-    workers: 8,
-    queues: 16,
-    cells: 65_536,
-    span: u64::MAX,
-    rule: SpanRule::Scaled,
-};
-
 #[test]
 fn a_config_fits_exactly_within_its_limits(rt: HostRuntime) {
-    let refused = [
-        Config {
-            mutators: 0,
-            ..LEAST
-        },
-        Config {
-            workers: 0,
-            ..LEAST
-        },
-        Config { queues: 0, ..LEAST },
-        Config { cells: 0, ..LEAST },
-        Config {
-            mutators: 9,
-            ..MOST
-        },
-        Config { workers: 9, ..MOST },
-        Config { queues: 17, ..MOST },
-        Config {
-            cells: 65_537,
-            ..MOST
-        },
+    let bad = Err(Fault::BadConfig);
+    let table = [
+        (sized(1, 1, 1, 1), Ok(())),
+        (sized(8, 8, 16, 65_536), Ok(())),
+        (sized(0, 1, 1, 1), bad),
+        (sized(1, 0, 1, 1), bad),
+        (sized(1, 1, 0, 1), bad),
+        (sized(1, 1, 1, 0), bad),
+        (sized(9, 8, 16, 65_536), bad),
+        (sized(8, 9, 16, 65_536), bad),
+        (sized(8, 8, 17, 65_536), bad),
+        (sized(8, 8, 16, 65_537), bad),
     ];
-    agree(&rt, &[LEAST, MOST], Ok(()));
-    agree(&rt, &refused, Err(Fault::BadConfig));
+    for (config, want) in table {
+        assert!(rt; config.check() == want, "{config:?}");
+    }
+    let least = Config {
+        span: 0,
+        rule: SpanRule::Fixed,
+        ..sized(1, 1, 1, 1)
+    };
+    assert!(rt; least.check() == Ok(()));
 }
 
 #[test]
@@ -99,10 +83,9 @@ fn a_scaled_span_is_rounded_down(rt: HostRuntime) {
 fn the_rule_settles_the_span_of_a_cycle(rt: HostRuntime) {
     for (rule, want) in [(SpanRule::Fixed, 10), (SpanRule::Scaled, 7)] {
         let config = Config {
-            cells: 8,
             span: 10,
             rule,
-            ..LEAST
+            ..sized(1, 1, 1, 8)
         };
         let policy = policy_from(config, 6, 5, Urgency::Urgent);
         let wanted = Policy {

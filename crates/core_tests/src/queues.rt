@@ -4,11 +4,11 @@ mod batches;
 mod memory;
 mod stories;
 
-use crate::told::{Told, expect};
-use ref_base::{Fault, ObjNo, Parcel, QueueNo};
+use ref_base::{ObjNo, Parcel, QueueNo, Reply};
 use ref_queue::{Polled, Put, Queue};
 use std::alloc::{Allocator, Global};
 use std::process::Abort;
+use std::test::Fail;
 
 /// The least that a queue takes: the two numbers themselves.
 #[derive(Clone, Copy, Debug, PartialEq, Eq)]
@@ -41,84 +41,79 @@ const fn of(object: u32) -> Slip {
 enum Call {
     Put(Slip),
     Poll,
+    /// A close is done, or finds the queue closed.
     Close,
-    /// What was enqueued at this place of all that ever was, from 0 on.
-    EnqueuedAt(usize),
-    /// What was taken at this place of all that was taken.
-    TakenAt(usize),
-    /// What stands at this place of all that stands.
-    StandsAt(usize),
 }
 
-fn put(answer: Result<Put<Slip>, (Fault, Slip)>) -> Told {
-    match answer {
-        Ok(Put::Added(position)) => Told::Added(position),
-        Ok(Put::Already(back)) => Told::Already(back),
-        Ok(Put::Closed(back)) => Told::TooLate(back),
-        Err((fault, back)) => Told::NotPut(fault, back),
-    }
+/// Puts a slip in: one that isn't added comes back.
+fn put<A: Allocator + Copy>(rt: &impl Abort, queue: &mut Queue<Slip, A>, slip: Slip) -> Reply {
+    let (reply, back) = match queue.put(slip) {
+        Ok(Put::Added(position)) => (Reply::Added(position), slip),
+        Ok(Put::Already(back)) => (Reply::Already, back),
+        Ok(Put::Closed(back)) => (Reply::Closed, back),
+        Err((fault, back)) => (Reply::Refused(fault), back),
+    };
+    assert!(rt; back == slip, "it comes back");
+    reply
 }
 
-fn polled(answer: Polled<Slip>) -> Told {
-    match answer {
-        Polled::Took(slip) => Told::Took(slip),
-        Polled::Empty => Told::Empty,
-        Polled::Closed => Told::Ended,
-    }
-}
-
-fn closed(was_open: bool) -> Told {
-    if was_open {
-        Told::ClosesNow
-    } else {
-        Told::WasClosed
-    }
-}
-
-fn listed<B: Allocator>(answer: Result<Vec<ObjNo, B>, Fault>, place: usize) -> Told {
-    match answer {
-        Ok(list) => match list.get(place) {
-            Some(no) => Told::Object(no.0),
-            None => Told::PastTheEnd,
-        },
-        Err(fault) => Told::Refused(fault),
-    }
-}
-
-fn answer<A: Allocator + Copy, B: Allocator + Copy>(
-    alloc: B,
-    queue: &mut Queue<Slip, A>,
-    call: Call,
-) -> Told {
+fn answer<A: Allocator + Copy>(rt: &impl Abort, queue: &mut Queue<Slip, A>, call: Call) -> Reply {
     match call {
-        Call::Put(slip) => put(queue.put(slip)),
-        Call::Poll => polled(queue.poll()),
-        Call::Close => closed(queue.close()),
-        Call::EnqueuedAt(place) => listed(queue.enqueued(alloc), place),
-        Call::TakenAt(place) => listed(queue.taken(alloc), place),
-        Call::StandsAt(place) => listed(queue.stands(alloc), place),
+        Call::Put(slip) => put(rt, queue, slip),
+        Call::Poll => match queue.poll() {
+            Polled::Took(slip) => {
+                assert!(rt; slip == of(slip.object), "it is for queue 0");
+                Reply::Took(slip.obj())
+            }
+            Polled::Empty => Reply::Empty,
+            Polled::Closed => Reply::Closed,
+        },
+        Call::Close if queue.close() => Reply::Done,
+        Call::Close => Reply::Closed,
     }
 }
 
-/// Makes a story's calls in turn, each of which has its answer. Lists take this memory.
-fn make_calls<A: Allocator + Copy, B: Allocator + Copy>(
+/// Makes a story's calls in turn, each of which has its reply.
+fn agree<A: Allocator + Copy>(
     rt: &impl Abort,
-    alloc: B,
     queue: &mut Queue<Slip, A>,
-    story: &[(Call, Told)],
+    story: &[(Call, Reply)],
 ) {
     for (row, &(call, want)) in story.iter().enumerate() {
-        expect(rt, row, answer(alloc, queue, call), want);
+        assert_eq!(rt; answer(rt, queue, call), want, "row {row}");
     }
 }
 
-/// Tells a story on a new queue, which then ends and gives these.
-fn agree(rt: &impl Abort, alloc: Global, story: &[(Call, Told)], left: &[Slip]) {
-    let mut queue = Queue::new(alloc, QueueNo(0));
-    make_calls(rt, alloc, &mut queue, story);
+/// Just these numbers, in this order.
+fn are(rt: &impl Abort, list: &[ObjNo], want: &[u32]) {
+    assert!(rt; list.len() == want.len(), "so many");
+    for (place, &no) in want.iter().enumerate() {
+        assert!(rt; list.get(place) == Some(&ObjNo(no)), "place {place}");
+    }
+}
+
+/// What was taken and what stands: all that was put in, in order.
+fn lists<A: Allocator + Copy>(
+    rt: &impl Abort,
+    alloc: Global,
+    queue: &Queue<Slip, A>,
+    (taken, stands): (&[u32], &[u32]),
+) -> Result<(), Fail> {
+    are(rt, &queue.taken(alloc)?, taken);
+    are(rt, &queue.stands(alloc)?, stands);
+    let enqueued = queue.enqueued(alloc)?;
+    assert!(rt; enqueued.len() == taken.len().saturating_add(stands.len()));
+    for (place, &no) in taken.iter().chain(stands).enumerate() {
+        assert!(rt; enqueued.get(place) == Some(&ObjNo(no)), "place {place}");
+    }
+    Ok(())
+}
+
+/// The queue ends, and gives these.
+fn ends<A: Allocator + Copy>(rt: &impl Abort, queue: Queue<Slip, A>, left: &[u32]) {
     let given = queue.end();
     assert!(rt; given.len() == left.len(), "so many are left");
-    for (place, want) in left.iter().enumerate() {
-        assert!(rt; given.get(place) == Some(want), "place {place}");
+    for (place, &want) in left.iter().enumerate() {
+        assert!(rt; given.get(place) == Some(&of(want)), "place {place}");
     }
 }

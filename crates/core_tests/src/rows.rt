@@ -307,3 +307,27 @@ pub fn outs(before: u32, done: &[Done]) -> Reply {
     }
     Reply::Outs(outs)
 }
+
+/// A weak reference in this slot to what this one holds, for no queue.
+pub const fn unregistered(slot: u32, source: u32) -> Step {
+    refer(Strength::Weak, slot, source, None, 0)
+}
+
+/// A phantom reference in this slot to what this one holds, for no queue.
+pub const fn phantom(slot: u32, source: u32) -> Step {
+    refer(Strength::Phantom, slot, source, None, 0)
+}
+
+/// A weak reference in this slot to what this one holds, for queue 0, with one field.
+pub const fn weak_with_field(slot: u32, source: u32) -> Step {
+    refer(Strength::Weak, slot, source, Some(QueueNo(0)), 1)
+}
+
+/// A soft reference in this slot to what this one holds, for this queue, with so many fields.
+pub const fn soft_with_fields(slot: u32, source: u32, queue: u32, fields: u32) -> Step {
+    refer(Strength::Soft, slot, source, Some(QueueNo(queue)), fields)
+}
+
+pub const fn kept(no: u32) -> Reply {
+    Reply::Kept(ObjNo(no))
+}

@@ -4,7 +4,6 @@
 
 mod making;
 
-use crate::told::Told;
 use rationed::Rationed;
 use std::alloc::Global;
 use std::process::Abort;
@@ -12,33 +11,30 @@ use std::process::Abort;
 /// More requests than any call makes.
 pub const MOST: u64 = 1_000;
 
-/// A call that takes memory, by its name, and what it is told where a request is refused, and where none is.
-#[derive(Clone, Copy)]
-pub struct Trial {
-    pub call: &'static str,
-    pub refused: Told,
-    pub done: Told,
+/// A call that takes memory.
+pub trait Trial {
+    /// The name of the call.
+    fn call(&self) -> &'static str;
+
+    /// Makes the call. False where it is refused for want of memory: every other answer but the right one aborts.
+    fn is_made(&mut self, rt: &impl Abort) -> bool;
+
+    /// What the call is made on is as it was before.
+    fn stays(&self, rt: &impl Abort);
 }
 
-/// The call of a trial was made with so many requests met, and was told this, as it must be. Answers whether a request
-/// was refused; no more are.
-pub fn is_refused(
-    rt: &impl Abort,
-    memory: &Rationed<Global>,
-    trial: &Trial,
-    met: u64,
-    told: Told,
-) -> bool {
-    let was_refused = memory.lift();
-    let want = if was_refused {
-        trial.refused
-    } else {
-        trial.done
-    };
-    let call = trial.call;
-    assert!(rt;
-        told.is(want),
-        "{call} with {met} requests met: {told:?}, and not {want:?}"
-    );
-    was_refused
+/// Makes a call with each of its requests refused in turn. Answers how many requests it makes.
+pub fn refuse_each<T: Trial>(rt: &impl Abort, memory: &Rationed<Global>, trial: &mut T) -> u64 {
+    let call = trial.call();
+    for met in 0..MOST {
+        memory.ration(met);
+        let is_made = trial.is_made(rt);
+        let was_refused = memory.lift();
+        assert!(rt; is_made != was_refused, "{call} with {met} requests met");
+        if is_made {
+            return met;
+        }
+        trial.stays(rt);
+    }
+    MOST
 }

@@ -1,25 +1,22 @@
 //! Heaps whose memory runs out.
 
-use super::Ask::{
-    Clock, CycleNo, HeapNo, HoldCount, InPhase, KindOf, ObjectCount, PendingOf, QueueOf, Size,
-    SlotOf,
+use super::Bench;
+use crate::hand::released;
+use crate::rows::{
+    END_CLEAR, END_MARK, END_SWEEP, M, adopt, begin, clear, clear_next, cleared, copy, drop_slot,
+    get, hand, load, new, object, own, refers_to, refused, scan, scanned, soft_with_fields, store,
+    sweep, unhook,
 };
-use super::Call::{Ask, Collect, Give, Keep, Mutate};
-use super::Collect::{
-    Begin, ClearNext, EndClear, EndMark, EndMove, EndSweep, MoveNext, Scan, Select, Sweep,
-};
-use super::Give::{Hand, Unhook};
-use super::Keep::{Adopt, Hold, Release};
-use super::Mutate::{Clear, CopySlot, DropSlot, Get, Load, New, NewMany, Refer, RefersTo, Store};
-use super::{Call, make_calls};
-use crate::told::Told;
+use crate::steps::agree;
 use bumpalo::Bump;
 use rationed::Rationed;
-use ref_base::Cause::{Cycle, Own};
-use ref_base::{Config, Fault, Phase, SpanRule, Strength, Urgency, WorkerNo};
-use ref_clear::Heap;
+use ref_base::{
+    Cause, Config, Fault, ObjNo, Phase, PlainStep, QueueNo, Reply, SlotNo, SpanRule, Step,
+    Strength, WorkerNo,
+};
+use ref_clear::{Heap, Pending};
 use ref_objects::Kind;
-use std::alloc::Global;
+use std::alloc::{Allocator, Global};
 use std::process::Abort;
 use std::test::Fail;
 
@@ -33,145 +30,113 @@ const SMALL: Config = Config {
     rule: SpanRule::Fixed,
 };
 
-/// A configuration with cells that fill two pages: so there are four.
-const TWO_PAGES: Config = Config {
-    cells: 128,
-    ..SMALL
+/// A phantom reference in slot 7 to what slot 6 holds, for queue 1.
+const PHANTOM: Step = Step::Plain(PlainStep::Refer {
+    mutator: M,
+    strength: Strength::Phantom,
+    slot: SlotNo(7),
+    source: SlotNo(6),
+    queue: Some(QueueNo(1)),
+    fields: 0,
+});
+
+/// The calls of mutators and of holds, once each. Nothing but reference 4 holds object 3 then.
+fn mutate<A: Allocator + Copy>(rt: &impl Abort, bench: &mut Bench<A>) -> Result<(), Fault> {
+    assert!(rt; bench.heap.config() == SMALL && bench.heap.heap_no() == 1);
+    let story = [
+        (new(0, 8), object(1)),
+        // With a field of its own, for queue 2.
+        (soft_with_fields(1, 0, 2, 1), object(2)),
+        (store(1, 0, 0), Reply::Done),
+        (load(2, 1, 0), object(1)),
+        (copy(3, 1), object(2)),
+        (get(4, 3), object(1)),
+        (refers_to(1, 0), Reply::Refers(true)),
+        (clear(1), Reply::Done),
+        (unhook(1), own(2, 2)),
+    ];
+    agree(rt, bench, &story);
+    let heap = &mut bench.heap;
+    assert!(rt; heap.kind_of(ObjNo(1)) == Some(Kind::Plain));
+    assert!(rt; heap.kind_of(ObjNo(2)) == Some(Kind::Reference(Strength::Soft)));
+    assert!(rt; heap.queue_of(ObjNo(2)) == Some(QueueNo(2)) && heap.hold_count() == 1);
+    let hold = heap.hold(M, SlotNo(0))?;
+    assert!(rt; hold.obj() == ObjNo(1) && hold.heap_no() == 1);
+    assert!(rt; released(heap.release(hold)) == Ok(()));
+    let story = [
+        (adopt(5), object(2)),
+        (new(6, 0), object(3)),
+        (PHANTOM, object(4)),
+        (drop_slot(6), Reply::Done),
+    ];
+    agree(rt, bench, &story);
+    assert!(rt; bench.heap.slot_of(M, SlotNo(5)) == Ok(Some(ObjNo(2))));
+    assert!(rt; bench.heap.object_count() == 4);
+    Ok(())
+}
+
+/// The notice of reference 4, for queue 1, that worker 1 cleared in cycle 1.
+const NOTICE: Reply = Reply::Notice {
+    object: ObjNo(4),
+    queue: QueueNo(1),
+    cause: Cause::Cycle(1, WorkerNo(1)),
 };
 
-/// Each call once, but for those of moves.
-const EACH_CALL: [(Call, Told); 41] = [
-    (Ask(Size), Told::Size(SMALL)),
-    (Ask(HeapNo), Told::Heap(1)),
-    (Mutate(New(0, 8)), Told::Object(1)),
-    // With a field of its own, for queue 2.
-    (
-        Mutate(Refer(Strength::Soft, 1, 0, Some(2), 1)),
-        Told::Object(2),
-    ),
-    (Mutate(Store(1, 0, 0)), Told::Done),
-    (Mutate(Load(2, 1, 0)), Told::Object(1)),
-    (Mutate(CopySlot(3, 1)), Told::Object(2)),
-    (Mutate(Get(4, 3)), Told::Object(1)),
-    (Mutate(RefersTo(1, 0)), Told::Yes),
-    (Mutate(Clear(1)), Told::Done),
-    (Ask(KindOf(1)), Told::Kind(Kind::Plain)),
-    (Ask(KindOf(2)), Told::Kind(Kind::Reference(Strength::Soft))),
-    (Ask(QueueOf(2)), Told::Queue(2)),
-    (Give(Unhook(1)), Told::Notice(2, 2, Own)),
-    (Ask(HoldCount), Told::Count(1)),
-    (Keep(Adopt(5)), Told::Object(2)),
-    (Ask(SlotOf(5)), Told::Object(2)),
-    (Keep(Hold(0)), Told::Held(1, 1)),
-    (Keep(Release), Told::Done),
-    // Nothing but reference 4 holds object 3.
-    (Mutate(New(6, 0)), Told::Object(3)),
-    (
-        Mutate(Refer(Strength::Phantom, 7, 6, Some(1), 0)),
-        Told::Object(4),
-    ),
-    (Mutate(DropSlot(6)), Told::Done),
-    (Ask(ObjectCount), Told::Count(4)),
-    (Collect(Begin(9, Urgency::Normal)), Told::Began(1)),
-    (Ask(CycleNo), Told::Count(1)),
-    (Ask(Clock), Told::Time(9)),
-    (Ask(InPhase), Told::In(Phase::Marking)),
-    (Collect(Scan(0)), Told::Scanned(1)),
-    (Collect(Scan(0)), Told::Scanned(2)),
-    (Collect(Scan(1)), Told::Scanned(4)),
-    (Collect(EndMark), Told::Doomed(1)),
-    (Ask(InPhase), Told::In(Phase::Clearing)),
-    (Collect(ClearNext(1)), Told::Cleared(4)),
-    (Ask(PendingOf(1, 0)), Told::Pending(4, 1, 1)),
-    (Collect(EndClear), Told::Done),
-    (Ask(InPhase), Told::In(Phase::Sweeping)),
-    (Collect(Sweep(0)), Told::Swept(1)),
-    (Collect(EndSweep), Told::Done),
-    (Give(Hand(1)), Told::Notice(4, 1, Cycle(1, WorkerNo(1)))),
-    (Ask(ObjectCount), Told::Count(3)),
-    (Ask(InPhase), Told::In(Phase::Idle)),
-];
-
-/// The calls of moves. Of objects 1 to 65, which fill a page and one cell of the next, the first and the last live.
-const EACH_MOVE: [(Call, Told); 23] = [
-    (Mutate(New(0, 1)), Told::Object(1)),
-    (Mutate(NewMany(1, 64)), Told::Object(65)),
-    (Mutate(Store(0, 0, 1)), Told::Done),
-    // There is no other page but one with few objects.
-    (Collect(Select), Told::Refused(Fault::NoRoom)),
-    (Collect(Begin(9, Urgency::Normal)), Told::Began(1)),
-    (Collect(Scan(0)), Told::Scanned(1)),
-    (Collect(Scan(0)), Told::Scanned(65)),
-    (Collect(EndMark), Told::Doomed(63)),
-    (Collect(EndClear), Told::Done),
-    (Collect(Sweep(0)), Told::Swept(63)),
-    (Collect(EndSweep), Told::Done),
-    (Collect(Select), Told::Selected(2)),
-    (Ask(InPhase), Told::In(Phase::Moving)),
-    // This moves what it loads.
-    (Mutate(Load(2, 0, 0)), Told::Object(65)),
-    (Collect(EndMove), Told::Refused(Fault::MovesLeft)),
-    (Collect(MoveNext(1)), Told::Moved(1)),
-    (Collect(MoveNext(0)), Told::Nothing),
-    (Collect(EndMove), Told::Done),
-    (Ask(InPhase), Told::In(Phase::Idle)),
-    (Collect(Select), Told::Refused(Fault::WrongPhase)),
-    (Collect(MoveNext(0)), Told::Refused(Fault::WrongPhase)),
-    (Collect(EndMove), Told::Refused(Fault::WrongPhase)),
-    (Ask(ObjectCount), Told::Count(2)),
-];
-
-/// Makes these calls of a new heap, none of which asks for memory.
-fn make_without_memory(
-    rt: &impl Abort,
-    alloc: Global,
-    config: Config,
-    calls: &[(Call, Told)],
-) -> Result<(), Fail> {
-    let memory = Rationed::new(alloc);
-    let heap = Heap::new(&memory, config, 1)?;
-    memory.ration(0);
-    make_calls(rt, heap, None, calls);
-    assert!(rt; !memory.lift(), "no request is refused");
-    Ok(())
+/// The calls of a cycle, once each.
+fn collect<A: Allocator + Copy>(rt: &impl Abort, bench: &mut Bench<A>) {
+    agree(rt, bench, &[(begin(9), Reply::Cycle(1))]);
+    assert!(rt; bench.heap.cycle() == 1 && bench.heap.clock() == 9);
+    assert!(rt; bench.heap.phase() == Phase::Marking);
+    let story = [
+        (scan(0), scanned(1)),
+        (scan(0), scanned(2)),
+        (scan(1), scanned(4)),
+        (END_MARK, Reply::Doomed(1)),
+    ];
+    agree(rt, bench, &story);
+    assert!(rt; bench.heap.phase() == Phase::Clearing);
+    agree(rt, bench, &[(clear_next(1), cleared(4))]);
+    let pending = Pending {
+        object: ObjNo(4),
+        queue: QueueNo(1),
+        cycle: 1,
+    };
+    assert!(rt; bench.heap.pending_of(WorkerNo(1), 0) == Some(pending));
+    agree(rt, bench, &[(END_CLEAR, Reply::Done)]);
+    assert!(rt; bench.heap.phase() == Phase::Sweeping);
+    let story = [
+        (sweep(0), Reply::Swept(1)),
+        (END_SWEEP, Reply::Done),
+        (hand(1), NOTICE),
+    ];
+    agree(rt, bench, &story);
+    assert!(rt; bench.heap.object_count() == 3 && bench.heap.phase() == Phase::Idle);
 }
 
 #[test]
 fn after_new_no_call_takes_memory(rt: HostRuntime) -> Result<(), Fail> {
-    make_without_memory(&rt, rt.alloc(), SMALL, &EACH_CALL)
-}
-
-#[test]
-fn no_call_of_moves_takes_memory(rt: HostRuntime) -> Result<(), Fail> {
-    make_without_memory(&rt, rt.alloc(), TWO_PAGES, &EACH_MOVE)
+    let memory = Rationed::new(rt.alloc());
+    let mut bench = Bench::new(Heap::new(&memory, SMALL, 1)?);
+    memory.ration(0);
+    let mutated = mutate(&rt, &mut bench);
+    assert!(rt; mutated == Ok(()));
+    collect(&rt, &mut bench);
+    assert!(rt; !memory.lift(), "no request is refused");
+    bench.end();
+    Ok(())
 }
 
 #[test]
 fn a_heap_out_of_limits_is_refused_before_memory_is_taken(rt: HostRuntime) {
     let none = Rationed::new(rt.alloc());
     none.ration(0);
-    let refused = [
-        (SMALL, Fault::NoMemory),
-        (
-            Config {
-                workers: 0,
-                ..SMALL
-            },
-            Fault::BadConfig,
-        ),
-        (
-            Config {
-                workers: 9,
-                ..SMALL
-            },
-            Fault::BadConfig,
-        ),
-    ];
-    for (row, &(config, want)) in refused.iter().enumerate() {
-        match Heap::new(&none, config, 1) {
-            Ok(_heap) => panic!(rt; "row {row} is made"),
-            Err(fault) => assert!(rt; fault == want, "row {row}: {fault}"),
-        }
+    for (workers, want) in [
+        (2, Fault::NoMemory),
+        (0, Fault::BadConfig),
+        (9, Fault::BadConfig),
+    ] {
+        let made = Heap::new(&none, Config { workers, ..SMALL }, 1);
+        assert!(rt; made.err() == Some(want), "{workers} workers");
     }
 }
 

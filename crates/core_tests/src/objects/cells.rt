@@ -1,132 +1,102 @@
 //! What lies in the cells of a heap: objects found by number, their fields and references, gaps, cells used again.
 
-use super::Ask::{
-    ClearedIn, FieldOf, HasObject, IsCondemned, IsMarked, KindOf, LinkOf, NextNo, ObjectCount,
-    ReferenceOf, ReferentOf, UnmarkedCount, WordAt, WordOfReferent,
+use super::{begun, config, freed_next, freed_no, has_word, heap_of, refers_by, swept};
+use crate::closed::condemn_if_closed;
+use crate::rows::{
+    clear, cleared, drop_slot, get, kept, load, new, object, skipped, soft_with_fields, store,
+    unregistered,
 };
-use super::Call::{Ask, Do, Set};
-use super::Do::{
-    CutIn, DropSlot, Free, FreeNext, Get, Load, LookAt, Mark, New, Refer, Store, Sweep,
-};
-use super::Set::{BeginMarks, Cleared, ClockTo, Condemn, Cut, EndCycle, Link, Stamp};
-use super::{agree, agree_from, config};
-use crate::told::Told;
-use ref_base::{Config, Fault, ObjNo, QueueNo, Strength};
-use ref_objects::{Kind, Reference, Start};
+use crate::steps::{agree, looked, make};
+use ref_base::{Config, ObjNo, QueueNo, Reply, Strength};
+use ref_objects::{Kind, Objects, Reference};
+use std::process::Abort;
 use std::test::Fail;
 
 #[test]
 fn what_is_made_is_found_by_its_number(rt: HostRuntime) -> Result<(), Fail> {
-    let story = [
-        (Do(New(0, 2)), Told::Object(1)),
-        (Do(New(1, 2)), Told::Object(2)),
-        (Do(New(1, 2)), Told::Object(3)),
-        (Do(Sweep(2)), Told::Yes),
-        // A slot holds it.
-        (Do(Sweep(3)), Told::No),
-        (Do(DropSlot(1)), Told::Done),
-        (Do(Sweep(3)), Told::Yes),
-        (Do(New(1, 2)), Told::Object(4)),
-        (Ask(HasObject(1)), Told::Yes),
-        (Ask(HasObject(2)), Told::No),
-        (Ask(HasObject(4)), Told::Yes),
-        (Ask(ObjectCount), Told::Count(2)),
-        (Ask(NextNo), Told::Next(5)),
+    let (mut heap, mut condemned) = heap_of(rt.alloc(), 3)?;
+    let made = [
+        (new(0, 2), object(1)),
+        (new(1, 2), object(2)),
+        (new(1, 2), object(3)),
     ];
-    agree(&rt, rt.alloc(), 3, &story)
-}
-
-#[test]
-fn a_field_is_written_alone(rt: HostRuntime) -> Result<(), Fail> {
-    let story = [
-        (Do(New(0, 2)), Told::Object(1)),
-        (Do(New(1, 2)), Told::Object(2)),
-        (Do(Store(0, 1, 1)), Told::Done),
-        (Do(Store(0, 2, 1)), Told::Refused(Fault::BadField)),
-        (Ask(FieldOf(1, 0)), Told::Null),
-        (Ask(FieldOf(1, 1)), Told::Object(2)),
-        (Ask(FieldOf(1, 2)), Told::Null),
-        (Ask(FieldOf(2, 1)), Told::Null),
-    ];
-    agree(&rt, rt.alloc(), 2, &story)
+    agree(&rt, &mut heap, &made);
+    assert!(rt; swept(&mut heap, &mut condemned, 2));
+    assert!(rt; !swept(&mut heap, &mut condemned, 3), "a slot holds it");
+    agree(&rt, &mut heap, &[(drop_slot(1), Reply::Done)]);
+    assert!(rt; swept(&mut heap, &mut condemned, 3));
+    agree(&rt, &mut heap, &[(new(1, 2), object(4))]);
+    assert!(rt;
+        heap.has_object(ObjNo(1)) && !heap.has_object(ObjNo(2)) && heap.has_object(ObjNo(4))
+    );
+    assert!(rt; heap.object_count() == 2 && heap.next_no() == 5);
+    Ok(())
 }
 
 #[test]
 fn a_field_has_a_word_of_its_objects_cell(rt: HostRuntime) -> Result<(), Fail> {
-    let story = [
-        (Do(New(0, 2)), Told::Object(1)),
-        (Do(New(1, 0)), Told::Object(2)),
-        (Do(New(2, 0)), Told::Object(3)),
-        (Ask(WordAt(1, 0)), Told::Word(0)),
-        (Do(Store(0, 0, 2)), Told::Done),
-        // Colour R, page 1, cell 2: in hexadecimal c000000000000042.
-        (Ask(WordAt(1, 0)), Told::Word(13_835_058_055_282_163_778)),
-        (Ask(WordAt(1, 2)), Told::Nothing),
-        (Ask(WordAt(4, 0)), Told::Nothing),
-        // Colour A is good now: a slot has it, and a field as soon as it is loaded.
-        (Set(BeginMarks), Told::Done),
-        (Do(Store(0, 1, 1)), Told::Done),
-        (Ask(WordAt(1, 0)), Told::Word(13_835_058_055_282_163_778)),
-        (Ask(WordAt(1, 1)), Told::Word(4_611_686_018_427_387_969)),
-        (Do(Load(3, 0, 0)), Told::Object(3)),
-        (Ask(WordAt(1, 0)), Told::Word(4_611_686_018_427_387_970)),
-    ];
-    agree(&rt, rt.alloc(), 4, &story)
+    let (mut heap, _) = heap_of(rt.alloc(), 4)?;
+    make(&rt, &mut heap, &[2, 0, 0]);
+    has_word(&rt, &heap, (1, 0), Some(0));
+    agree(&rt, &mut heap, &[(store(0, 0, 2), Reply::Done)]);
+    // Colour R, page 1, cell 2: in hexadecimal c000000000000042.
+    has_word(&rt, &heap, (1, 0), Some(13_835_058_055_282_163_778));
+    has_word(&rt, &heap, (1, 2), None);
+    has_word(&rt, &heap, (4, 0), None);
+    // Colour A is good now: a slot has it, and a field as soon as it is loaded.
+    begun(&mut heap);
+    agree(&rt, &mut heap, &[(store(0, 1, 1), Reply::Done)]);
+    has_word(&rt, &heap, (1, 0), Some(13_835_058_055_282_163_778));
+    has_word(&rt, &heap, (1, 1), Some(4_611_686_018_427_387_969));
+    agree(&rt, &mut heap, &[(load(3, 0, 0), object(3))]);
+    has_word(&rt, &heap, (1, 0), Some(4_611_686_018_427_387_970));
+    Ok(())
 }
 
 #[test]
 fn a_get_heals_the_referents_word(rt: HostRuntime) -> Result<(), Fail> {
-    let story = [
-        (Do(New(0, 0)), Told::Object(1)),
-        (Do(Refer(Strength::Weak, 1, 0, None, 0)), Told::Object(2)),
-        (Do(Refer(Strength::Weak, 2, 0, None, 0)), Told::Object(3)),
-        // Colour R, page 1, cell 0: in hexadecimal c000000000000040.
-        (
-            Ask(WordOfReferent(2)),
-            Told::Word(13_835_058_055_282_163_776),
-        ),
-        (Ask(WordOfReferent(1)), Told::Nothing),
-        (Ask(WordOfReferent(4)), Told::Nothing),
-        // Colour A is good now: a referent has it as soon as it is got.
-        (Set(BeginMarks), Told::Done),
-        (
-            Ask(WordOfReferent(2)),
-            Told::Word(13_835_058_055_282_163_776),
-        ),
-        (Do(Get(3, 1, false)), Told::Object(1)),
-        (
-            Ask(WordOfReferent(2)),
-            Told::Word(4_611_686_018_427_387_968),
-        ),
-        (
-            Ask(WordOfReferent(3)),
-            Told::Word(13_835_058_055_282_163_776),
-        ),
-        (Do(CutIn(1, false)), Told::Done),
-        (Ask(WordOfReferent(2)), Told::Word(0)),
+    // Colours R and A, page 1, cell 0: in hexadecimal c000000000000040 and 4000000000000040.
+    let (in_r, in_a) = (
+        Some(13_835_058_055_282_163_776),
+        Some(4_611_686_018_427_387_968),
+    );
+    let (mut heap, _) = heap_of(rt.alloc(), 4)?;
+    let made = [
+        (new(0, 0), object(1)),
+        (unregistered(1, 0), object(2)),
+        (unregistered(2, 0), object(3)),
     ];
-    agree(&rt, rt.alloc(), 4, &story)
+    agree(&rt, &mut heap, &made);
+    refers_by(&rt, &heap, 2, in_r);
+    refers_by(&rt, &heap, 1, None);
+    refers_by(&rt, &heap, 4, None);
+    // Colour A is good now: a referent has it as soon as it is got.
+    begun(&mut heap);
+    refers_by(&rt, &heap, 2, in_r);
+    agree(&rt, &mut heap, &[(get(3, 1), object(1))]);
+    refers_by(&rt, &heap, 2, in_a);
+    refers_by(&rt, &heap, 3, in_r);
+    agree(&rt, &mut heap, &[(clear(1), Reply::Done)]);
+    refers_by(&rt, &heap, 2, Some(0));
+    Ok(())
 }
 
 #[test]
 fn a_new_object_lies_in_the_first_free_cell(rt: HostRuntime) -> Result<(), Fail> {
-    let story = [
-        (Do(New(0, 1)), Told::Object(1)),
-        (Do(New(1, 0)), Told::Object(2)),
-        (Do(New(2, 0)), Told::Object(3)),
-        (Do(DropSlot(1)), Told::Done),
-        // Marks begin twice, before it is freed and after that: the second time makes colour B good.
-        (Do(Sweep(2)), Told::Yes),
-        (Do(New(1, 0)), Told::Object(4)),
-        (Do(Store(0, 0, 1)), Told::Done),
-        // Where object 2 lay: colour B, page 1, cell 1, in hexadecimal 8000000000000041.
-        (Ask(WordAt(1, 0)), Told::Word(9_223_372_036_854_775_873)),
-        (Do(New(3, 0)), Told::Object(5)),
-        (Do(Store(0, 0, 3)), Told::Done),
-        // Behind object 3: cell 3.
-        (Ask(WordAt(1, 0)), Told::Word(9_223_372_036_854_775_875)),
-    ];
-    agree(&rt, rt.alloc(), 4, &story)
+    let (mut heap, mut condemned) = heap_of(rt.alloc(), 4)?;
+    make(&rt, &mut heap, &[1, 0, 0]);
+    agree(&rt, &mut heap, &[(drop_slot(1), Reply::Done)]);
+    // Marks begin twice, before it is freed and after that: the second time makes colour B good.
+    assert!(rt; swept(&mut heap, &mut condemned, 2));
+    let story = [(new(1, 0), object(4)), (store(0, 0, 1), Reply::Done)];
+    agree(&rt, &mut heap, &story);
+    // Where object 2 lay: colour B, page 1, cell 1, in hexadecimal 8000000000000041.
+    has_word(&rt, &heap, (1, 0), Some(9_223_372_036_854_775_873));
+    let story = [(new(3, 0), object(5)), (store(0, 0, 3), Reply::Done)];
+    agree(&rt, &mut heap, &story);
+    // Behind object 3: cell 3.
+    has_word(&rt, &heap, (1, 0), Some(9_223_372_036_854_775_875));
+    Ok(())
 }
 
 #[test]
@@ -141,175 +111,137 @@ fn referent_and_stamp_are_those_of_a_reference(rt: HostRuntime) -> Result<(), Fa
         stamp: 7,
         queue: Some(QueueNo(3)),
     };
+    let stamped = Reference { stamp: 9, ..soft };
     let cut = Reference {
-        stamp: 9,
         referent: None,
-        ..soft
+        ..stamped
     };
-    let story = [
-        (Do(New(0, 2)), Told::Object(1)),
-        (Set(ClockTo(7)), Told::Done),
-        (Do(Refer(Strength::Soft, 1, 0, Some(3), 2)), Told::Object(2)),
-        (Ask(ReferenceOf(2)), Told::Reference(soft)),
-        (Set(Stamp(1, 8)), Told::Done),
-        (Set(Stamp(2, 9)), Told::Done),
-        (Ask(ReferenceOf(1)), Told::Nothing),
-        (
-            Ask(ReferenceOf(2)),
-            Told::Reference(Reference { stamp: 9, ..soft }),
-        ),
-        (Set(Cut(2)), Told::Done),
-        (Ask(ReferenceOf(2)), Told::Reference(cut)),
-    ];
-    agree_from(&rt, rt.alloc(), four_queues, Start::FIRST, &story)
-}
-
-#[test]
-fn a_cell_is_used_again_and_holds_nothing_of_before(rt: HostRuntime) -> Result<(), Fail> {
-    let story = [
-        (Do(New(0, 2)), Told::Object(1)),
-        (Do(Store(0, 0, 0)), Told::Done),
-        (Do(DropSlot(0)), Told::Done),
-        (Do(Sweep(1)), Told::Yes),
-        (Do(New(0, 2)), Told::Object(2)),
-        (Ask(HasObject(1)), Told::No),
-        (Ask(FieldOf(2, 0)), Told::Null),
-    ];
-    agree(&rt, rt.alloc(), 1, &story)
+    let mut heap = Objects::new(rt.alloc(), four_queues, 1)?;
+    agree(&rt, &mut heap, &[(new(0, 2), object(1))]);
+    heap.set_clock(7);
+    agree(&rt, &mut heap, &[(soft_with_fields(1, 0, 3, 2), object(2))]);
+    assert!(rt; heap.reference_of(ObjNo(2)) == Some(soft));
+    heap.set_stamp(ObjNo(1), 8);
+    heap.set_stamp(ObjNo(2), 9);
+    assert!(rt; heap.reference_of(ObjNo(1)) == None);
+    assert!(rt; heap.reference_of(ObjNo(2)) == Some(stamped));
+    heap.cut(ObjNo(2));
+    assert!(rt; heap.reference_of(ObjNo(2)) == Some(cut));
+    Ok(())
 }
 
 #[test]
 fn the_condemned_are_listed_in_order_of_number(rt: HostRuntime) -> Result<(), Fail> {
-    let story = [
-        (Do(New(0, 2)), Told::Object(1)),
-        (Do(New(0, 2)), Told::Object(2)),
-        (Do(New(0, 2)), Told::Object(3)),
-        (Do(Sweep(2)), Told::Yes),
-        // It has the cell of what was freed, and is listed by its number still.
-        (Do(New(1, 2)), Told::Object(4)),
-        (Do(New(0, 2)), Told::Object(5)),
-        (Do(DropSlot(1)), Told::Done),
-        (Do(Mark(5)), Told::Yes),
-        (Set(Condemn), Told::Done),
-        (Do(FreeNext), Told::Found(1)),
-        // It is freed by its number first, and then no more.
-        (Do(Free(3)), Told::Yes),
-        (Do(FreeNext), Told::No),
-        (Do(FreeNext), Told::Found(4)),
-        (Do(FreeNext), Told::Nothing),
-        (Ask(UnmarkedCount), Told::Count(0)),
+    let (mut heap, mut condemned) = heap_of(rt.alloc(), 5)?;
+    let made = [
+        (new(0, 2), object(1)),
+        (new(0, 2), object(2)),
+        (new(0, 2), object(3)),
     ];
-    agree(&rt, rt.alloc(), 5, &story)
+    agree(&rt, &mut heap, &made);
+    assert!(rt; swept(&mut heap, &mut condemned, 2));
+    // It has the cell of what was freed, and is listed by its number still.
+    let made = [
+        (new(1, 2), object(4)),
+        (new(0, 2), object(5)),
+        (drop_slot(1), Reply::Done),
+    ];
+    agree(&rt, &mut heap, &made);
+    assert!(rt; heap.mark(ObjNo(5)));
+    assert!(rt; condemn_if_closed(&mut heap, &mut condemned));
+    assert!(rt; freed_next(&mut heap, &mut condemned) == Some((1, true)));
+    // It is freed by its number first, and then no more.
+    assert!(rt; freed_no(&mut heap, 3));
+    for want in [Some((3, false)), Some((4, true)), None] {
+        assert!(rt; freed_next(&mut heap, &mut condemned) == want);
+    }
+    assert!(rt; heap.unmarked_count() == 0);
+    Ok(())
+}
+
+/// Just the first of these objects is condemned.
+fn first_is_condemned(rt: &impl Abort, heap: &Objects, objects: [u32; 3]) {
+    for (place, &no) in objects.iter().enumerate() {
+        assert!(rt; heap.is_condemned(ObjNo(no)) == (place == 0), "object {no}");
+    }
 }
 
 #[test]
 fn what_is_not_marked_is_condemned_and_may_be_freed(rt: HostRuntime) -> Result<(), Fail> {
-    let story = [
-        (Set(BeginMarks), Told::Done),
-        (Do(New(0, 2)), Told::Object(1)),
-        (Do(New(1, 2)), Told::Object(2)),
-        (Do(DropSlot(0)), Told::Done),
-        (Do(Free(1)), Told::No),
-        (Do(Mark(2)), Told::Yes),
-        (Set(Condemn), Told::Done),
-        (Ask(IsCondemned(1)), Told::Yes),
-        (Ask(IsCondemned(2)), Told::No),
-        (Ask(IsCondemned(3)), Told::No),
-        (Do(Free(2)), Told::No),
-        (Do(Free(1)), Told::Yes),
-        (Do(Free(1)), Told::No),
-        (Ask(IsCondemned(1)), Told::No),
-        (Ask(UnmarkedCount), Told::Count(0)),
-        // The cell is used again, by an object that is marked from the start.
-        (Do(New(0, 2)), Told::Object(3)),
-        (Ask(IsMarked(3)), Told::Yes),
-        (Ask(IsCondemned(3)), Told::No),
-        (Do(Free(3)), Told::No),
-        (Set(EndCycle), Told::Done),
-        (Set(BeginMarks), Told::Done),
-        (Ask(UnmarkedCount), Told::Count(2)),
-        (Ask(IsCondemned(2)), Told::No),
-        (Do(Free(3)), Told::No),
-    ];
-    agree(&rt, rt.alloc(), 2, &story)
+    let (mut heap, mut condemned) = heap_of(rt.alloc(), 2)?;
+    begun(&mut heap);
+    make(&rt, &mut heap, &[2, 2]);
+    agree(&rt, &mut heap, &[(drop_slot(0), Reply::Done)]);
+    assert!(rt; !freed_no(&mut heap, 1), "it isn't condemned");
+    assert!(rt; heap.mark(ObjNo(2)));
+    assert!(rt; condemn_if_closed(&mut heap, &mut condemned));
+    first_is_condemned(&rt, &heap, [1, 2, 3]);
+    assert!(rt; !freed_no(&mut heap, 2) && freed_no(&mut heap, 1) && !freed_no(&mut heap, 1));
+    assert!(rt; !heap.is_condemned(ObjNo(1)) && heap.unmarked_count() == 0);
+    // The cell is used again, by an object that is marked from the start.
+    agree(&rt, &mut heap, &[(new(0, 2), object(3))]);
+    assert!(rt; heap.is_marked(ObjNo(3)) && !heap.is_condemned(ObjNo(3)));
+    assert!(rt; !freed_no(&mut heap, 3));
+    heap.end_cycle();
+    begun(&mut heap);
+    assert!(rt; heap.unmarked_count() == 2 && !heap.is_condemned(ObjNo(2)));
+    assert!(rt; !freed_no(&mut heap, 3));
+    Ok(())
+}
+
+/// The object of this number was cleared last in this cycle, and links to this one.
+fn tells(rt: &impl Abort, heap: &Objects, no: u32, cycle: u64, link: u32) {
+    assert!(rt; heap.cleared_in(ObjNo(no)) == cycle, "object {no}");
+    assert!(rt; heap.link_of(ObjNo(no)) == link, "object {no}");
 }
 
 #[test]
-fn a_clear_is_told_till_its_object_goes(rt: HostRuntime) -> Result<(), Fail> {
-    let story = [
-        (Do(New(0, 0)), Told::Object(1)),
-        (Do(New(1, 0)), Told::Object(2)),
-        // A new object was never cleared.
-        (Ask(ClearedIn(1)), Told::Began(0)),
-        (Set(Cleared(1, 7)), Told::Done),
-        (Ask(ClearedIn(1)), Told::Began(7)),
-        (Ask(ClearedIn(2)), Told::Began(0)),
-        (Set(Cleared(1, 8)), Told::Done),
-        (Ask(ClearedIn(1)), Told::Began(8)),
-        // There is none.
-        (Set(Cleared(3, 9)), Told::Done),
-        (Ask(ClearedIn(3)), Told::Began(0)),
-        (Do(DropSlot(0)), Told::Done),
-        (Do(Sweep(1)), Told::Yes),
-        (Ask(ClearedIn(1)), Told::Began(0)),
-        // It lies in the same cell.
-        (Do(New(0, 0)), Told::Object(3)),
-        (Ask(ClearedIn(3)), Told::Began(0)),
-    ];
-    agree(&rt, rt.alloc(), 2, &story)
+fn a_clear_and_a_link_are_told_till_the_object_goes(rt: HostRuntime) -> Result<(), Fail> {
+    let (mut heap, mut condemned) = heap_of(rt.alloc(), 2)?;
+    make(&rt, &mut heap, &[0, 0]);
+    // A new object was never cleared, and links to nothing.
+    tells(&rt, &heap, 1, 0, 0);
+    heap.set_link(ObjNo(1), 2);
+    tells(&rt, &heap, 1, 0, 2);
+    tells(&rt, &heap, 2, 0, 0);
+    heap.set_cleared_in(ObjNo(1), 7);
+    heap.set_link(ObjNo(2), u32::MAX);
+    tells(&rt, &heap, 1, 7, 2);
+    tells(&rt, &heap, 2, 0, u32::MAX);
+    heap.set_cleared_in(ObjNo(1), 8);
+    tells(&rt, &heap, 1, 8, 2);
+    // There is no object 3.
+    heap.set_cleared_in(ObjNo(3), 9);
+    heap.set_link(ObjNo(3), 1);
+    tells(&rt, &heap, 3, 0, 0);
+    agree(&rt, &mut heap, &[(drop_slot(0), Reply::Done)]);
+    assert!(rt; swept(&mut heap, &mut condemned, 1));
+    tells(&rt, &heap, 1, 0, 0);
+    // It lies in the same cell.
+    agree(&rt, &mut heap, &[(new(0, 0), object(3))]);
+    tells(&rt, &heap, 3, 0, 0);
+    Ok(())
 }
 
 #[test]
 fn a_look_clears_what_refers_to_the_unmarked(rt: HostRuntime) -> Result<(), Fail> {
-    let story = [
-        (Do(New(0, 0)), Told::Object(1)),
-        (Do(Refer(Strength::Weak, 1, 0, None, 0)), Told::Object(2)),
-        (Set(Link(2, 1)), Told::Done),
-        (Do(Mark(1)), Told::Yes),
-        (Do(LookAt(2, 7)), Told::Kept(2)),
-        (Ask(ReferentOf(2)), Told::Object(1)),
-        (Ask(ClearedIn(2)), Told::Began(0)),
-        (Set(BeginMarks), Told::Done),
-        (Do(LookAt(2, 7)), Told::Cleared(2)),
-        (Ask(ReferentOf(2)), Told::Null),
-        (Ask(ClearedIn(2)), Told::Began(7)),
-        (Ask(LinkOf(2)), Told::Count(1)),
-        // It has no referent any more.
-        (Do(LookAt(2, 8)), Told::Skipped(2)),
-        (Ask(ClearedIn(2)), Told::Began(7)),
-        // A plain object, and none.
-        (Do(LookAt(1, 8)), Told::Skipped(1)),
-        (Ask(KindOf(1)), Told::Kind(Kind::Plain)),
-        (Ask(ClearedIn(1)), Told::Began(0)),
-        (Do(LookAt(3, 9)), Told::Skipped(3)),
-        (Ask(ClearedIn(3)), Told::Began(0)),
-    ];
-    agree(&rt, rt.alloc(), 2, &story)
-}
-
-#[test]
-fn a_link_is_told_till_its_object_goes(rt: HostRuntime) -> Result<(), Fail> {
-    let story = [
-        (Do(New(0, 0)), Told::Object(1)),
-        (Do(New(1, 0)), Told::Object(2)),
-        // A new object links to nothing.
-        (Ask(LinkOf(1)), Told::Count(0)),
-        (Set(Link(1, 2)), Told::Done),
-        (Ask(LinkOf(1)), Told::Count(2)),
-        (Ask(LinkOf(2)), Told::Count(0)),
-        (Set(Link(2, 4294967295)), Told::Done),
-        (Ask(LinkOf(2)), Told::Count(4294967295)),
-        (Set(Cleared(1, 7)), Told::Done),
-        (Ask(LinkOf(1)), Told::Count(2)),
-        // There is none.
-        (Set(Link(3, 1)), Told::Done),
-        (Ask(LinkOf(3)), Told::Count(0)),
-        (Do(DropSlot(0)), Told::Done),
-        (Do(Sweep(1)), Told::Yes),
-        (Ask(LinkOf(1)), Told::Count(0)),
-        // It lies in the same cell.
-        (Do(New(0, 0)), Told::Object(3)),
-        (Ask(LinkOf(3)), Told::Count(0)),
-    ];
-    agree(&rt, rt.alloc(), 2, &story)
+    let (mut heap, _) = heap_of(rt.alloc(), 2)?;
+    let made = [(new(0, 0), object(1)), (unregistered(1, 0), object(2))];
+    agree(&rt, &mut heap, &made);
+    heap.set_link(ObjNo(2), 1);
+    assert!(rt; heap.mark(ObjNo(1)));
+    assert!(rt; looked(heap.look_at(ObjNo(2), 7)) == kept(2));
+    assert!(rt; heap.referent_of(ObjNo(2)) == Some(ObjNo(1)));
+    tells(&rt, &heap, 2, 0, 1);
+    begun(&mut heap);
+    assert!(rt; looked(heap.look_at(ObjNo(2), 7)) == cleared(2));
+    assert!(rt; heap.referent_of(ObjNo(2)) == None);
+    tells(&rt, &heap, 2, 7, 1);
+    // It has no referent any more, nor has a plain object, nor one that isn't there.
+    for (no, cycle, want) in [(2, 8, 7), (1, 8, 0), (3, 9, 0)] {
+        assert!(rt; looked(heap.look_at(ObjNo(no), cycle)) == skipped(no));
+        assert!(rt; heap.cleared_in(ObjNo(no)) == want, "object {no}");
+    }
+    assert!(rt; heap.kind_of(ObjNo(1)) == Some(Kind::Plain));
+    Ok(())
 }

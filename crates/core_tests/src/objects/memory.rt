@@ -1,63 +1,65 @@
 //! Heaps whose memory runs out.
 
-use super::Ask::ObjectCount;
-use super::Call::{Ask, Do, Keep, Set};
-use super::Do::{
-    CopySlot, CutIn, DropSlot, Free, FreeNext, Get, Load, LookAt, Mark, MarkSlot, MarkSlotAt, New,
-    Refer, SetSlot, Store,
-};
-use super::Keep::{Adopt, Hold, Mint, Release};
-use super::Set::{BeginMarks, Cleared, ClockTo, Condemn, Cut, EndCycle, Link, Stamp};
-use super::{Call, M, begun, config, freed_at, make_calls};
+use super::{begun, freed, freed_next, freed_no, heap_of, listed, marked_at};
 use crate::closed::condemn_if_closed;
-use crate::told::Told;
+use crate::hand::{adopted, released};
+use crate::rows::{
+    M, clear, copy, drop_slot, get, load, new, object, skipped, soft_with_fields, store,
+};
+use crate::steps::{agree, looked};
 use rationed::Rationed;
-use ref_base::{Fault, ObjNo, SlotNo, Strength};
+use ref_base::{Fault, ObjNo, Reply, SlotNo};
 use ref_objects::{Objects, Worklist};
 use std::alloc::{Allocator, Global};
 use std::process::Abort;
 use std::test::Fail;
 
-/// Each call once.
-const EACH_CALL: [(Call, Told); 29] = [
-    (Do(New(0, 8)), Told::Object(1)),
-    (Do(Refer(Strength::Soft, 1, 0, Some(0), 8)), Told::Object(2)),
-    (Do(Store(0, 7, 1)), Told::Done),
-    (Do(Load(5, 0, 7)), Told::Object(2)),
-    (Do(Get(6, 1, false)), Told::Object(1)),
-    (Do(CopySlot(2, 1)), Told::Object(2)),
-    (Do(DropSlot(2)), Told::Done),
-    (Do(SetSlot(3, Some(1))), Told::Done),
-    (Set(ClockTo(5)), Told::Done),
-    (Set(Stamp(2, 5)), Told::Done),
-    (Set(Cut(2)), Told::Done),
-    (Do(CutIn(1, false)), Told::Done),
-    (Set(Cleared(2, 1)), Told::Done),
-    (Do(LookAt(2, 2)), Told::Skipped(2)),
-    (Set(Link(2, 1)), Told::Done),
-    (Keep(Hold(1)), Told::Held(2, 1)),
-    (Keep(Adopt(4)), Told::Object(2)),
-    (Keep(Mint(1)), Told::Held(1, 1)),
-    (Keep(Release), Told::Done),
-    (Set(BeginMarks), Told::Done),
-    (Do(Mark(1)), Told::Yes),
-    (Do(MarkSlot(0)), Told::Nothing),
-    (Do(MarkSlotAt(1)), Told::Found(2)),
-    (Set(Condemn), Told::Done),
-    (Do(Free(1)), Told::No),
-    (Do(FreeNext), Told::Nothing),
-    (Set(BeginMarks), Told::Done),
-    (Set(EndCycle), Told::Done),
-    (Ask(ObjectCount), Told::Count(2)),
-];
+/// Each step once, and then each call of the layers above.
+fn call_each<A: Allocator + Copy>(
+    rt: &impl Abort,
+    heap: &mut Objects<A>,
+    condemned: &mut Worklist<A>,
+) -> Result<(), Fail> {
+    let story = [
+        (new(0, 8), object(1)),
+        (soft_with_fields(1, 0, 0, 8), object(2)),
+        (store(0, 7, 1), Reply::Done),
+        (load(5, 0, 7), object(2)),
+        (get(6, 1), object(1)),
+        (copy(2, 1), object(2)),
+        (drop_slot(2), Reply::Done),
+    ];
+    agree(rt, heap, &story);
+    assert!(rt; heap.set_slot(M, SlotNo(3), Some(ObjNo(1))) == Ok(()));
+    heap.set_clock(5);
+    heap.set_stamp(ObjNo(2), 5);
+    heap.cut(ObjNo(2));
+    agree(rt, heap, &[(clear(1), Reply::Done)]);
+    heap.set_cleared_in(ObjNo(2), 1);
+    assert!(rt; looked(heap.look_at(ObjNo(2), 2)) == skipped(2));
+    heap.set_link(ObjNo(2), 1);
+    let hold = heap.hold(M, SlotNo(1))?;
+    assert!(rt; adopted(heap.adopt(M, SlotNo(4), hold)) == Ok(ObjNo(2)));
+    let hold = heap.mint(ObjNo(1))?;
+    assert!(rt; released(heap.release(hold)) == Ok(()));
+    begun(heap);
+    assert!(rt; heap.mark(ObjNo(1)));
+    assert!(rt; heap.mark_slot(M, SlotNo(0)).map(|entry| listed(entry)) == Ok(None));
+    assert!(rt; marked_at(heap, 1) == Some(ObjNo(2)));
+    assert!(rt; condemn_if_closed(heap, condemned));
+    assert!(rt; !freed_no(heap, 1) && freed_next(heap, condemned) == None);
+    begun(heap);
+    heap.end_cycle();
+    assert!(rt; heap.object_count() == 2);
+    Ok(())
+}
 
 #[test]
 fn after_new_no_call_takes_memory(rt: HostRuntime) -> Result<(), Fail> {
     let memory = Rationed::new(rt.alloc());
-    let heap = Objects::new(&memory, config(3), 1)?;
-    let condemned = Worklist::new(&memory, 3)?;
+    let (mut heap, mut condemned) = heap_of(&memory, 3)?;
     memory.ration(0);
-    make_calls(&rt, heap, condemned, None, &EACH_CALL);
+    call_each(&rt, &mut heap, &mut condemned)?;
     assert!(rt; !memory.lift(), "no request is refused");
     Ok(())
 }
@@ -81,7 +83,7 @@ fn free_all_but_one<A: Allocator + Copy>(heap: &mut Objects<A>, condemned: &mut 
     condemn_if_closed(heap, condemned);
     for _object in 0..condemned.room() {
         if let Some(entry) = condemned.take_first() {
-            freed_at(heap, entry);
+            freed(heap, entry);
         }
     }
     heap.end_cycle();
@@ -108,8 +110,7 @@ fn fill_again_and_again<A: Allocator + Copy>(
 /// Fills a heap of so many cells again and again, without a request for memory.
 fn fill_without_memory(rt: &impl Abort, alloc: Global, cells: u32) -> Result<(), Fail> {
     let memory = Rationed::new(alloc);
-    let mut heap = Objects::new(&memory, config(cells), 1)?;
-    let mut condemned = Worklist::new(&memory, cells as usize)?;
+    let (mut heap, mut condemned) = heap_of(&memory, cells)?;
     memory.ration(0);
     fill_again_and_again(rt, &mut heap, &mut condemned, cells, 20);
     assert!(rt; !memory.lift(), "no request is refused, with {cells} cells");

@@ -1,22 +1,16 @@
 //! What the calls of a heap answer.
 
-use super::Ask::{
-    Clock, FieldCount, FieldOf, FirstFrom, HasObject, HeapNo, HeldAfter, HeldFrom, HoldCount,
-    IsCondemned, IsHeld, IsMarked, IsUnmarked, KindOf, NextNo, ObjectCount, QueueOf, ReferenceIn,
-    ReferenceOf, ReferentIn, ReferentOf, Size, SlotAt, SlotCount, SlotOf, StampOf, UnmarkedCount,
+use super::{begun, config, freed_no, heap_of, listed, marked_at, swept};
+use crate::closed::condemn_if_closed;
+use crate::hand::{adopted, fault_of, foreign, refused_with, released};
+use crate::rows::{
+    M, clear, copy, drop_slot, get, load, new, object, phantom, refused, soft, soft_with_fields,
+    store, unregistered, weak,
 };
-use super::Call::{Ask, Do, Keep, Set};
-use super::Do::{
-    CopySlot, CutIn, DropSlot, Free, Get, Load, Mark, MarkSlot, MarkSlotAt, New, NewOf, Refer,
-    SetSlot, Store, Sweep,
-};
-use super::Keep::{Adopt, Hand, Hold, Leak, Mint, Release};
-use super::Set::{BeginMarks, ClockTo, Condemn, Cut, EndCycle};
-use super::{agree, agree_from, config, make_calls};
-use crate::hand::foreign;
-use crate::told::Told;
-use ref_base::{Fault, Strength};
+use crate::steps::{agree, make, make_in};
+use ref_base::{Fault, MutNo, ObjNo, QueueNo, Reply, SlotNo, Strength};
 use ref_objects::{Kind, Objects, Start, Worklist};
+use std::process::Abort;
 use std::test::Fail;
 
 /// A start at this object and this page.
@@ -29,27 +23,15 @@ const fn start(obj: u32, page: u32) -> Start {
 }
 
 #[test]
-fn no_cell_is_told_at_the_last_cell(rt: HostRuntime) -> Result<(), Fail> {
-    let story = [
-        (Do(New(0, 0)), Told::Object(1)),
-        (Do(New(1, 0)), Told::Object(2)),
-        (Do(New(2, 0)), Told::Refused(Fault::NoCell)),
-        (Do(DropSlot(1)), Told::Done),
-        (Do(Sweep(2)), Told::Yes),
-        (Do(New(2, 0)), Told::Object(3)),
-        (Ask(ObjectCount), Told::Count(2)),
-    ];
-    agree(&rt, rt.alloc(), 2, &story)
-}
-
-#[test]
 fn the_last_number_is_given_once(rt: HostRuntime) -> Result<(), Fail> {
+    let mut heap = Objects::starting(rt.alloc(), config(8), 1, start(u32::MAX, 1))?;
+    assert!(rt; heap.next_no() == 4_294_967_295);
     let story = [
-        (Ask(NextNo), Told::Next(4_294_967_295)),
-        (Do(New(0, 0)), Told::Object(4_294_967_295)),
-        (Do(New(1, 0)), Told::Refused(Fault::NumbersSpent)),
+        (new(0, 0), object(4_294_967_295)),
+        (new(1, 0), refused(Fault::NumbersSpent)),
     ];
-    agree_from(&rt, rt.alloc(), config(8), start(u32::MAX, 1), &story)
+    agree(&rt, &mut heap, &story);
+    Ok(())
 }
 
 #[test]
@@ -71,361 +53,338 @@ fn numbers_begin_at_one_and_pages_end_below_two_to_the_32nd(rt: HostRuntime) {
 }
 
 #[test]
-fn sixteen_slots_eight_fields_and_no_more(rt: HostRuntime) -> Result<(), Fail> {
-    let story = [
-        (Do(New(15, 8)), Told::Object(1)),
-        (Do(New(0, 9)), Told::Refused(Fault::BadField)),
-        (Do(New(16, 9)), Told::Refused(Fault::NoSuchActor)),
-        (Do(NewOf(1, 0, 0)), Told::Refused(Fault::NoSuchActor)),
-        (Do(Store(15, 7, 15)), Told::Done),
-        (Do(Store(15, 8, 15)), Told::Refused(Fault::BadField)),
-        (Do(Store(0, 0, 15)), Told::Refused(Fault::EmptySlot)),
-        (Ask(FieldOf(1, 7)), Told::Object(1)),
-        (Ask(FieldOf(1, 6)), Told::Null),
-    ];
-    agree(&rt, rt.alloc(), 8, &story)
-}
-
-#[test]
 fn a_reference_is_made_as_it_is_told(rt: HostRuntime) -> Result<(), Fail> {
-    let soft = Strength::Soft;
+    let (mut heap, _) = heap_of(rt.alloc(), 8)?;
+    heap.set_clock(7);
     let story = [
-        (Set(ClockTo(7)), Told::Done),
-        (
-            Do(Refer(soft, 1, 0, Some(0), 0)),
-            Told::Refused(Fault::EmptySlot),
-        ),
-        (Do(New(0, 0)), Told::Object(1)),
-        (
-            Do(Refer(soft, 1, 0, Some(1), 0)),
-            Told::Refused(Fault::BadQueue),
-        ),
-        (Do(Refer(soft, 1, 0, Some(0), 1)), Told::Object(2)),
-        (Ask(KindOf(2)), Told::Kind(Kind::Reference(soft))),
-        (Ask(ReferentOf(2)), Told::Object(1)),
-        (Ask(StampOf(2)), Told::Time(7)),
-        (Ask(QueueOf(2)), Told::Queue(0)),
-        (Ask(FieldCount(2)), Told::Count(1)),
+        (soft(1, 0, 0), refused(Fault::EmptySlot)),
+        (new(0, 0), object(1)),
+        (soft(1, 0, 1), refused(Fault::BadQueue)),
+        (soft_with_fields(1, 0, 0, 1), object(2)),
     ];
-    agree(&rt, rt.alloc(), 8, &story)
+    agree(&rt, &mut heap, &story);
+    assert!(rt; heap.kind_of(ObjNo(2)) == Some(Kind::Reference(Strength::Soft)));
+    assert!(rt; heap.referent_of(ObjNo(2)) == Some(ObjNo(1)));
+    assert!(rt; heap.stamp_of(ObjNo(2)) == 7 && heap.queue_of(ObjNo(2)) == Some(QueueNo(0)));
+    let fields = heap.fields_of(ObjNo(2));
+    assert!(rt; fields.len() == 1 && fields.get(0) == None && fields.get(1) == None);
+    Ok(())
+}
+
+/// The slot of this number holds this.
+fn slot_has(rt: &impl Abort, heap: &Objects, slot: u32, want: Result<Option<u32>, Fault>) {
+    let want = want.map(|no| no.map(|no| ObjNo(no)));
+    assert!(rt; heap.slot_of(M, SlotNo(slot)) == want, "slot {slot}");
 }
 
 #[test]
-fn slots_are_copied_dropped_and_set(rt: HostRuntime) -> Result<(), Fail> {
+fn slots_are_set_and_read(rt: HostRuntime) -> Result<(), Fail> {
+    let (mut heap, _) = heap_of(rt.alloc(), 8)?;
     let story = [
-        (Do(New(0, 0)), Told::Object(1)),
-        (Do(CopySlot(1, 0)), Told::Object(1)),
-        (Ask(SlotOf(0)), Told::Object(1)),
-        (Do(DropSlot(0)), Told::Done),
-        (Ask(SlotOf(0)), Told::Null),
-        (Do(CopySlot(2, 0)), Told::Null),
-        (Do(SetSlot(2, Some(1))), Told::Done),
-        (Ask(SlotOf(2)), Told::Object(1)),
-        (Ask(SlotOf(16)), Told::Refused(Fault::NoSuchActor)),
-        (Ask(SlotCount), Told::Count(16)),
-        (Ask(SlotAt(1)), Told::Object(1)),
-        (Ask(SlotAt(3)), Told::Null),
+        (new(0, 0), object(1)),
+        (copy(1, 0), object(1)),
+        (drop_slot(0), Reply::Done),
     ];
-    agree(&rt, rt.alloc(), 8, &story)
+    agree(&rt, &mut heap, &story);
+    slot_has(&rt, &heap, 0, Ok(None));
+    assert!(rt; heap.set_slot(M, SlotNo(2), Some(ObjNo(1))) == Ok(()));
+    for slot in [1, 2] {
+        slot_has(&rt, &heap, slot, Ok(Some(1)));
+    }
+    slot_has(&rt, &heap, 3, Ok(None));
+    slot_has(&rt, &heap, 16, Err(Fault::NoSuchActor));
+    assert!(rt; heap.slot_of(MutNo(1), SlotNo(0)) == Err(Fault::NoSuchActor));
+    assert!(rt; heap.slot_count() == 16);
+    Ok(())
 }
 
-#[test]
-fn what_a_field_holds_is_loaded(rt: HostRuntime) -> Result<(), Fail> {
-    let story = [
-        (Do(New(0, 2)), Told::Object(1)),
-        (Do(New(1, 0)), Told::Object(2)),
-        (Do(Store(0, 1, 1)), Told::Done),
-        (Do(Load(2, 0, 1)), Told::Object(2)),
-        (Ask(SlotOf(2)), Told::Object(2)),
-        (Do(Load(2, 0, 0)), Told::Null),
-        (Ask(SlotOf(2)), Told::Null),
-        // Into its own slot.
-        (Do(Load(0, 0, 1)), Told::Object(2)),
-        (Ask(SlotOf(0)), Told::Object(2)),
-        (Do(Load(3, 16, 0)), Told::Refused(Fault::NoSuchActor)),
-        (Do(Load(16, 2, 0)), Told::Refused(Fault::NoSuchActor)),
-        (Do(Load(3, 2, 0)), Told::Refused(Fault::EmptySlot)),
-        (Do(Load(3, 0, 0)), Told::Refused(Fault::BadField)),
-        (Ask(SlotOf(3)), Told::Null),
-    ];
-    agree(&rt, rt.alloc(), 8, &story)
+/// What the reference in slot 1 reads as, in full and where what isn't marked is hidden.
+fn reads_as(rt: &impl Abort, heap: &Objects, full: Option<u32>, hidden: Option<u32>) {
+    let full = full.map(|no| ObjNo(no));
+    let hidden = hidden.map(|no| ObjNo(no));
+    assert!(rt; heap.referent_in(M, SlotNo(1), false) == Ok(full));
+    assert!(rt; heap.referent_in(M, SlotNo(1), true) == Ok(hidden));
+}
+
+/// Marks what this slot holds: its number, where it wasn't marked.
+fn marked(heap: &mut Objects, slot: u32) -> Result<Option<ObjNo>, Fault> {
+    heap.mark_slot(M, SlotNo(slot)).map(|entry| listed(entry))
 }
 
 #[test]
 fn what_isnt_marked_reads_as_null_where_it_is_hidden(rt: HostRuntime) -> Result<(), Fail> {
-    let story = [
-        (Do(New(0, 0)), Told::Object(1)),
-        (Do(Refer(Strength::Soft, 1, 0, None, 0)), Told::Object(2)),
-        (Do(Refer(Strength::Phantom, 2, 0, None, 0)), Told::Object(3)),
-        (Ask(ReferenceIn(1)), Told::Found(2)),
-        (Ask(ReferentIn(1, false)), Told::Object(1)),
-        (Ask(ReferentIn(1, true)), Told::Null),
-        (Ask(ReferentIn(2, false)), Told::Object(1)),
-        (Set(ClockTo(7)), Told::Done),
-        (Do(Get(3, 1, true)), Told::Null),
-        (Ask(StampOf(2)), Told::Time(0)),
-        (Do(Get(3, 1, false)), Told::Object(1)),
-        (Ask(StampOf(2)), Told::Time(7)),
-        (Ask(SlotOf(3)), Told::Object(1)),
-        // A phantom reference gives nothing.
-        (Do(Get(3, 2, false)), Told::Null),
-        (Ask(SlotOf(3)), Told::Null),
-        (Do(CutIn(1, true)), Told::Done),
-        (Ask(ReferentIn(1, false)), Told::Object(1)),
-        (Do(MarkSlot(0)), Told::Found(1)),
-        (Do(Get(3, 1, true)), Told::Object(1)),
-        (Do(CutIn(1, true)), Told::Done),
-        (Ask(ReferentIn(1, false)), Told::Null),
-        (Do(CutIn(2, false)), Told::Done),
-        (Ask(ReferentOf(3)), Told::Null),
+    let (one, two) = (SlotNo(1), SlotNo(2));
+    let (mut heap, _) = heap_of(rt.alloc(), 8)?;
+    let made = [
+        (new(0, 0), object(1)),
+        (soft(1, 0, 0), object(2)),
+        (phantom(2, 0), object(3)),
     ];
-    agree(&rt, rt.alloc(), 8, &story)
+    agree(&rt, &mut heap, &made);
+    assert!(rt; heap.reference_in(M, one).map(|(no, _)| no) == Ok(ObjNo(2)));
+    reads_as(&rt, &heap, Some(1), None);
+    assert!(rt; heap.referent_in(M, two, false) == Ok(Some(ObjNo(1))));
+    heap.set_clock(7);
+    assert!(rt; heap.get(M, SlotNo(3), one, true) == Ok(None));
+    assert!(rt; heap.stamp_of(ObjNo(2)) == 0);
+    agree(&rt, &mut heap, &[(get(3, 1), object(1))]);
+    assert!(rt; heap.stamp_of(ObjNo(2)) == 7);
+    slot_has(&rt, &heap, 3, Ok(Some(1)));
+    // A phantom reference gives nothing.
+    agree(&rt, &mut heap, &[(get(3, 2), Reply::Null)]);
+    slot_has(&rt, &heap, 3, Ok(None));
+    assert!(rt; heap.cut_in(M, one, true) == Ok(()));
+    reads_as(&rt, &heap, Some(1), None);
+    assert!(rt; marked(&mut heap, 0) == Ok(Some(ObjNo(1))));
+    assert!(rt; heap.get(M, SlotNo(3), one, true) == Ok(Some(ObjNo(1))));
+    assert!(rt; heap.cut_in(M, one, true) == Ok(()));
+    reads_as(&rt, &heap, None, None);
+    agree(&rt, &mut heap, &[(clear(2), Reply::Done)]);
+    assert!(rt; heap.referent_of(ObjNo(3)) == None);
+    Ok(())
 }
 
 #[test]
 fn only_a_reference_is_got_and_cut(rt: HostRuntime) -> Result<(), Fail> {
-    let story = [
-        (Do(New(0, 0)), Told::Object(1)),
-        (Do(Refer(Strength::Weak, 1, 0, None, 0)), Told::Object(2)),
-        (Do(Get(16, 1, false)), Told::Refused(Fault::NoSuchActor)),
-        (Do(Get(3, 16, false)), Told::Refused(Fault::NoSuchActor)),
-        (Do(Get(3, 4, false)), Told::Refused(Fault::EmptySlot)),
-        (Do(Get(3, 0, false)), Told::Refused(Fault::NotAReference)),
-        (Do(CutIn(16, false)), Told::Refused(Fault::NoSuchActor)),
-        (Do(CutIn(4, false)), Told::Refused(Fault::EmptySlot)),
-        (Do(CutIn(0, false)), Told::Refused(Fault::NotAReference)),
-        (Ask(ReferenceIn(16)), Told::Refused(Fault::NoSuchActor)),
-        (Ask(ReferenceIn(4)), Told::Refused(Fault::EmptySlot)),
-        (Ask(ReferenceIn(0)), Told::Refused(Fault::NotAReference)),
-        (Ask(ReferentIn(16, true)), Told::Refused(Fault::NoSuchActor)),
-        (Ask(ReferentIn(4, true)), Told::Refused(Fault::EmptySlot)),
-        (
-            Ask(ReferentIn(0, true)),
-            Told::Refused(Fault::NotAReference),
-        ),
-        (Ask(ReferentIn(1, false)), Told::Object(1)),
+    let (mut heap, _) = heap_of(rt.alloc(), 8)?;
+    let made = [
+        (new(0, 0), object(1)),
+        (unregistered(1, 0), object(2)),
+        (get(16, 1), refused(Fault::NoSuchActor)),
     ];
-    agree(&rt, rt.alloc(), 8, &story)
+    agree(&rt, &mut heap, &made);
+    let table = [
+        (16, Fault::NoSuchActor),
+        (4, Fault::EmptySlot),
+        (0, Fault::NotAReference),
+    ];
+    for (slot, fault) in table {
+        agree(
+            &rt,
+            &mut heap,
+            &[
+                (get(3, slot), refused(fault)),
+                (clear(slot), refused(fault)),
+            ],
+        );
+        assert!(rt;
+            heap.reference_in(M, SlotNo(slot)).err() == Some(fault),
+            "slot {slot}"
+        );
+        assert!(rt;
+            heap.referent_in(M, SlotNo(slot), true) == Err(fault),
+            "slot {slot}"
+        );
+    }
+    assert!(rt; heap.referent_in(M, SlotNo(1), false) == Ok(Some(ObjNo(1))));
+    Ok(())
 }
 
 #[test]
 fn what_slots_hold_is_marked_once(rt: HostRuntime) -> Result<(), Fail> {
-    let story = [
-        (Do(New(0, 0)), Told::Object(1)),
-        (Do(CopySlot(15, 0)), Told::Object(1)),
-        (Do(New(1, 0)), Told::Object(2)),
-        (Do(MarkSlot(0)), Told::Found(1)),
-        (Do(MarkSlot(15)), Told::Nothing),
-        (Do(MarkSlot(2)), Told::Nothing),
-        (Do(MarkSlot(16)), Told::Refused(Fault::NoSuchActor)),
-        (Do(MarkSlotAt(1)), Told::Found(2)),
-        (Do(MarkSlotAt(1)), Told::Nothing),
-        (Do(MarkSlotAt(16)), Told::Nothing),
-        (Ask(IsMarked(1)), Told::Yes),
-        (Ask(IsMarked(2)), Told::Yes),
+    let (mut heap, _) = heap_of(rt.alloc(), 8)?;
+    let made = [
+        (new(0, 0), object(1)),
+        (copy(15, 0), object(1)),
+        (new(1, 0), object(2)),
     ];
-    agree(&rt, rt.alloc(), 8, &story)
+    agree(&rt, &mut heap, &made);
+    let table = [
+        (0, Ok(Some(ObjNo(1)))),
+        (15, Ok(None)),
+        (2, Ok(None)),
+        (16, Err(Fault::NoSuchActor)),
+    ];
+    for (slot, want) in table {
+        assert!(rt; marked(&mut heap, slot) == want, "slot {slot}");
+    }
+    for (place, want) in [(1, Some(ObjNo(2))), (1, None), (16, None)] {
+        assert!(rt; marked_at(&mut heap, place) == want, "place {place}");
+    }
+    assert!(rt; heap.is_marked(ObjNo(1)) && heap.is_marked(ObjNo(2)));
+    Ok(())
 }
 
 #[test]
 fn a_heap_tells_what_it_is(rt: HostRuntime) -> Result<(), Fail> {
-    let story = [
-        (Do(New(0, 0)), Told::Object(1)),
-        (Set(ClockTo(3)), Told::Done),
-        (Ask(Size), Told::Size(config(4))),
-        (Ask(HeapNo), Told::Heap(1)),
-        (Ask(Clock), Told::Time(3)),
-        (Ask(HasObject(1)), Told::Yes),
-        (Ask(IsHeld(1)), Told::No),
-        (Ask(ReferenceOf(1)), Told::Nothing),
-        (Ask(FirstFrom(1)), Told::Found(1)),
-        (Ask(FirstFrom(2)), Told::Nothing),
-    ];
-    agree(&rt, rt.alloc(), 4, &story)
+    let (mut heap, _) = heap_of(rt.alloc(), 4)?;
+    agree(&rt, &mut heap, &[(new(0, 0), object(1))]);
+    heap.set_clock(3);
+    assert!(rt; heap.config() == config(4) && heap.heap_no() == 1 && heap.clock() == 3);
+    assert!(rt; heap.has_object(ObjNo(1)) && !heap.is_held(ObjNo(1)));
+    assert!(rt; heap.reference_of(ObjNo(1)) == None);
+    assert!(rt; heap.first_from(ObjNo(1)) == Some(ObjNo(1)));
+    assert!(rt; heap.first_from(ObjNo(2)) == None);
+    Ok(())
 }
 
 #[test]
 fn a_hold_goes_back_to_its_own_heap(rt: HostRuntime) -> Result<(), Fail> {
-    // The hand has a hold of another heap, which comes back each time.
-    let story = [
-        (Do(New(0, 0)), Told::Object(1)),
-        (Keep(Release), Told::Refused(Fault::ForeignHold)),
-        (Keep(Hand), Told::Held(1, 2)),
-        (Keep(Adopt(1)), Told::Refused(Fault::ForeignHold)),
-        (Keep(Hand), Told::Held(1, 2)),
-        (Ask(SlotOf(1)), Told::Null),
-        (Keep(Leak), Told::Done),
-        (Keep(Hold(0)), Told::Held(1, 1)),
-        (Keep(Adopt(1)), Told::Object(1)),
-        (Ask(SlotOf(1)), Told::Object(1)),
-        (Ask(HoldCount), Told::Count(0)),
-    ];
-    let heap = Objects::new(rt.alloc(), config(8), 1)?;
-    let condemned = Worklist::new(rt.alloc(), 8)?;
+    let other = Some((Fault::ForeignHold, 1, 2));
+    let mut heap = Objects::new(rt.alloc(), config(8), 1)?;
+    agree(&rt, &mut heap, &[(new(0, 0), object(1))]);
     let hold = foreign(rt.alloc())?;
-    make_calls(&rt, heap, condemned, Some(hold), &story);
+    assert!(rt; refused_with(heap.release(hold)) == other);
+    let hold = foreign(rt.alloc())?;
+    assert!(rt; refused_with(heap.adopt(M, SlotNo(1), hold)) == other);
+    slot_has(&rt, &heap, 1, Ok(None));
+    let hold = heap.hold(M, SlotNo(0))?;
+    assert!(rt; hold.obj() == ObjNo(1) && hold.heap_no() == 1);
+    assert!(rt; adopted(heap.adopt(M, SlotNo(1), hold)) == Ok(ObjNo(1)));
+    slot_has(&rt, &heap, 1, Ok(Some(1)));
+    assert!(rt; heap.hold_count() == 0);
     Ok(())
 }
 
 #[test]
 fn each_hold_is_counted(rt: HostRuntime) -> Result<(), Fail> {
-    let story = [
-        (Do(New(0, 0)), Told::Object(1)),
-        (Do(New(1, 0)), Told::Object(2)),
-        (Keep(Hold(2)), Told::Refused(Fault::EmptySlot)),
-        (Keep(Mint(3)), Told::Refused(Fault::NoSuchObject)),
-        (Keep(Mint(2)), Told::Held(2, 1)),
-        (Ask(HoldCount), Told::Count(1)),
-        (Ask(HeldFrom(1)), Told::Found(2)),
-        (Do(DropSlot(1)), Told::Done),
-        (Do(Sweep(2)), Told::No),
-        (Keep(Release), Told::Done),
-        (Ask(HeldFrom(1)), Told::Nothing),
-        (Do(Sweep(2)), Told::Yes),
-    ];
-    agree(&rt, rt.alloc(), 8, &story)
+    let (mut heap, mut condemned) = heap_of(rt.alloc(), 8)?;
+    make(&rt, &mut heap, &[0, 0]);
+    assert!(rt; fault_of(heap.hold(M, SlotNo(2))) == Some(Fault::EmptySlot));
+    assert!(rt; fault_of(heap.mint(ObjNo(3))) == Some(Fault::NoSuchObject));
+    let hold = heap.mint(ObjNo(2))?;
+    assert!(rt; hold.obj() == ObjNo(2) && hold.heap_no() == 1);
+    assert!(rt; heap.hold_count() == 1 && heap.held_from(ObjNo(1)) == Some(ObjNo(2)));
+    agree(&rt, &mut heap, &[(drop_slot(1), Reply::Done)]);
+    assert!(rt; !swept(&mut heap, &mut condemned, 2), "it is held");
+    assert!(rt; released(heap.release(hold)) == Ok(()));
+    assert!(rt; heap.held_from(ObjNo(1)) == None);
+    assert!(rt; swept(&mut heap, &mut condemned, 2));
+    Ok(())
 }
 
 #[test]
 fn what_is_held_is_walked_in_order(rt: HostRuntime) -> Result<(), Fail> {
-    let story = [
-        (Do(New(0, 0)), Told::Object(1)),
-        (Do(New(0, 0)), Told::Object(2)),
-        (Do(New(0, 0)), Told::Object(3)),
-        (Do(New(0, 0)), Told::Object(4)),
-        (Do(New(0, 0)), Told::Object(5)),
-        (Do(New(0, 0)), Told::Object(6)),
-        (Do(New(0, 0)), Told::Object(7)),
-        (Do(New(0, 0)), Told::Object(8)),
-        (Keep(Mint(2)), Told::Held(2, 1)),
-        (Keep(Leak), Told::Done),
-        (Keep(Mint(6)), Told::Held(6, 1)),
-        (Keep(Leak), Told::Done),
-        (Keep(Mint(6)), Told::Held(6, 1)),
-        (Keep(Leak), Told::Done),
-        // A leaked hold is counted on.
-        (Ask(HoldCount), Told::Count(3)),
-        (Ask(HeldFrom(0)), Told::Found(2)),
-        (Ask(HeldFrom(2)), Told::Found(2)),
-        (Ask(HeldFrom(3)), Told::Found(6)),
-        (Ask(HeldFrom(7)), Told::Nothing),
-        (Ask(HeldAfter(1)), Told::Found(2)),
-        (Ask(HeldAfter(2)), Told::Found(6)),
-        (Ask(HeldAfter(6)), Told::Nothing),
-        (Ask(HeldAfter(u32::MAX)), Told::Nothing),
-    ];
-    agree(&rt, rt.alloc(), 8, &story)
+    let (mut heap, _) = heap_of(rt.alloc(), 8)?;
+    make_in(&rt, &mut heap, 0, 1..9);
+    // A leaked hold is counted on.
+    for no in [2, 6, 6] {
+        heap.mint(ObjNo(no))?.leak();
+    }
+    assert!(rt; heap.hold_count() == 3);
+    for (no, want) in [(0, Some(2)), (2, Some(2)), (3, Some(6)), (7, None)] {
+        assert!(rt;
+            heap.held_from(ObjNo(no)) == want.map(|no| ObjNo(no)),
+            "from {no}"
+        );
+    }
+    for (no, want) in [(1, Some(2)), (2, Some(6)), (6, None), (u32::MAX, None)] {
+        assert!(rt;
+            heap.held_after(ObjNo(no)) == want.map(|no| ObjNo(no)),
+            "after {no}"
+        );
+    }
+    Ok(())
 }
 
 #[test]
 fn what_a_cycle_reaches_is_marked_and_the_rest_is_white(rt: HostRuntime) -> Result<(), Fail> {
-    let story = [
-        (Do(New(0, 0)), Told::Object(1)),
-        (Do(New(1, 0)), Told::Object(2)),
-        (Do(New(2, 0)), Told::Object(3)),
-        (Ask(UnmarkedCount), Told::Count(3)),
-        (Do(Mark(1)), Told::Yes),
-        (Do(Mark(2)), Told::Yes),
-        // It is marked already, and there is none.
-        (Do(Mark(2)), Told::No),
-        (Do(Mark(4)), Told::No),
-        (Ask(IsMarked(2)), Told::Yes),
-        (Ask(IsMarked(3)), Told::No),
-        (Ask(IsUnmarked(2)), Told::No),
-        (Ask(IsUnmarked(3)), Told::Yes),
-        // There is none.
-        (Ask(IsUnmarked(4)), Told::No),
-        (Ask(UnmarkedCount), Told::Count(1)),
-    ];
-    agree(&rt, rt.alloc(), 8, &story)
+    let (mut heap, _) = heap_of(rt.alloc(), 8)?;
+    make(&rt, &mut heap, &[0, 0, 0]);
+    assert!(rt; heap.unmarked_count() == 3);
+    // At last one that is marked already, and one that isn't there.
+    for (no, want) in [(1, true), (2, true), (2, false), (4, false)] {
+        assert!(rt; heap.mark(ObjNo(no)) == want, "object {no}");
+    }
+    for (no, is_marked, is_unmarked) in [(2, true, false), (3, false, true), (4, false, false)] {
+        assert!(rt; heap.is_marked(ObjNo(no)) == is_marked, "object {no}");
+        assert!(rt; heap.is_unmarked(ObjNo(no)) == is_unmarked, "object {no}");
+    }
+    assert!(rt; heap.unmarked_count() == 1);
+    Ok(())
 }
 
 #[test]
 fn nothing_is_condemned_that_something_else_refers_to(rt: HostRuntime) -> Result<(), Fail> {
+    let (mut heap, mut condemned) = heap_of(rt.alloc(), 8)?;
+    begun(&mut heap);
+    make(&rt, &mut heap, &[1, 1]);
+    assert!(rt; heap.mark(ObjNo(1)));
+    assert!(rt;
+        !condemn_if_closed(&mut heap, &mut condemned),
+        "slot 1 holds object 2"
+    );
+    let hold = heap.hold(M, SlotNo(1))?;
+    agree(&rt, &mut heap, &[(drop_slot(1), Reply::Done)]);
+    assert!(rt; !condemn_if_closed(&mut heap, &mut condemned), "it is held");
+    assert!(rt; adopted(heap.adopt(M, SlotNo(1), hold)) == Ok(ObjNo(2)));
+    let story = [(store(0, 0, 1), Reply::Done), (drop_slot(1), Reply::Done)];
+    agree(&rt, &mut heap, &story);
+    assert!(rt;
+        !condemn_if_closed(&mut heap, &mut condemned),
+        "a field holds it"
+    );
     let story = [
-        (Set(BeginMarks), Told::Done),
-        (Do(New(0, 1)), Told::Object(1)),
-        // Slot 1 holds what isn't marked.
-        (Do(New(1, 1)), Told::Object(2)),
-        (Do(Mark(1)), Told::Yes),
-        (Set(Condemn), Told::No),
-        // So does a hold.
-        (Keep(Hold(1)), Told::Held(2, 1)),
-        (Do(DropSlot(1)), Told::Done),
-        (Set(Condemn), Told::No),
-        (Keep(Adopt(1)), Told::Object(2)),
-        // And a field of what is marked.
-        (Do(Store(0, 0, 1)), Told::Done),
-        (Do(DropSlot(1)), Told::Done),
-        (Set(Condemn), Told::No),
-        (Do(Load(1, 0, 0)), Told::Object(2)),
-        (Do(Store(0, 0, 2)), Told::Done),
-        // And a reference that is marked.
-        (Do(Refer(Strength::Phantom, 2, 1, None, 0)), Told::Object(3)),
-        (Do(Mark(3)), Told::Yes),
-        (Do(DropSlot(1)), Told::Done),
-        (Set(Condemn), Told::No),
-        (Set(Cut(3)), Told::Done),
-        (Set(Condemn), Told::Done),
-        (Ask(IsCondemned(2)), Told::Yes),
+        (load(1, 0, 0), object(2)),
+        (store(0, 0, 2), Reply::Done),
+        (phantom(2, 1), object(3)),
+        (drop_slot(1), Reply::Done),
     ];
-    agree(&rt, rt.alloc(), 8, &story)
+    agree(&rt, &mut heap, &story);
+    assert!(rt; heap.mark(ObjNo(3)));
+    assert!(rt;
+        !condemn_if_closed(&mut heap, &mut condemned),
+        "it is a referent"
+    );
+    heap.cut(ObjNo(3));
+    assert!(rt; condemn_if_closed(&mut heap, &mut condemned));
+    assert!(rt; heap.is_condemned(ObjNo(2)));
+    Ok(())
+}
+
+/// Objects 2 and 3 refer to object 1, and are condemned.
+fn condemn_two(rt: &impl Abort, heap: &mut Objects, condemned: &mut Worklist) {
+    begun(heap);
+    make(rt, heap, &[1, 1]);
+    let story = [
+        (store(1, 0, 0), Reply::Done),
+        (weak(2, 0, 0), object(3)),
+        (drop_slot(1), Reply::Done),
+        (drop_slot(2), Reply::Done),
+    ];
+    agree(rt, heap, &story);
+    assert!(rt; heap.mark(ObjNo(1)));
+    assert!(rt; heap.fields_of(ObjNo(2)).get(0) == Some(ObjNo(1)));
+    assert!(rt; heap.referent_of(ObjNo(3)) == Some(ObjNo(1)));
+    assert!(rt; condemn_if_closed(heap, condemned));
 }
 
 #[test]
 fn the_condemned_refer_to_nothing_and_nothing_comes_to_name_them(
     rt: HostRuntime,
 ) -> Result<(), Fail> {
-    let story = [
-        (Set(BeginMarks), Told::Done),
-        (Do(New(0, 1)), Told::Object(1)),
-        (Do(New(1, 1)), Told::Object(2)),
-        (Do(Store(1, 0, 0)), Told::Done),
-        (Do(Refer(Strength::Weak, 2, 0, Some(0), 0)), Told::Object(3)),
-        (Do(Mark(1)), Told::Yes),
-        (Do(DropSlot(1)), Told::Done),
-        (Do(DropSlot(2)), Told::Done),
-        (Ask(FieldOf(2, 0)), Told::Object(1)),
-        (Ask(ReferentOf(3)), Told::Object(1)),
-        (Set(Condemn), Told::Done),
-        (Ask(FieldOf(2, 0)), Told::Null),
-        (Ask(FieldCount(2)), Told::Count(1)),
-        (Ask(ReferentOf(3)), Told::Null),
-        (Ask(QueueOf(3)), Told::Queue(0)),
-        (Ask(HasObject(2)), Told::Yes),
-        (Keep(Mint(2)), Told::Refused(Fault::NoSuchObject)),
-        (Do(SetSlot(3, Some(2))), Told::Done),
-        (Ask(SlotOf(3)), Told::Null),
-        // Nor what isn't there, but what is marked.
-        (Do(SetSlot(3, Some(4))), Told::Done),
-        (Ask(SlotOf(3)), Told::Null),
-        (Do(SetSlot(3, Some(1))), Told::Done),
-        (Ask(SlotOf(3)), Told::Object(1)),
-        // What isn't freed refers to nothing afterwards, too.
-        (Do(Free(3)), Told::Yes),
-        (Set(EndCycle), Told::Done),
-        (Ask(IsCondemned(2)), Told::No),
-        (Ask(FieldOf(2, 0)), Told::Null),
-        (Keep(Mint(2)), Told::Held(2, 1)),
-    ];
-    agree(&rt, rt.alloc(), 8, &story)
+    let (mut heap, mut condemned) = heap_of(rt.alloc(), 8)?;
+    condemn_two(&rt, &mut heap, &mut condemned);
+    let fields = heap.fields_of(ObjNo(2));
+    assert!(rt; fields.get(0) == None && fields.len() == 1);
+    assert!(rt; heap.referent_of(ObjNo(3)) == None);
+    assert!(rt; heap.queue_of(ObjNo(3)) == Some(QueueNo(0)) && heap.has_object(ObjNo(2)));
+    assert!(rt; fault_of(heap.mint(ObjNo(2))) == Some(Fault::NoSuchObject));
+    // Nor what isn't there, but what is marked.
+    for (no, want) in [(2, None), (4, None), (1, Some(1))] {
+        assert!(rt; heap.set_slot(M, SlotNo(3), Some(ObjNo(no))) == Ok(()));
+        slot_has(&rt, &heap, 3, Ok(want));
+    }
+    // What isn't freed refers to nothing afterwards, too.
+    assert!(rt; freed_no(&mut heap, 3));
+    heap.end_cycle();
+    assert!(rt; !heap.is_condemned(ObjNo(2)));
+    assert!(rt; heap.fields_of(ObjNo(2)).get(0) == None);
+    let hold = heap.mint(ObjNo(2))?;
+    assert!(rt; hold.obj() == ObjNo(2) && hold.heap_no() == 1);
+    hold.leak();
+    Ok(())
 }
 
 #[test]
 fn a_new_cycle_begins_with_no_mark(rt: HostRuntime) -> Result<(), Fail> {
-    let story = [
-        (Do(New(0, 0)), Told::Object(1)),
-        (Do(New(1, 0)), Told::Object(2)),
-        (Keep(Mint(2)), Told::Held(2, 1)),
-        (Keep(Leak), Told::Done),
-        (Do(Mark(1)), Told::Yes),
-        (Do(Mark(2)), Told::Yes),
-        (Ask(UnmarkedCount), Told::Count(0)),
-        (Set(BeginMarks), Told::Done),
-        (Ask(UnmarkedCount), Told::Count(2)),
-        // Only marks are taken away.
-        (Ask(IsHeld(2)), Told::Yes),
-        (Do(Mark(2)), Told::Yes),
-    ];
-    agree(&rt, rt.alloc(), 2, &story)
+    let (mut heap, _) = heap_of(rt.alloc(), 2)?;
+    make(&rt, &mut heap, &[0, 0]);
+    heap.mint(ObjNo(2))?.leak();
+    assert!(rt; heap.mark(ObjNo(1)) && heap.mark(ObjNo(2)) && heap.unmarked_count() == 0);
+    begun(&mut heap);
+    assert!(rt; heap.unmarked_count() == 2);
+    // Only marks are taken away.
+    assert!(rt; heap.is_held(ObjNo(2)) && heap.mark(ObjNo(2)));
+    Ok(())
 }

@@ -1,9 +1,10 @@
 //! Batches that a queue takes and gives.
 
 use super::{Slip, of};
+use crate::rows::{nos, outs, refused};
 use crate::scarce::MOST;
 use rationed::Rationed;
-use ref_base::{Batch, Fault, MOST_IN_BATCH, Nos, ObjNo, Out, Outs, QueueNo};
+use ref_base::{Batch, Done, Fault, MOST_IN_BATCH, Out, Outs, QueueNo, Reply};
 use ref_queue::{PolledBatch, Queue};
 use std::alloc::{Allocator, Global};
 use std::process::Abort;
@@ -28,88 +29,71 @@ fn holds(rt: &impl Abort, batch: &mut Batch<Slip>, slips: &[Slip]) {
     assert!(rt; batch.take_first() == None);
 }
 
-/// These became of the items, and of no more.
-fn tell(rt: &impl Abort, outs: Outs, want: &[Out]) {
-    for (place, out) in want.iter().enumerate() {
-        assert!(rt; outs.get(place) == Some(*out), "item {place}");
-    }
-    assert!(rt; outs.len() == want.len());
-}
-
-/// A poll of at most so many takes these, and no more.
-fn takes<A: Allocator + Copy>(
-    rt: &impl Abort,
-    alloc: Global,
-    queue: &mut Queue<Slip, A>,
-    most: usize,
-    slips: &[Slip],
-) -> Result<(), Fail> {
-    let mut batch = Batch::new(alloc)?;
-    if 1 <= most && most <= MOST_IN_BATCH {
-        match queue.poll_batch(most, &mut batch) {
-            PolledBatch::Took(numbers) => {
-                assert!(rt; numbers.as_slice().len() == slips.len());
-                for (place, slip) in slips.iter().enumerate() {
-                    assert!(rt; numbers.as_slice().get(place) == Some(&ObjNo(slip.object)));
-                }
-            }
-            PolledBatch::Empty | PolledBatch::Closed => assert!(rt; slips.is_empty(), "it takes"),
-        }
-    }
-    holds(rt, &mut batch, slips);
-    Ok(())
-}
-
 /// A batch is put in, of whose items these became, and then has just these left.
 fn puts(
     rt: &impl Abort,
     alloc: Global,
     queue: &mut Queue<Slip>,
-    slips: &[Slip],
-    told: &[Out],
-    left: &[Slip],
+    (slips, left): (&[Slip], &[Slip]),
+    want: Reply,
 ) -> Result<(), Fail> {
     let mut batch = batch_of(alloc, slips)?;
-    let outs = queue.put_batch(&mut batch)?;
-    tell(rt, outs, told);
+    let told = match queue.put_batch(&mut batch) {
+        Ok(outs) => Reply::Outs(outs),
+        Err(fault) => Reply::Refused(fault),
+    };
+    assert_eq!(rt; told, want);
     holds(rt, &mut batch, left);
     Ok(())
 }
 
-/// One item after the other goes in, of which two were put in before, and what stands comes out in order.
-fn put_and_take(rt: &impl Abort, alloc: Global, queue: &mut Queue<Slip>) -> Result<(), Fail> {
-    let _first = queue.put(of(7));
-    let told = [Out::Already, Out::Added(1), Out::Added(2), Out::Already];
-    let slips = [of(7), of(3), of(9), of(3)];
-    puts(rt, alloc, queue, &slips, &told, &[of(7), of(3)])?;
-    takes(rt, alloc, queue, 2, &[of(7), of(3)])?;
-    takes(rt, alloc, queue, 32, &[of(9)])?;
-    takes(rt, alloc, queue, 1, &[])?;
-    // Nothing is told of an empty batch.
-    puts(rt, alloc, queue, &[], &[], &[])
+/// What a poll of so many at most answers. What it takes goes behind what is in the batch.
+fn polled<A: Allocator + Copy>(
+    rt: &impl Abort,
+    queue: &mut Queue<Slip, A>,
+    most: usize,
+    batch: &mut Batch<Slip>,
+) -> PolledBatch {
+    // Which `poll_batch` asks of its callers.
+    assert!(rt; 1 <= most && batch.len() <= MOST_IN_BATCH && most <= MOST_IN_BATCH - batch.len());
+    queue.poll_batch(most, batch)
+}
+
+/// A poll of so many at most takes these into an empty batch, and no more. Of an open queue.
+fn takes<A: Allocator + Copy>(
+    rt: &impl Abort,
+    alloc: Global,
+    queue: &mut Queue<Slip, A>,
+    most: usize,
+    objects: &[u32],
+) -> Result<(), Fail> {
+    let mut batch = Batch::new(alloc)?;
+    let want = if objects.is_empty() {
+        PolledBatch::Empty
+    } else {
+        PolledBatch::Took(nos(objects))
+    };
+    assert!(rt; polled(rt, queue, most, &mut batch) == want);
+    for &object in objects {
+        assert!(rt; batch.take_first() == Some(of(object)));
+    }
+    holds(rt, &mut batch, &[]);
+    Ok(())
 }
 
 #[test]
 fn items_go_in_one_by_one_and_come_out_in_order(rt: HostRuntime) -> Result<(), Fail> {
     let mut queue = Queue::new(rt.alloc(), QueueNo(0));
-    put_and_take(&rt, rt.alloc(), &mut queue)
-}
-
-/// A poll of one takes this, and it stands behind what was in the batch before.
-fn takes_behind(
-    rt: &impl Abort,
-    alloc: Global,
-    queue: &mut Queue<Slip>,
-    before: Slip,
-    taken: Slip,
-) -> Result<(), Fail> {
-    let mut batch = batch_of(alloc, &[before])?;
-    if batch.len() < MOST_IN_BATCH {
-        let polled = queue.poll_batch(1, &mut batch);
-        assert!(rt; polled == took(taken.object), "one is taken");
-    }
-    holds(rt, &mut batch, &[before, taken]);
-    Ok(())
+    let _first = queue.put(of(7));
+    let told = [Done::Already, Done::Added, Done::Added, Done::Already];
+    let slips = [of(7), of(3), of(9), of(3)];
+    let left = [of(7), of(3)];
+    puts(&rt, rt.alloc(), &mut queue, (&slips, &left), outs(1, &told))?;
+    takes(&rt, rt.alloc(), &mut queue, 2, &[7, 3])?;
+    takes(&rt, rt.alloc(), &mut queue, 32, &[9])?;
+    takes(&rt, rt.alloc(), &mut queue, 1, &[])?;
+    // Nothing is told of an empty batch.
+    puts(&rt, rt.alloc(), &mut queue, (&[], &[]), outs(3, &[]))
 }
 
 #[test]
@@ -117,61 +101,49 @@ fn polled_items_stand_behind_those_of_the_batch(rt: HostRuntime) -> Result<(), F
     let mut queue = Queue::new(rt.alloc(), QueueNo(0));
     let _first = queue.put(of(7));
     let _second = queue.put(of(3));
-    takes_behind(&rt, rt.alloc(), &mut queue, of(9), of(7))
-}
-
-/// A poll of one into a new batch is answered so.
-fn answers(
-    rt: &impl Abort,
-    alloc: Global,
-    queue: &mut Queue<Slip>,
-    want: PolledBatch,
-) -> Result<(), Fail> {
-    assert!(rt; queue.poll_batch(1, &mut Batch::new(alloc)?) == want);
+    let mut batch = batch_of(rt.alloc(), &[of(9)])?;
+    assert!(rt; polled(&rt, &mut queue, 1, &mut batch) == PolledBatch::Took(nos(&[7])));
+    holds(&rt, &mut batch, &[of(9), of(7)]);
     Ok(())
-}
-
-/// Polls before and behind the close, and a batch that is put in behind it.
-fn close_and_ask(rt: &impl Abort, alloc: Global, queue: &mut Queue<Slip>) -> Result<(), Fail> {
-    let _first = queue.put(of(7));
-    answers(rt, alloc, queue, took(7))?;
-    answers(rt, alloc, queue, PolledBatch::Empty)?;
-    queue.close();
-    let slips = [of(4), of(7), of(5)];
-    let told = [Out::Closed, Out::Already, Out::Closed];
-    puts(rt, alloc, queue, &slips, &told, &slips)?;
-    answers(rt, alloc, queue, PolledBatch::Closed)
 }
 
 #[test]
 fn a_closed_queue_takes_no_batch_and_gives_what_stands(rt: HostRuntime) -> Result<(), Fail> {
     let mut queue = Queue::new(rt.alloc(), QueueNo(0));
-    close_and_ask(&rt, rt.alloc(), &mut queue)
-}
-
-/// What a poll answers that took this one.
-fn took(object: u32) -> PolledBatch {
-    let mut numbers = Nos::new();
-    numbers.push(ObjNo(object));
-    PolledBatch::Took(numbers)
-}
-
-/// A batch with an item for another queue comes back as it was.
-fn refuses_all(rt: &impl Abort, alloc: Global, queue: &mut Queue<Slip>) -> Result<(), Fail> {
-    let stray = Slip {
-        object: 8,
-        queue: 1,
-    };
-    let mut batch = batch_of(alloc, &[of(3), stray, of(9)])?;
-    assert!(rt; queue.put_batch(&mut batch) == Err(Fault::WrongQueue));
-    holds(rt, &mut batch, &[of(3), stray, of(9)]);
-    takes(rt, alloc, queue, 32, &[])
+    let _first = queue.put(of(7));
+    takes(&rt, rt.alloc(), &mut queue, 1, &[7])?;
+    takes(&rt, rt.alloc(), &mut queue, 1, &[])?;
+    queue.close();
+    let slips = [of(4), of(7), of(5)];
+    let told = [Done::Closed, Done::Already, Done::Closed];
+    puts(
+        &rt,
+        rt.alloc(),
+        &mut queue,
+        (&slips, &slips),
+        outs(1, &told),
+    )?;
+    let mut batch = Batch::new(rt.alloc())?;
+    assert!(rt; polled(&rt, &mut queue, 1, &mut batch) == PolledBatch::Closed);
+    Ok(())
 }
 
 #[test]
 fn a_batch_with_an_item_for_another_queue_comes_back_whole(rt: HostRuntime) -> Result<(), Fail> {
+    let stray = Slip {
+        object: 8,
+        queue: 1,
+    };
+    let slips = [of(3), stray, of(9)];
     let mut queue = Queue::new(rt.alloc(), QueueNo(0));
-    refuses_all(&rt, rt.alloc(), &mut queue)
+    puts(
+        &rt,
+        rt.alloc(),
+        &mut queue,
+        (&slips, &slips),
+        refused(Fault::WrongQueue),
+    )?;
+    takes(&rt, rt.alloc(), &mut queue, 32, &[])
 }
 
 /// How many items are put in for the first time: more than the room that a queue takes first.
@@ -238,7 +210,7 @@ fn put_twice<'a>(
     assert!(rt; first.saturating_add(again) == NEW, "all are added");
     holds(rt, &mut batch, &[of(0)]);
     for object in 0..NEW + 1 {
-        takes(rt, alloc, queue, 1, &[of(object as u32)])?;
+        takes(rt, alloc, queue, 1, &[object as u32])?;
     }
     Ok(was_refused)
 }

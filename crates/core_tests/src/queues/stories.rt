@@ -1,54 +1,62 @@
 //! What a queue takes, and what it gives out.
 
-use super::Call::{Close, EnqueuedAt, Poll, Put, StandsAt, TakenAt};
-use super::{Slip, agree, of};
-use crate::told::Told;
-use ref_base::Fault;
+use super::Call::{Close, Poll, Put};
+use super::{Slip, agree, ends, lists, of};
+use crate::rows::{refused, took};
+use ref_base::{Fault, QueueNo, Reply};
+use ref_queue::Queue;
+use std::test::Fail;
 
 #[test]
 fn the_first_put_is_the_first_taken(rt: HostRuntime) {
     let story = [
-        (Poll, Told::Empty),
-        (Put(of(7)), Told::Added(0)),
-        (Put(of(3)), Told::Added(1)),
-        (Poll, Told::Took(of(7))),
-        (Put(of(9)), Told::Added(2)),
-        (Poll, Told::Took(of(3))),
-        (Poll, Told::Took(of(9))),
-        (Poll, Told::Empty),
+        (Poll, Reply::Empty),
+        (Put(of(7)), Reply::Added(0)),
+        (Put(of(3)), Reply::Added(1)),
+        (Poll, took(7)),
+        (Put(of(9)), Reply::Added(2)),
+        (Poll, took(3)),
+        (Poll, took(9)),
+        (Poll, Reply::Empty),
     ];
-    agree(&rt, rt.alloc(), &story, &[]);
+    let mut queue = Queue::new(rt.alloc(), QueueNo(0));
+    agree(&rt, &mut queue, &story);
+    ends(&rt, queue, &[]);
 }
 
 #[test]
-fn nothing_is_put_in_twice_even_after_it_was_taken(rt: HostRuntime) {
+fn nothing_is_put_in_twice_even_after_it_was_taken(rt: HostRuntime) -> Result<(), Fail> {
+    let mut queue = Queue::new(rt.alloc(), QueueNo(0));
     let story = [
-        (Put(of(7)), Told::Added(0)),
-        (Put(of(3)), Told::Added(1)),
-        (Put(of(9)), Told::Added(2)),
-        (Put(of(3)), Told::Already(of(3))),
-        (Poll, Told::Took(of(7))),
-        (Put(of(7)), Told::Already(of(7))),
-        (StandsAt(0), Told::Object(3)),
-        (StandsAt(1), Told::Object(9)),
-        (StandsAt(2), Told::PastTheEnd),
+        (Put(of(7)), Reply::Added(0)),
+        (Put(of(3)), Reply::Added(1)),
+        (Put(of(9)), Reply::Added(2)),
+        (Put(of(3)), Reply::Already),
+        (Poll, took(7)),
     ];
-    agree(&rt, rt.alloc(), &story, &[of(3), of(9)]);
+    agree(&rt, &mut queue, &story);
+    lists(&rt, rt.alloc(), &queue, (&[7], &[3, 9]))?;
+    agree(&rt, &mut queue, &[(Put(of(7)), Reply::Already)]);
+    lists(&rt, rt.alloc(), &queue, (&[7], &[3, 9]))?;
+    ends(&rt, queue, &[3, 9]);
+    Ok(())
 }
 
 #[test]
 fn a_closed_queue_gives_out_what_stands_and_takes_nothing(rt: HostRuntime) {
     let story = [
-        (Put(of(7)), Told::Added(0)),
-        (Close, Told::ClosesNow),
-        (Close, Told::WasClosed),
-        (Put(of(3)), Told::TooLate(of(3))),
+        (Put(of(7)), Reply::Added(0)),
+        (Close, Reply::Done),
+        (Close, Reply::Closed),
+        (Put(of(3)), Reply::Closed),
         // That 7 was put in is tried before the queue's end.
-        (Put(of(7)), Told::Already(of(7))),
-        (Poll, Told::Took(of(7))),
-        (Poll, Told::Ended),
+        (Put(of(7)), Reply::Already),
+        (Poll, took(7)),
+        (Poll, Reply::Closed),
     ];
-    agree(&rt, rt.alloc(), &story, &[]);
+    let mut queue = Queue::new(rt.alloc(), QueueNo(0));
+    agree(&rt, &mut queue, &story);
+    ends(&rt, queue, &[]);
 }
 
 #[test]
@@ -58,29 +66,11 @@ fn a_slip_for_another_queue_comes_back(rt: HostRuntime) {
         queue: 1,
     };
     let story = [
-        (Put(stray), Told::NotPut(Fault::WrongQueue, stray)),
+        (Put(stray), refused(Fault::WrongQueue)),
         // It wasn't put in, so one of that number still may be.
-        (Put(of(7)), Told::Added(0)),
+        (Put(of(7)), Reply::Added(0)),
     ];
-    agree(&rt, rt.alloc(), &story, &[of(7)]);
-}
-
-#[test]
-fn what_was_taken_and_what_stands_is_all_that_was_put_in(rt: HostRuntime) {
-    let story = [
-        (Put(of(7)), Told::Added(0)),
-        (Put(of(3)), Told::Added(1)),
-        (Put(of(9)), Told::Added(2)),
-        (Poll, Told::Took(of(7))),
-        (EnqueuedAt(0), Told::Object(7)),
-        (EnqueuedAt(1), Told::Object(3)),
-        (EnqueuedAt(2), Told::Object(9)),
-        (EnqueuedAt(3), Told::PastTheEnd),
-        (TakenAt(0), Told::Object(7)),
-        (TakenAt(1), Told::PastTheEnd),
-        (StandsAt(0), Told::Object(3)),
-        (StandsAt(1), Told::Object(9)),
-        (StandsAt(2), Told::PastTheEnd),
-    ];
-    agree(&rt, rt.alloc(), &story, &[of(3), of(9)]);
+    let mut queue = Queue::new(rt.alloc(), QueueNo(0));
+    agree(&rt, &mut queue, &story);
+    ends(&rt, queue, &[7]);
 }

@@ -1,6 +1,6 @@
 //! What is made whole or not at all: lists, pages, heaps and worlds of each layer.
 
-use super::MOST;
+use super::{MOST, Trial, refuse_each};
 use rationed::Rationed;
 use ref_base::{Batch, Config, Fault, SpanRule};
 use ref_clear::Heap;
@@ -10,7 +10,6 @@ use ref_space::{Pages, Table, Worklist};
 use ref_world::World;
 use std::alloc::{Allocator, Global};
 use std::process::Abort;
-use std::test::Fail;
 
 /// Two of each actor, three queues, and cells that fill two pages.
 const CONFIG: Config = Config {
@@ -80,32 +79,41 @@ fn make<A: Allocator + Copy>(alloc: A, made: Made) -> Result<(), Fault> {
     Ok(())
 }
 
-/// Makes it with each request refused in turn. Answers how many requests it makes.
-fn refuse_each(rt: &impl Abort, memory: &Rationed<Global>, name: &str, made: Made) -> u64 {
-    for met in 0..MOST {
-        memory.ration(met);
-        let answer = make(memory, made);
-        if !memory.lift() {
-            assert!(rt; answer == Ok(()), "{name} with {met} requests met");
-            return met;
-        }
-        assert!(rt;
-            answer == Err(Fault::NoMemory),
-            "{name} with {met} requests met"
-        );
+/// Something of this kind, made again and again.
+#[derive(Drop)]
+struct Making<'a> {
+    memory: &'a Rationed<Global>,
+    name: &'static str,
+    made: Made,
+}
+
+impl<'a> Trial for Making<'a> {
+    fn call(&self) -> &'static str {
+        self.name
     }
-    MOST
+
+    fn is_made(&mut self, rt: &impl Abort) -> bool {
+        let answer = make(self.memory, self.made);
+        assert!(rt; answer == Ok(()) || answer == Err(Fault::NoMemory));
+        answer.is_ok()
+    }
+
+    fn stays(&self, _rt: &impl Abort) {}
 }
 
 #[test]
-fn what_finds_no_memory_is_not_made(rt: HostRuntime) -> Result<(), Fail> {
+fn what_finds_no_memory_is_not_made(rt: HostRuntime) {
     let memory = Rationed::new(rt.alloc());
     for (name, made) in EACH {
-        let requests = refuse_each(&rt, &memory, name, made);
+        let mut trial = Making {
+            memory: &memory,
+            name,
+            made,
+        };
+        let requests = refuse_each(&rt, &memory, &mut trial);
         assert!(rt;
             0 < requests && requests < MOST,
             "{name} makes {requests} requests"
         );
     }
-    Ok(())
 }

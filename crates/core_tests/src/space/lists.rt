@@ -2,99 +2,73 @@
 
 use ref_base::ObjNo;
 use ref_space::{Entry, Worklist};
-use std::alloc::Allocator;
-use std::process::Abort;
 use std::test::Fail;
 
-/// A call of a list with room for three.
+/// A call of a list, with its answer.
 #[derive(Clone, Copy)]
 enum Call {
     Push(u32),
-    TakeFirst,
-    Clear,
-    IsEmpty,
-    Len,
-    Room,
-}
-
-/// What it answers.
-#[derive(Clone, Copy, Debug, PartialEq, Eq)]
-enum Told {
-    Done,
-    /// The object of this number.
-    Object(u32),
-    Nothing,
-    Yes,
-    No,
-    Number(usize),
     /// There is no room for one more.
-    NotAsked,
+    Full,
+    /// The number of the object that is taken.
+    TakeFirst(Option<u32>),
+    Len(usize),
+    Clear,
 }
 
-fn pushed<A: Allocator>(list: &mut Worklist<A>, no: u32) -> Told {
-    if list.len() >= list.room() {
-        return Told::NotAsked;
-    }
-    list.push(Entry::of(ObjNo(no)));
-    Told::Done
-}
-
-fn first<A: Allocator>(list: &mut Worklist<A>) -> Told {
-    match list.take_first() {
-        Some(entry) => Told::Object(entry.no.0),
-        None => Told::Nothing,
-    }
-}
-
-fn answer<A: Allocator>(list: &mut Worklist<A>, call: Call) -> Told {
+/// Makes a call: whether it is answered so.
+fn is_answered(list: &mut Worklist, call: Call) -> bool {
     match call {
-        Call::Push(no) => pushed(list, no),
-        Call::TakeFirst => first(list),
+        Call::Push(no) => {
+            if list.len() >= list.room() {
+                return false;
+            }
+            list.push(Entry::of(ObjNo(no)));
+            true
+        }
+        Call::Full => list.len() >= list.room(),
+        Call::TakeFirst(want) => list.take_first().map(|entry| entry.no.0) == want,
+        Call::Len(want) => list.len() == want && list.is_empty() == (want == 0),
         Call::Clear => {
             list.clear();
-            Told::Done
+            true
         }
-        Call::IsEmpty if list.is_empty() => Told::Yes,
-        Call::IsEmpty => Told::No,
-        Call::Len => Told::Number(list.len()),
-        Call::Room => Told::Number(list.room()),
     }
 }
 
 #[test]
 fn a_list_gives_first_what_was_put_in_first(rt: HostRuntime) -> Result<(), Fail> {
     let story = [
-        (Call::IsEmpty, Told::Yes),
-        (Call::TakeFirst, Told::Nothing),
-        (Call::Room, Told::Number(3)),
-        (Call::Push(5), Told::Done),
-        (Call::Push(2), Told::Done),
-        (Call::Push(9), Told::Done),
-        (Call::Push(4), Told::NotAsked),
-        (Call::TakeFirst, Told::Object(5)),
-        (Call::Len, Told::Number(2)),
+        Call::Len(0),
+        Call::TakeFirst(None),
+        Call::Push(5),
+        Call::Push(2),
+        Call::Push(9),
+        Call::Full,
+        Call::TakeFirst(Some(5)),
+        Call::Len(2),
         // What was taken made room, also at the end of the memory.
-        (Call::Push(7), Told::Done),
-        (Call::Push(1), Told::NotAsked),
-        (Call::TakeFirst, Told::Object(2)),
-        (Call::TakeFirst, Told::Object(9)),
-        (Call::Push(3), Told::Done),
-        (Call::TakeFirst, Told::Object(7)),
-        (Call::IsEmpty, Told::No),
-        (Call::TakeFirst, Told::Object(3)),
-        (Call::IsEmpty, Told::Yes),
-        (Call::TakeFirst, Told::Nothing),
-        (Call::Push(8), Told::Done),
-        (Call::Push(6), Told::Done),
-        (Call::Clear, Told::Done),
-        (Call::TakeFirst, Told::Nothing),
-        (Call::Push(1), Told::Done),
-        (Call::TakeFirst, Told::Object(1)),
+        Call::Push(7),
+        Call::Full,
+        Call::TakeFirst(Some(2)),
+        Call::TakeFirst(Some(9)),
+        Call::Push(3),
+        Call::TakeFirst(Some(7)),
+        Call::Len(1),
+        Call::TakeFirst(Some(3)),
+        Call::Len(0),
+        Call::TakeFirst(None),
+        Call::Push(8),
+        Call::Push(6),
+        Call::Clear,
+        Call::TakeFirst(None),
+        Call::Push(1),
+        Call::TakeFirst(Some(1)),
     ];
     let mut list = Worklist::new(rt.alloc(), 3)?;
-    for (row, &(call, want)) in story.iter().enumerate() {
-        let told = answer(&mut list, call);
-        assert_eq!(rt; told, want, "row {row}");
+    assert!(rt; list.room() == 3);
+    for (row, &call) in story.iter().enumerate() {
+        assert!(rt; is_answered(&mut list, call), "row {row}");
     }
     Ok(())
 }

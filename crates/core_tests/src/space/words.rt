@@ -1,7 +1,6 @@
 //! What words have in them, and what is none.
 
 use ref_space::{Colour, Word, has_colour, parts_of, word_of};
-use std::process::Abort;
 
 /// Colours, pages and cells, with their words.
 const WORDS: [(Colour, u32, u32, u64); 7] = [
@@ -26,54 +25,43 @@ const NO_WORDS: [u64; 8] = [
     u64::MAX,
 ];
 
+/// The colours, with their numbers.
+const COLOURS: [(Colour, u32); 3] = [(Colour::A, 1), (Colour::B, 2), (Colour::R, 3)];
+
 #[test]
-fn colours_have_numbers(rt: HostRuntime) {
-    for (colour, want) in [(Colour::A, 1), (Colour::B, 2), (Colour::R, 3)] {
-        assert!(rt; colour.number() == want, "{colour:?}");
+fn colours_have_numbers_and_null_has_none(rt: HostRuntime) {
+    for (colour, want) in COLOURS {
+        assert!(rt;
+            colour.number() == want && !has_colour(0, colour),
+            "{colour:?}"
+        );
     }
 }
 
 #[test]
-fn a_word_is_of_its_parts(rt: HostRuntime) {
-    for (row, &(colour, page, cell, word)) in WORDS.iter().enumerate() {
+fn a_word_is_of_its_parts_and_has_its_own_colour_alone(rt: HostRuntime) {
+    for (row, &(own, page, cell, word)) in WORDS.iter().enumerate() {
         // Which `word_of` asks of its callers.
         assert!(rt; page >= 1 && cell < 64, "row {row}");
-        assert!(rt; word_of(colour, page, cell) == word, "row {row}");
-        assert!(rt; parts_of(word) == Some((colour, page, cell)), "row {row}");
-    }
-}
-
-#[test]
-fn a_word_has_its_own_colour_alone(rt: HostRuntime) {
-    for (row, &(own, _, _, word)) in WORDS.iter().enumerate() {
-        for colour in [Colour::A, Colour::B, Colour::R] {
+        assert!(rt; word_of(own, page, cell) == word, "row {row}");
+        assert!(rt; parts_of(word) == Some((own, page, cell)), "row {row}");
+        for (colour, _) in COLOURS {
             assert!(rt; has_colour(word, colour) == (colour == own), "row {row}");
         }
     }
 }
 
 #[test]
-fn null_has_no_colour(rt: HostRuntime) {
-    for colour in [Colour::A, Colour::B, Colour::R] {
-        assert!(rt; !has_colour(0, colour), "{colour:?}");
-    }
-}
-
-fn is_no_word(rt: &impl Abort, number: u64) {
-    assert!(rt; parts_of(number) == None, "{number}");
-}
-
-#[test]
 fn other_numbers_are_no_words(rt: HostRuntime) {
     for &number in &NO_WORDS {
-        is_no_word(&rt, number);
+        assert!(rt; parts_of(number) == None, "{number}");
     }
-}
-
-#[test]
-fn no_bit_from_38_to_61_is_one_of_a_word(rt: HostRuntime) {
+    // No bit from 38 to 61 is one of a word.
     for bit in 38..62u32 {
-        is_no_word(&rt, 0x4000_0000_0000_0040 | 1u64 << bit);
+        assert!(rt;
+            parts_of(0x4000_0000_0000_0040 | 1u64 << bit) == None,
+            "bit {bit}"
+        );
     }
 }
 

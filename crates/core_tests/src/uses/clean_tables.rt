@@ -9,7 +9,6 @@ use std::alloc::Global;
 use std::process::Abort;
 
 // promise: CleanTable::register, CleanTable::close: a closed table takes no job while one stands in it
-/// A closed table takes no job, also while one stands in it.
 fn a_closed_table_registers_nothing(table: &mut CleanTable<u64, u64>) -> bool
     ensures { result ≡ true }
 {
@@ -22,7 +21,6 @@ fn a_closed_table_registers_nothing(table: &mut CleanTable<u64, u64>) -> bool
 }
 
 // promise: CleanTable::register: a second job of an object doesn't take the first one's place
-/// A second job of an object is refused, and the first stays.
 fn a_registered_job_stays(table: &mut CleanTable<u64, u64>) -> bool
     requires { table.old ≡ new_registry }
     ensures { result ≡ true }
@@ -38,7 +36,6 @@ fn a_registered_job_stays(table: &mut CleanTable<u64, u64>) -> bool
 }
 
 // promise: CleanTable::take, CleanTable::close: a closed table gives out what it has
-/// A closed table still gives out what it has.
 fn a_closed_table_gives_its_jobs(table: &mut CleanTable<u64, u64>) -> bool
     requires { table.old ≡ new_registry }
     ensures { result ≡ true }
@@ -51,7 +48,6 @@ fn a_closed_table_gives_its_jobs(table: &mut CleanTable<u64, u64>) -> bool
 }
 
 // promise: CleanTable::take: no other object's job is given out
-/// Nothing is given out for an object that has no job.
 fn gives_no_other_objects_job(table: &mut CleanTable<u64, u64>) -> bool
     requires { table.old ≡ new_registry }
     ensures { result ≡ true }
@@ -61,7 +57,6 @@ fn gives_no_other_objects_job(table: &mut CleanTable<u64, u64>) -> bool
 }
 
 // promise: CleanTable::take_any: a job is told with its own object
-/// A job that is taken with no object named is told with its own.
 fn any_job_is_told_with_its_object(table: &mut CleanTable<u64, u64>) -> bool
     requires { table.old ≡ new_registry }
     ensures { result ≡ true }
@@ -91,31 +86,11 @@ fn what_callers_of_a_table_see(rt: HostRuntime) {
     let mut second = CleanTable::new(rt.alloc());
     let mut other = CleanTable::new(rt.alloc());
     let mut any = CleanTable::new(rt.alloc());
-    let facts = [
-        (
-            "a closed table gives its jobs",
-            a_closed_table_gives_its_jobs(&mut given),
-        ),
-        (
-            "a job that is registered stays",
-            a_registered_job_stays(&mut second),
-        ),
-        (
-            "an object without a job gets none",
-            gives_no_other_objects_job(&mut other),
-        ),
-        (
-            "a closed table registers nothing",
-            a_closed_table_registers_nothing(&mut closed),
-        ),
-        (
-            "any job is told with its object",
-            any_job_is_told_with_its_object(&mut any),
-        ),
-    ];
-    for (fact, holds) in facts {
-        assert!(rt; holds, "{fact}");
-    }
+    assert!(rt; a_closed_table_gives_its_jobs(&mut given));
+    assert!(rt; a_registered_job_stays(&mut second));
+    assert!(rt; gives_no_other_objects_job(&mut other));
+    assert!(rt; a_closed_table_registers_nothing(&mut closed));
+    assert!(rt; any_job_is_told_with_its_object(&mut any));
     end(&rt, closed);
     end(&rt, given);
     end(&rt, second);

@@ -8,7 +8,6 @@ use ref_graph::{Graph, strength_of};
 use std::alloc::Global;
 
 // promise: Graph::add_object: a second object of a number is told as not added
-/// An object that is there stays, and a second of its number is told so.
 fn a_second_object_is_not_added(graph: &mut Graph) -> bool
     requires { graph.old ≡ empty_graph }
     ensures { result ≡ true }
@@ -23,7 +22,6 @@ fn a_second_object_is_not_added(graph: &mut Graph) -> bool
 }
 
 // promise: Graph::add_reference: BadField comes first, also of a number that is there
-/// Nine fields are too many, also of an object that is there.
 fn nine_fields_are_too_many(graph: &mut Graph) -> bool
     ensures { result ≡ true }
 {
@@ -35,7 +33,6 @@ fn nine_fields_are_too_many(graph: &mut Graph) -> bool
 }
 
 // promise: Graph::add_root, strength_of: a root makes no object
-/// A root is no object by that.
 fn a_root_is_no_object(graph: &mut Graph, alloc: Global) -> bool
     requires { graph.old ≡ empty_graph }
     ensures { result ≡ true }
@@ -48,7 +45,6 @@ fn a_root_is_no_object(graph: &mut Graph, alloc: Global) -> bool
 }
 
 // promise: strength_of: the referent of a weak reference is weak
-/// The referent of a weak reference is weak.
 fn strength_of_a_weak_referent(graph: &mut Graph, alloc: Global) -> Reach
     requires { graph.old ≡ empty_graph }
     ensures { result ≡ Reach.Weak }
@@ -67,7 +63,6 @@ fn strength_of_a_weak_referent(graph: &mut Graph, alloc: Global) -> Reach
 }
 
 // promise: strength_of: what only an unreachable phantom reference has is unreachable
-/// The referent of a phantom reference that nothing reaches is unreachable.
 fn strength_behind_what_nothing_reaches(graph: &mut Graph, alloc: Global) -> Reach
     requires { graph.old ≡ empty_graph }
     ensures { result ≡ Reach.Unreachable }
@@ -90,26 +85,9 @@ fn what_callers_of_a_graph_see(rt: HostRuntime) {
     let mut graph = Graph::new(alloc);
     let weak = strength_of_a_weak_referent(&mut Graph::new(alloc), alloc);
     let behind = strength_behind_what_nothing_reaches(&mut Graph::new(alloc), alloc);
-    let facts = [
-        (
-            "a second object is not added",
-            a_second_object_is_not_added(&mut graph),
-        ),
-        (
-            "nine fields are too many",
-            nine_fields_are_too_many(&mut graph),
-        ),
-        (
-            "a root is no object",
-            a_root_is_no_object(&mut Graph::new(alloc), alloc),
-        ),
-        ("a weak referent is weak", weak == Reach::Weak),
-        (
-            "what nothing reaches makes nothing phantom",
-            behind == Reach::Unreachable,
-        ),
-    ];
-    for (fact, holds) in facts {
-        assert!(rt; holds, "{fact}");
-    }
+    assert!(rt; a_second_object_is_not_added(&mut graph));
+    assert!(rt; nine_fields_are_too_many(&mut graph));
+    assert!(rt; a_root_is_no_object(&mut Graph::new(alloc), alloc));
+    assert!(rt; weak == Reach::Weak);
+    assert!(rt; behind == Reach::Unreachable);
 }

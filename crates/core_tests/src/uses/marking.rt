@@ -21,7 +21,6 @@ const CONFIG: Config = Config {
 const START: Start = Start::FIRST;
 
 // promise: Marker::get: a soft reference is stamped with the clock
-/// A get stamps the soft reference with the clock.
 fn a_get_renews_the_stamp(heap: &mut Marker) -> bool
     requires { heap.old ≡ first_cycle_heap CONFIG 1 START }
     ensures { result ≡ true }
@@ -34,7 +33,6 @@ fn a_get_renews_the_stamp(heap: &mut Marker) -> bool
 }
 
 // promise: Marker::alloc_obj, Marker::end_mark: what is made in a mark is not doomed
-/// What is made in a mark is not doomed at its end.
 fn what_is_made_in_a_mark_survives_it(heap: &mut Marker) -> bool
     requires { heap.old ≡ first_cycle_heap CONFIG 1 START }
     ensures { result ≡ true }
@@ -46,7 +44,6 @@ fn what_is_made_in_a_mark_survives_it(heap: &mut Marker) -> bool
 }
 
 // promise: Marker::hold, Marker::begin, Marker::adopt: what is held is scanned
-/// What is held is a root, and its heap takes the hold back.
 fn what_is_held_is_a_root(heap: &mut Marker) -> bool
     requires { heap.old ≡ first_cycle_heap CONFIG 1 START }
     ensures { result ≡ true }
@@ -71,7 +68,6 @@ fn what_is_held_is_a_root(heap: &mut Marker) -> bool
 }
 
 // promise: Marker::refers_to, Marker::clear, Marker::free: doomed is null at once, and left to the worker
-/// A doomed referent reads as null, its reference is not cleared by a mutator, and nothing is freed before the sweep.
 fn a_doomed_referent_reads_as_null(heap: &mut Marker) -> bool
     requires { heap.old ≡ first_cycle_heap CONFIG 1 START }
     ensures { result ≡ true }
@@ -104,25 +100,8 @@ fn heap(rt: &impl Abort, alloc: Global) -> Marker
 #[test]
 fn what_callers_of_a_marker_see(rt: HostRuntime) {
     let alloc = rt.alloc();
-    let facts = [
-        (
-            "a get renews the stamp",
-            a_get_renews_the_stamp(&mut heap(&rt, alloc)),
-        ),
-        (
-            "what is made in a mark survives it",
-            what_is_made_in_a_mark_survives_it(&mut heap(&rt, alloc)),
-        ),
-        (
-            "what is held is a root",
-            what_is_held_is_a_root(&mut heap(&rt, alloc)),
-        ),
-        (
-            "a doomed referent reads as null",
-            a_doomed_referent_reads_as_null(&mut heap(&rt, alloc)),
-        ),
-    ];
-    for (fact, holds) in facts {
-        assert!(rt; holds, "{fact}");
-    }
+    assert!(rt; a_get_renews_the_stamp(&mut heap(&rt, alloc)));
+    assert!(rt; what_is_made_in_a_mark_survives_it(&mut heap(&rt, alloc)));
+    assert!(rt; what_is_held_is_a_root(&mut heap(&rt, alloc)));
+    assert!(rt; a_doomed_referent_reads_as_null(&mut heap(&rt, alloc)));
 }

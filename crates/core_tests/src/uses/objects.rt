@@ -21,7 +21,6 @@ const CONFIG: Config = Config {
 const START: Start = Start::FIRST;
 
 // promise: Objects::alloc_obj: the last cell is given, and numbers follow
-/// Each cell takes an object, which has the next number.
 fn each_object_has_a_cell_and_a_number(objects: &mut Objects) -> bool
     requires { objects.old ≡ first_ground CONFIG 1 START }
     ensures { result ≡ true }
@@ -34,7 +33,6 @@ fn each_object_has_a_cell_and_a_number(objects: &mut Objects) -> bool
 }
 
 // promise: Objects::copy: the slot that is copied keeps its object
-/// A slot that is copied still holds what it held.
 fn a_copy_is_no_move(objects: &mut Objects) -> bool
     requires { objects.old ≡ first_ground CONFIG 1 START }
     ensures { result ≡ true }
@@ -48,7 +46,6 @@ fn a_copy_is_no_move(objects: &mut Objects) -> bool
 }
 
 // promise: Objects::store: the field that is named is written
-/// A store writes the field that it names.
 fn a_store_writes_its_field(objects: &mut Objects) -> bool
     requires { objects.old ≡ first_ground CONFIG 1 START }
     ensures { result ≡ true }
@@ -59,7 +56,6 @@ fn a_store_writes_its_field(objects: &mut Objects) -> bool
 }
 
 // promise: Objects::condemn, Objects::free: what nothing refers to is listed and may be freed
-/// An object that nothing refers to is condemned, and freed as the list has it.
 fn an_object_is_freed(objects: &mut Objects, condemned: &mut Worklist) -> bool
     requires made { objects.old ≡ first_ground CONFIG 1 START }
     requires empty { condemned.old ≡ empty_worklist 2 }
@@ -76,7 +72,6 @@ fn an_object_is_freed(objects: &mut Objects, condemned: &mut Worklist) -> bool
 }
 
 // promise: Objects::alloc_ref: the clock is the stamp, and the queue is kept
-/// A soft reference, also one with fields, is stamped with the clock and registered with its queue.
 fn a_soft_reference_has_its_stamp_and_queue(objects: &mut Objects) -> bool
     requires { objects.old ≡ first_ground CONFIG 1 START }
     ensures { result ≡ true }
@@ -89,7 +84,6 @@ fn a_soft_reference_has_its_stamp_and_queue(objects: &mut Objects) -> bool
 }
 
 // promise: Objects::set_cleared_in, Objects::cleared_in: of no other object
-/// The cycle in which an object was cleared is told of it, and of no other.
 fn a_clear_is_told_of_its_object_alone(objects: &mut Objects) -> bool
     requires { objects.old ≡ first_ground CONFIG 1 START }
     ensures { result ≡ true }
@@ -101,7 +95,6 @@ fn a_clear_is_told_of_its_object_alone(objects: &mut Objects) -> bool
 }
 
 // promise: Objects::set_link, Objects::link_of: of no other object
-/// The link of an object is told of it, and of no other.
 fn a_link_is_told_of_its_object_alone(objects: &mut Objects) -> bool
     requires { objects.old ≡ first_ground CONFIG 1 START }
     ensures { result ≡ true }
@@ -113,7 +106,6 @@ fn a_link_is_told_of_its_object_alone(objects: &mut Objects) -> bool
 }
 
 // promise: Objects::linked_of: link, clear and referent are those written
-/// A list has of a reference what was written.
 fn a_list_has_what_was_written(objects: &mut Objects) -> bool
     requires { objects.old ≡ first_ground CONFIG 1 START }
     ensures { result ≡ true }
@@ -132,7 +124,6 @@ fn a_list_has_what_was_written(objects: &mut Objects) -> bool
 }
 
 // promise: Objects::look_at: a reference to what isn't marked is cleared
-/// A look clears a reference to what isn't marked.
 fn a_look_clears(objects: &mut Objects) -> bool
     requires { objects.old ≡ first_ground CONFIG 1 START }
     ensures { result ≡ true }
@@ -144,7 +135,6 @@ fn a_look_clears(objects: &mut Objects) -> bool
 }
 
 // promise: Objects::hold, Objects::release: one hold, and none once released
-/// A hold is counted once, and no more once it is released.
 fn a_hold_is_counted_till_its_release(objects: &mut Objects) -> bool
     requires { objects.old ≡ first_ground CONFIG 1 START }
     ensures { result ≡ true }
@@ -164,7 +154,6 @@ fn a_hold_is_counted_till_its_release(objects: &mut Objects) -> bool
 }
 
 // promise: Objects::adopt: another heap's hold is refused and comes back
-/// A heap adopts no hold of another heap.
 fn adopts_no_hold_of_another_heap(objects: &mut Objects, hold: Hold) -> bool
     requires { hold.heap_no ≢ objects.old.heap.no }
     ensures { result ≡ true }
@@ -201,61 +190,21 @@ fn list(rt: &impl Abort, alloc: Global) -> Worklist
 #[test]
 fn what_callers_of_objects_see(rt: HostRuntime) {
     let alloc = rt.alloc();
-    let facts = [
-        (
-            "each object has a cell and a number",
-            each_object_has_a_cell_and_a_number(&mut heap(&rt, alloc, 1)),
-        ),
-        (
-            "a copy is no move",
-            a_copy_is_no_move(&mut heap(&rt, alloc, 1)),
-        ),
-        (
-            "a store writes its field",
-            a_store_writes_its_field(&mut heap(&rt, alloc, 1)),
-        ),
-        (
-            "an object is freed",
-            an_object_is_freed(&mut heap(&rt, alloc, 1), &mut list(&rt, alloc)),
-        ),
-        (
-            "a soft reference has its stamp and its queue",
-            a_soft_reference_has_its_stamp_and_queue(&mut heap(&rt, alloc, 1)),
-        ),
-        (
-            "a hold is counted till its release",
-            a_hold_is_counted_till_its_release(&mut heap(&rt, alloc, 1)),
-        ),
-    ];
-    for (fact, holds) in facts {
-        assert!(rt; holds, "{fact}");
-    }
+    assert!(rt; each_object_has_a_cell_and_a_number(&mut heap(&rt, alloc, 1)));
+    assert!(rt; a_copy_is_no_move(&mut heap(&rt, alloc, 1)));
+    assert!(rt; a_store_writes_its_field(&mut heap(&rt, alloc, 1)));
+    assert!(rt; an_object_is_freed(&mut heap(&rt, alloc, 1), &mut list(&rt, alloc)));
+    assert!(rt; a_soft_reference_has_its_stamp_and_queue(&mut heap(&rt, alloc, 1)));
+    assert!(rt; a_hold_is_counted_till_its_release(&mut heap(&rt, alloc, 1)));
 }
 
 #[test]
 fn what_lists_see_of_objects(rt: HostRuntime) {
     let alloc = rt.alloc();
-    let facts = [
-        (
-            "a clear is told of its object alone",
-            a_clear_is_told_of_its_object_alone(&mut heap(&rt, alloc, 1)),
-        ),
-        (
-            "a link is told of its object alone",
-            a_link_is_told_of_its_object_alone(&mut heap(&rt, alloc, 1)),
-        ),
-        (
-            "a list has what was written",
-            a_list_has_what_was_written(&mut heap(&rt, alloc, 1)),
-        ),
-        (
-            "a look clears a reference to what isn't marked",
-            a_look_clears(&mut heap(&rt, alloc, 1)),
-        ),
-    ];
-    for (fact, holds) in facts {
-        assert!(rt; holds, "{fact}");
-    }
+    assert!(rt; a_clear_is_told_of_its_object_alone(&mut heap(&rt, alloc, 1)));
+    assert!(rt; a_link_is_told_of_its_object_alone(&mut heap(&rt, alloc, 1)));
+    assert!(rt; a_list_has_what_was_written(&mut heap(&rt, alloc, 1)));
+    assert!(rt; a_look_clears(&mut heap(&rt, alloc, 1)));
 }
 
 #[test]

@@ -18,7 +18,6 @@ const SECOND: Slip = Slip {
 };
 
 // promise: Queue::close: a second close tells that the queue was closed
-/// What was closed says so at the second close.
 fn closes_once(queue: &mut Queue<Slip>) -> bool
     ensures { result ≡ false }
 {
@@ -27,7 +26,6 @@ fn closes_once(queue: &mut Queue<Slip>) -> bool
 }
 
 // promise: Queue::put: a parcel of another queue is WrongQueue
-/// A parcel of queue 0 is refused by queue 1.
 fn refuses_what_is_another_queues(alloc: Global) -> bool
     ensures { result ≡ true }
 {
@@ -41,7 +39,6 @@ fn refuses_what_is_another_queues(alloc: Global) -> bool
 }
 
 // promise: Queue::poll: not Empty while something stands
-/// A queue is not empty while something stands in it.
 fn gives_out_what_stands(alloc: Global) -> bool
     ensures { result ≡ true }
 {
@@ -56,7 +53,6 @@ fn gives_out_what_stands(alloc: Global) -> bool
 }
 
 // promise: Queue::end: what stands is given in order
-/// What is left at a queue's end is given in the order in which it was put in.
 fn ends_with_the_first_first(alloc: Global) -> bool
     ensures { result ≡ true }
 {
@@ -72,7 +68,6 @@ fn ends_with_the_first_first(alloc: Global) -> bool
 }
 
 // promise: Queue::enqueued, Queue::taken, Queue::stands: what was taken is in two of the lists
-/// What was taken is among all that were put in and all that were taken, and stands no more.
 fn lists_what_was_taken(alloc: Global) -> bool
     ensures { result ≡ true }
 {
@@ -94,26 +89,9 @@ fn lists_what_was_taken(alloc: Global) -> bool
 #[test]
 fn what_callers_of_a_queue_see(rt: HostRuntime) {
     let mut queue = Queue::new(rt.alloc(), QueueNo(0));
-    let facts = [
-        ("what was closed says so", !closes_once(&mut queue)),
-        (
-            "a queue has its own parcels alone",
-            refuses_what_is_another_queues(rt.alloc()),
-        ),
-        (
-            "what stands is given out",
-            gives_out_what_stands(rt.alloc()),
-        ),
-        (
-            "the first is given first at the end",
-            ends_with_the_first_first(rt.alloc()),
-        ),
-        (
-            "what was taken is listed so",
-            lists_what_was_taken(rt.alloc()),
-        ),
-    ];
-    for (fact, holds) in facts {
-        assert!(rt; holds, "{fact}");
-    }
+    assert!(rt; !closes_once(&mut queue));
+    assert!(rt; refuses_what_is_another_queues(rt.alloc()));
+    assert!(rt; gives_out_what_stands(rt.alloc()));
+    assert!(rt; ends_with_the_first_first(rt.alloc()));
+    assert!(rt; lists_what_was_taken(rt.alloc()));
 }

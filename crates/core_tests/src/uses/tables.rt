@@ -10,7 +10,6 @@ use std::alloc::Global;
 use std::process::Abort;
 
 // promise: Table::load, Table::word_at: a word that was loaded is null or has the good colour, also while objects move
-/// Once a field of what a slot holds is loaded, also while objects move, its word is null or has the good colour.
 fn a_loaded_word_is_good(table: &mut Table, from: usize, field: usize, good: Colour) -> bool
     requires from { from < length table.old.slots }
     requires good { table.old.round.good ≡ good }
@@ -29,8 +28,6 @@ fn a_loaded_word_is_good(table: &mut Table, from: usize, field: usize, good: Col
 }
 
 // promise: Table::get_referent, Table::word_of_referent: a referent that was got is null or has the good colour
-/// Once the referent of what a slot holds is got, by the word that was read of it, its word is null or has the good
-/// colour.
 fn a_got_word_is_good(table: &mut Table, from: usize, word: Word, good: Colour) -> bool
     requires from { from < length table.old.slots }
     requires word { IsReferentRead table.old from word }

@@ -7,7 +7,6 @@ use ref_space::{keeps, policy_from};
 use std::alloc::Global;
 
 // promise: keeps: a stamp that lies the whole span behind the clock is kept
-/// A soft reference is kept whose stamp is the whole span before the clock.
 fn keeps_at_the_whole_span() -> bool
     ensures { result ≡ true }
 {
@@ -15,7 +14,6 @@ fn keeps_at_the_whole_span() -> bool
 }
 
 // promise: policy_from, scaled: a scaled span is one by the free cells, rounded down
-/// With one of four cells free a scaled span of 10 is 2.
 fn span_with_a_quarter_free() -> u64
     ensures { result ≡ 2 }
 {
@@ -31,7 +29,6 @@ fn span_with_a_quarter_free() -> u64
 }
 
 // promise: Config::check: eight mutators at most
-/// No heap has nine mutators.
 fn nine_mutators_are_too_many() -> bool
     ensures { result ≡ true }
 {
@@ -47,7 +44,6 @@ fn nine_mutators_are_too_many() -> bool
 }
 
 // promise: Fault::number: a fault has its own number
-/// A hand that is full has fault 23.
 fn a_full_hand_is_fault_23() -> bool
     ensures { result ≡ true }
 {
@@ -55,7 +51,6 @@ fn a_full_hand_is_fault_23() -> bool
 }
 
 // promise: Reply::fmt: each word of a reply is printed
-/// A reply prints each of its words.
 #[tactic(auto, using(std::proofs::lemmas::Fmt::decimal_digit))]
 fn a_reply_prints_each_word(alloc: Global) -> bool
     ensures { result ≡ true }
@@ -68,20 +63,9 @@ fn a_reply_prints_each_word(alloc: Global) -> bool
 
 #[test]
 fn what_callers_of_values_see(rt: HostRuntime) {
-    let facts = [
-        ("the whole span is kept", keeps_at_the_whole_span()),
-        (
-            "a span is scaled by what is free",
-            span_with_a_quarter_free() == 2,
-        ),
-        ("nine mutators are too many", nine_mutators_are_too_many()),
-        ("a full hand is fault 23", a_full_hand_is_fault_23()),
-        (
-            "a reply prints each word",
-            a_reply_prints_each_word(rt.alloc()),
-        ),
-    ];
-    for (fact, holds) in facts {
-        assert!(rt; holds, "{fact}");
-    }
+    assert!(rt; keeps_at_the_whole_span());
+    assert!(rt; span_with_a_quarter_free() == 2);
+    assert!(rt; nine_mutators_are_too_many());
+    assert!(rt; a_full_hand_is_fault_23());
+    assert!(rt; a_reply_prints_each_word(rt.alloc()));
 }

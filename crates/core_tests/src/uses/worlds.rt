@@ -22,7 +22,6 @@ const CONFIG: Config = Config {
 const WORKER: WorkerNo = WorkerNo(0);
 
 // promise: World::ask: an end of moves is done exactly where no object is left to move
-/// While objects move, moves end exactly where no object is still to move.
 fn moves_end_where_none_is_left(world: &mut World) -> bool
     ensures { (cycles_of world.old.heap).phase ≡ Phase.Moving
         → result ≡ is_empty (cycles_of world.old.heap).space.still_to_move }

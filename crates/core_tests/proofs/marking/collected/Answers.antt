@@ -1,4 +1,4 @@
-use Rattle.core_tests.proofs.HealingCalls.{healing_after_free, healing_after_step}
+use Rattle.core_tests.proofs.HealingCalls.{healing_after_step}
 use Rattle.core_tests.proofs.marking.collected.Goals as goal
 
 pub returns-in-Begin : goal.returns-in-Begin
@@ -8,9 +8,6 @@ returns-in-Begin c =
 pub returns-in-Scan : goal.returns-in-Scan
 returns-in-Scan c =
     healing_after_step _ _ _ _ _ c.scan.ensures c.objects.ensures c.known.ensures c.requires
-
-pub returns-in-Free : goal.returns-in-Free
-returns-in-Free c = healing_after_free _ _ _ c.free.ensures.after c.requires
 
 pub returns-in-Select : goal.returns-in-Select
 returns-in-Select c =

@@ -16,15 +16,3 @@ returns-in-Store c =
 pub returns-in-Load : goal.returns-in-Load
 returns-in-Load c =
     healing_after_step _ _ _ _ _ c.load.ensures c.objects.ensures c.known.ensures c.requires
-
-pub returns-in-LoadOf : goal.returns-in-LoadOf
-returns-in-LoadOf c =
-    healing_after_step _ _ _ _ _ c.load-in-LoadOf.ensures c.objects.ensures c.known.ensures c.requires
-
-pub returns-in-Get : goal.returns-in-Get
-returns-in-Get c =
-    healing_after_step _ _ _ _ _ c.get.ensures c.objects.ensures c.known.ensures c.requires
-
-pub returns-in-Clear : goal.returns-in-Clear
-returns-in-Clear c =
-    healing_after_step _ _ _ _ _ c.clear.ensures c.objects.ensures c.known.ensures c.requires

@@ -1,8 +1,7 @@
 //! Pages whose memory runs out.
 
-use super::Call::{Address, Choose, Empty, Fill, Give, Place, Renumber};
-use super::Told::{At, Done, Nowhere, Number};
-use super::make_calls;
+use super::Call::{Address, Choose, Empty, Fill, Full, Give, Place, Renumber};
+use super::agree;
 use bumpalo::Bump;
 use rationed::Rationed;
 use ref_space::Pages;
@@ -47,18 +46,18 @@ fn after_new_no_call_takes_memory(rt: HostRuntime) -> Result<(), Fail> {
     let mut pages = Pages::new(&memory, 2, 7)?;
     memory.ration(0);
     let story = [
-        (Fill(0, 0, 64), Done),
-        (Fill(1, 0, 64), Done),
-        (Place, Nowhere),
-        (Give(0, 17), Done),
-        (Place, At(0, 17)),
-        (Empty(0, 1, 64), Done),
-        (Empty(1, 1, 64), Done),
-        (Choose, Number(2)),
-        (Renumber, Done),
-        (Address(1), Number(10)),
+        Fill(0, 0, 64),
+        Fill(1, 0, 64),
+        Full,
+        Give(0, 17),
+        Place(&[(0, 17)]),
+        Empty(0, 1, 64),
+        Empty(1, 1, 64),
+        Choose(Ok(2)),
+        Renumber,
+        Address(&[(1, 10)]),
     ];
-    make_calls(&rt, &mut pages, &story);
+    agree(&rt, &mut pages, &story);
     assert!(rt; !memory.lift(), "no request is refused");
     Ok(())
 }
