@@ -1,21 +1,20 @@
-//! A world, step by step.
+//! A world, step by step. Worked traces are scripts, files of the program `refrun_cases`.
 
 mod asks;
 mod batches;
 mod heap_steps;
-mod judged;
 mod memory;
-mod random;
 mod rounds;
 mod scale;
 mod starts;
-mod stories;
 
-use ref_base::{Config, Reply, Row, SpanRule, Step};
-use ref_world::{Trace, World, run};
-use std::alloc::{AllocError, Allocator, Global};
+use crate::rows::{
+    END_CLEAR, END_MARK, begin, clear_next, cleared, drop_slot, new, object, scan, scanned, weak,
+};
+use ref_base::{Config, Reply, SpanRule, Step};
+use ref_world::World;
+use std::alloc::Allocator;
 use std::process::Abort;
-use std::test::Fail;
 
 /// One mutator, one worker, one queue, 8 cells, and a span of 10.
 const CONFIG: Config = Config {
@@ -40,56 +39,24 @@ fn do_steps<A: Allocator + Copy>(rt: &impl Abort, world: &mut World<A>, story: &
     }
 }
 
-/// The reply to a step, which is asked in fewer bytes where it is of the heap alone.
-fn asked<A: Allocator + Copy>(world: &mut World<A>, step: Step) -> Reply {
-    match step {
-        Step::Plain(step) => world.ask(step).reply(),
-        step => world.step(step),
-    }
-}
-
-/// The steps of a story.
-fn steps_of<A: Allocator>(alloc: A, story: &[(Step, Reply)]) -> Result<Vec<Step, A>, AllocError> {
-    let mut steps = Vec::with_capacity(alloc, story.len())?;
-    for &(step, _reply) in story {
-        steps.push(step)?;
-    }
-    Ok(steps)
-}
-
-/// These rows are a story's, one for each of its steps.
-fn are_rows(rt: &impl Abort, rows: &[Row], story: &[(Step, Reply)]) {
-    assert_eq!(rt; rows.len(), story.len(), "so many rows");
-    for (place, &(step, reply)) in story.iter().enumerate() {
-        assert_eq!(rt; rows.get(place), Some(&Row { step, reply }), "row {place}");
-    }
-}
-
-/// Has a new world of this size run a story's steps as one list: the trace is the story. So are the replies that
-/// another gives, asked step by step.
-fn runs_as(
-    rt: &impl Abort,
-    alloc: Global,
-    config: Config,
-    story: &[(Step, Reply)],
-) -> Result<(), Fail> {
-    let steps = steps_of(alloc, story)?;
-    let world = World::new(alloc, config)?;
-    match run(alloc, world, steps) {
-        Ok(Trace { rows, world }) => {
-            world.end();
-            are_rows(rt, &rows, story);
-            judged::are_legal(rt, alloc, config, &rows)?;
-        }
-        Err((fault, world, _steps)) => {
-            world.end();
-            return Err(Fail::from(fault));
-        }
-    }
-    let mut world = World::new(alloc, config)?;
-    for (row, &(step, want)) in story.iter().enumerate() {
-        assert_eq!(rt; asked(&mut world, step), want, "row {row}: {step}");
-    }
-    world.end();
-    Ok(())
+/// References 2, 4 and 6 are cleared: 2 and 6 by worker 0, and 4 by worker 1.
+fn three_cleared() -> [(Step, Reply); 16] {
+    [
+        (new(0, 0), object(1)),
+        (weak(1, 0, 0), object(2)),
+        (new(0, 0), object(3)),
+        (weak(2, 0, 0), object(4)),
+        (new(0, 0), object(5)),
+        (weak(3, 0, 0), object(6)),
+        (drop_slot(0), Reply::Done),
+        (begin(1), Reply::Cycle(1)),
+        (scan(0), scanned(2)),
+        (scan(1), scanned(4)),
+        (scan(0), scanned(6)),
+        (END_MARK, Reply::Doomed(3)),
+        (clear_next(1), cleared(4)),
+        (clear_next(0), cleared(2)),
+        (clear_next(0), cleared(6)),
+        (END_CLEAR, Reply::Done),
+    ]
 }

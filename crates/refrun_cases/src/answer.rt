@@ -2,10 +2,9 @@
 
 ghost use Rattle.std.specs.Prelude.{◌≡◌, ◌<◌, ◌+◌};
 
-use ref_base::{Config, SpanRule};
-use ref_log::{LogFailure, Verdict, verdict_on};
+use ref_log::{LogFailure, verdict_on};
 use ref_queue::{Action, Job};
-use ref_script::{config_of, strength_text};
+use ref_script::strength_text;
 use refrun::{FromReader, TextFault, ToWriter, run_script};
 use std::alloc::{AllocError, Global};
 
@@ -133,26 +132,4 @@ fn cut_off(alloc: Global, failure: &LogFailure) -> Result<String, AllocError> {
         }
         _ => Ok(String::new(alloc)),
     }
-}
-
-/// Whether a judge takes the trace of a script.
-pub fn is_judged_legal(alloc: Global, script: &[u8], trace: &[u8]) -> bool {
-    let Some(config) = config_in(script) else {
-        return false;
-    };
-    matches!(
-        verdict_on(alloc, &mut FromReader::new(trace), Some(config)),
-        Ok(Verdict::Legal { .. })
-    )
-}
-
-/// The configuration in a script's lines.
-fn config_in(script: &[u8]) -> Option<Config> {
-    for line in script.split(|byte| *byte == b'\n') {
-        let config = config_of(line.trim_ascii(), SpanRule::Fixed);
-        if config.is_some() {
-            return config;
-        }
-    }
-    None
 }

@@ -6,7 +6,7 @@
 //! - a faulty text prints nothing, and is answered on standard error by the line in `NAME.err`, with status 3. A log
 //!   that is cut off prints its `NAME.report` too.
 //!
-//! And the judge takes the trace of each script.
+//! And the judge takes the trace of each script, and up to each row with another reply for that one doesn't.
 //!
 //! It prints a line for each text, in the order of the names, and last how many there are. A text whose answer is
 //! another gets a line that says so. So does a text that has none of these files or two, and a file that is beside no
@@ -18,10 +18,12 @@ ghost use Rattle.std.specs.Prelude.{◌≡◌, ◌<◌, ◌+◌};
 mod answer;
 mod counts;
 mod folder;
+mod judging;
 
-use answer::{Answer, Kind, answer_to, is_judged_legal};
+use answer::{Answer, Kind, answer_to};
 use counts::Counts;
 use folder::{Folder, Told};
+use judging::is_judged;
 use std::io::Write;
 use std::process::ExitCode;
 use std::{fs, io};
@@ -92,17 +94,17 @@ fn tell_text(
     }
     if is_misjudged(rt, kind, &answer, text.as_slice()) {
         counts.add_wrong();
-        return println!(rt; "{name}: as told, but the judge does NOT take its trace");
+        return println!(rt; "{name}: as told, but its trace is NOT judged as it must be");
     }
     counts.add(kind, files.fails);
     println!(rt; "{name}: as told")
 }
 
-/// Whether this is the trace of a script, and the judge doesn't take it.
+/// Whether this is the trace of a script, and isn't judged as it must be.
 fn is_misjudged(rt: &HostRuntime, kind: Kind, answer: &Answer, text: &[u8]) -> bool {
     match kind {
         Kind::Script if answer.status == 0 => {
-            !is_judged_legal(rt.alloc(), text, answer.printed.as_slice())
+            !is_judged(rt.alloc(), text, answer.printed.as_slice())
         }
         _ => false,
     }

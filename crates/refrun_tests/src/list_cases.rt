@@ -3,455 +3,126 @@
 use rationed::Rationed;
 use ref_base::{Fault, ObjNo};
 use refrun::{Check, JobFate, StressLists, check_lists};
-use std::alloc::{AllocError, Allocator, Global};
+use std::alloc::{Allocator, Global};
 use std::process::Abort;
 use std::test::Fail;
 
-/// What was put in, was taken and stands, what each poller took and each mutator kept, what became of each job, and the
-/// first check that fails.
-struct Case {
-    name: &'static str,
-    enqueued: &'static [u32],
-    taken: &'static [u32],
-    stands: &'static [u32],
-    lists: &'static [&'static [u32]],
-    kept: &'static [&'static [u32]],
-    jobs: &'static [JobFate],
-    fails: Option<Check>,
-}
-
-/// A job that was to run, and did once.
-const RAN: JobFate = JobFate {
-    is_due: true,
-    runs: 1,
-    is_early: false,
-};
-
-/// A job that was not to run, and didn't.
-const NEVER: JobFate = JobFate {
-    is_due: false,
-    runs: 0,
-    is_early: false,
-};
-
-static CASES: [Case; 27] = [
-    Case {
-        name: "a number put in twice",
-        enqueued: &[2, 2],
-        taken: &[2, 2],
-        stands: &[],
-        lists: &[&[2, 2]],
-        kept: &[],
-        jobs: &[],
-        fails: Some(Check::Twice),
-    },
-    Case {
-        name: "a poller in another order",
-        enqueued: &[2, 3],
-        taken: &[2, 3],
-        stands: &[],
-        lists: &[&[3, 2]],
-        kept: &[],
-        jobs: &[],
-        fails: Some(Check::Order),
-    },
-    Case {
-        name: "a number that no poller took",
-        enqueued: &[2, 3],
-        taken: &[2, 3],
-        stands: &[],
-        lists: &[&[2]],
-        kept: &[],
-        jobs: &[],
-        fails: Some(Check::Total),
-    },
-    Case {
-        name: "a number that stands",
-        enqueued: &[2, 3],
-        taken: &[2],
-        stands: &[3],
-        lists: &[&[2]],
-        kept: &[],
-        jobs: &[],
-        fails: Some(Check::Rest),
-    },
-    Case {
-        name: "two pollers",
-        enqueued: &[2, 3, 4],
-        taken: &[2, 3, 4],
-        stands: &[],
-        lists: &[&[2, 4], &[3]],
-        kept: &[],
-        jobs: &[],
-        fails: None,
-    },
-    Case {
-        name: "no poller and no number",
-        enqueued: &[],
-        taken: &[],
-        stands: &[],
-        lists: &[],
-        kept: &[],
-        jobs: &[],
-        fails: None,
-    },
-    Case {
-        name: "pollers that took nothing",
-        enqueued: &[],
-        taken: &[],
-        stands: &[],
-        lists: &[&[], &[]],
-        kept: &[],
-        jobs: &[],
-        fails: None,
-    },
-    Case {
-        name: "a number twice, apart",
-        enqueued: &[7, 2, 3, 7],
-        taken: &[],
-        stands: &[],
-        lists: &[&[9]],
-        kept: &[],
-        jobs: &[],
-        fails: Some(Check::Twice),
-    },
-    Case {
-        name: "a number that was never put in",
-        enqueued: &[2, 3],
-        taken: &[2, 3, 4],
-        stands: &[],
-        lists: &[&[2, 3], &[4]],
-        kept: &[],
-        jobs: &[],
-        fails: Some(Check::Order),
-    },
-    Case {
-        name: "a poller that took a number twice",
-        enqueued: &[2, 3],
-        taken: &[2, 3],
-        stands: &[],
-        lists: &[&[2, 2, 3]],
-        kept: &[],
-        jobs: &[],
-        fails: Some(Check::Order),
-    },
-    Case {
-        name: "the second poller in another order",
-        enqueued: &[2, 3, 4],
-        taken: &[2, 3, 4],
-        stands: &[],
-        lists: &[&[2], &[4, 3]],
-        kept: &[],
-        jobs: &[],
-        fails: Some(Check::Order),
-    },
-    Case {
-        name: "a number that two pollers took",
-        enqueued: &[2, 3],
-        taken: &[2, 3],
-        stands: &[],
-        lists: &[&[2, 3], &[3]],
-        kept: &[],
-        jobs: &[],
-        fails: Some(Check::Total),
-    },
-    Case {
-        name: "a poller took what was not taken",
-        enqueued: &[2, 3],
-        taken: &[2],
-        stands: &[3],
-        lists: &[&[2], &[3]],
-        kept: &[],
-        jobs: &[],
-        fails: Some(Check::Total),
-    },
-    Case {
-        name: "the pollers took as much, and not the same",
-        enqueued: &[2, 3, 4],
-        taken: &[2, 3],
-        stands: &[4],
-        lists: &[&[2], &[4]],
-        kept: &[],
-        jobs: &[],
-        fails: Some(Check::Total),
-    },
-    Case {
-        name: "taken in another order",
-        enqueued: &[2, 3],
-        taken: &[3, 2],
-        stands: &[],
-        lists: &[&[2], &[3]],
-        kept: &[],
-        jobs: &[],
-        fails: Some(Check::Rest),
-    },
-    Case {
-        name: "something stands that was taken",
-        enqueued: &[2],
-        taken: &[2],
-        stands: &[2],
-        lists: &[&[2]],
-        kept: &[],
-        jobs: &[],
-        fails: Some(Check::Rest),
-    },
-    Case {
-        name: "a number is taken twice, which counts once",
-        enqueued: &[2],
-        taken: &[2, 2],
-        stands: &[],
-        lists: &[&[2]],
-        kept: &[],
-        jobs: &[],
-        fails: Some(Check::Rest),
-    },
-    Case {
-        name: "two mutators, and all that they kept was put in",
-        enqueued: &[2, 3, 4],
-        taken: &[2, 3, 4],
-        stands: &[],
-        lists: &[&[2, 4], &[3]],
-        kept: &[&[4, 2], &[3]],
-        jobs: &[],
-        fails: None,
-    },
-    Case {
-        name: "no report of what the second mutator kept",
-        enqueued: &[2, 3],
-        taken: &[2, 3],
-        stands: &[],
-        lists: &[&[2, 3]],
-        kept: &[&[2], &[3, 5]],
-        jobs: &[],
-        fails: Some(Check::Reports),
-    },
-    Case {
-        name: "no report of what either mutator kept",
-        enqueued: &[],
-        taken: &[],
-        stands: &[],
-        lists: &[&[]],
-        kept: &[&[], &[7], &[8]],
-        jobs: &[],
-        fails: Some(Check::Reports),
-    },
-    Case {
-        name: "what was kept stands, and is not missing",
-        enqueued: &[2, 3],
-        taken: &[2],
-        stands: &[3],
-        lists: &[&[2]],
-        kept: &[&[3], &[9]],
-        jobs: &[],
-        fails: Some(Check::Rest),
-    },
-    Case {
-        name: "a job that ran, one that was taken out, and one that ran by hand",
-        enqueued: &[2],
-        taken: &[2],
-        stands: &[],
-        lists: &[&[2]],
-        kept: &[],
-        jobs: &[RAN, NEVER, RAN],
-        fails: None,
-    },
-    Case {
-        name: "a job that never ran",
-        enqueued: &[],
-        taken: &[],
-        stands: &[],
-        lists: &[],
-        kept: &[],
-        jobs: &[RAN, JobFate { runs: 0, ..RAN }],
-        fails: Some(Check::Jobs),
-    },
-    Case {
-        name: "a job that ran twice",
-        enqueued: &[],
-        taken: &[],
-        stands: &[],
-        lists: &[],
-        kept: &[],
-        jobs: &[NEVER, RAN, JobFate { runs: 2, ..RAN }, RAN],
-        fails: Some(Check::Jobs),
-    },
-    Case {
-        name: "a job that ran while its object lived",
-        enqueued: &[],
-        taken: &[],
-        stands: &[],
-        lists: &[],
-        kept: &[],
-        jobs: &[JobFate {
-            is_early: true,
-            ..RAN
-        }],
-        fails: Some(Check::Jobs),
-    },
-    Case {
-        name: "a job that was taken out, and ran",
-        enqueued: &[],
-        taken: &[],
-        stands: &[],
-        lists: &[],
-        kept: &[],
-        jobs: &[NEVER, JobFate { runs: 1, ..NEVER }],
-        fails: Some(Check::Jobs),
-    },
-    Case {
-        name: "a job that never ran, and no report",
-        enqueued: &[],
-        taken: &[],
-        stands: &[],
-        lists: &[],
-        kept: &[&[7]],
-        jobs: &[JobFate { runs: 0, ..RAN }],
-        fails: Some(Check::Reports),
-    },
+/// A case a row: its name; what was put in, was taken and stands; what each poller took and each mutator kept, with a
+/// comma between two and `-` for nothing; what became of each job; the first check that fails; and what shows it, where
+/// it is looked at.
+///
+/// A job was due, or not, or ran early though it was due, while its object lived. How often it ran stands behind that.
+static CASES: [&'static str; 27] = [
+    "a number put in twice | 2 2 | 2 2 | | 2 2 | | | twice | 2 was put in at 0 and at 1",
+    "a poller in another order | 2 3 | 2 3 | | 3 2 | | | order | poller 0 took 2 behind 3",
+    "a number that no poller took | 2 3 | 2 3 | | 2 | | | total | no poller took 3",
+    "a number that stands | 2 3 | 2 | 3 | 2 | | | rest | 3 stands",
+    "two pollers | 2 3 4 | 2 3 4 | | 2 4, 3 | | | none |",
+    "no poller and no number | | | | | | | none |",
+    "pollers that took nothing | | | | -, - | | | none |",
+    "a number twice, apart | 7 2 3 7 | | | 9 | | | twice | 7 was put in at 0 and at 3",
+    "a number that was never put in | 2 3 | 2 3 4 | | 2 3, 4 | | | order | poller 1 took 4 first",
+    "a poller that took a number twice | 2 3 | 2 3 | | 2 2 3 | | | order | poller 0 took 2 behind 2",
+    "the second poller in another order | 2 3 4 | 2 3 4 | | 2, 4 3 | | | order | poller 1 took 3 behind 4",
+    "a number that two pollers took | 2 3 | 2 3 | | 2 3, 3 | | | total | poller 1 took 3, and so did poller 0",
+    "a poller took what was not taken | 2 3 | 2 | 3 | 2, 3 | | | total | poller 1 took 3, which the queue did not give",
+    "the pollers took as much, and not the same | 2 3 4 | 2 3 | 4 | 2, 4 | | | total |",
+    "taken in another order | 2 3 | 3 2 | | 2, 3 | | | rest | at 0 2 was put in and 3 taken",
+    "something stands that was taken | 2 | 2 | 2 | 2 | | | rest |",
+    "a number is taken twice, which counts once | 2 | 2 2 | | 2 | | | rest | at 1 nothing was put in and 2 taken",
+    "two mutators, and all that they kept was put in | 2 3 4 | 2 3 4 | | 2 4, 3 | 4 2, 3 | | none |",
+    "no report of what the second mutator kept | 2 3 | 2 3 | | 2 3 | 2, 3 5 | | reports | no report of 5",
+    "no report of what either mutator kept | | | | - | -, 7, 8 | | reports | no report of 7",
+    "what was kept stands, and is not missing | 2 3 | 2 | 3 | 2 | 3, 9 | | rest | 3 stands",
+    "a job that ran, one that was taken out, and one that ran by hand | 2 | 2 | | 2 | | due-1 not-0 due-1 | none |",
+    "a job that never ran | | | | | | due-1 due-0 | jobs | job 1 never ran",
+    "a job that ran twice | | | | | | not-0 due-1 due-2 due-1 | jobs | job 2 ran 2 times",
+    "a job that ran while its object lived | | | | | | early-1 | jobs | job 0 ran while its object lived",
+    "a job that was taken out, and ran | | | | | | not-0 not-1 | jobs | job 1 ran, and was not to",
+    "a job that never ran, and no report | | | | | 7 | due-0 | reports | no report of 7",
 ];
 
-fn objects(alloc: Global, numbers: &[u32]) -> Result<Vec<ObjNo>, AllocError> {
-    numbers.iter().map(|number| ObjNo(*number)).collect(alloc)
+/// The checks, by name.
+const CHECKS: [(Check, &str); 6] = [
+    (Check::Twice, "twice"),
+    (Check::Order, "order"),
+    (Check::Total, "total"),
+    (Check::Rest, "rest"),
+    (Check::Reports, "reports"),
+    (Check::Jobs, "jobs"),
+];
+
+/// A case, with the first check that fails and what shows it.
+#[derive(Drop)]
+struct Case {
+    lists: StressLists,
+    fails: Option<Check>,
+    shown: &'static str,
 }
 
-fn objects_of_each(alloc: Global, lists: &[&[u32]]) -> Result<Vec<Vec<ObjNo>>, AllocError> {
+/// What stands in this column of a row.
+fn column(row: &'static str, place: usize) -> &'static str {
+    row.split('|').nth(place).unwrap_or("").trim()
+}
+
+fn objects(alloc: Global, numbers: &str) -> Result<Vec<ObjNo>, Fail> {
     let mut all = Vec::new(alloc);
-    for list in lists {
-        all.push(objects(alloc, list)?)?;
+    for number in numbers.split_whitespace() {
+        if number != "-" {
+            all.push(ObjNo(number.parse::<u32>()?))?;
+        }
     }
     Ok(all)
 }
 
-/// What the checks answer of a case, with memory of this allocator.
-fn checked<A: Allocator + Copy>(
-    memory: A,
-    alloc: Global,
-    case: &Case,
-) -> Result<Result<Option<Check>, Fault>, AllocError> {
-    let enqueued = objects(alloc, case.enqueued)?;
-    let taken = objects(alloc, case.taken)?;
-    let stands = objects(alloc, case.stands)?;
-    let lists = objects_of_each(alloc, case.lists)?;
-    let kept = objects_of_each(alloc, case.kept)?;
-    Ok(check_lists(
-        memory,
-        enqueued.as_slice(),
-        taken.as_slice(),
-        stands.as_slice(),
-        lists.as_slice(),
-        kept.as_slice(),
-        case.jobs,
-    ))
-}
-
-#[test]
-fn the_first_check_that_fails_is_told(rt: HostRuntime) -> Result<(), Fail> {
-    for case in &CASES {
-        assert_eq!(rt;
-            checked(rt.alloc(), rt.alloc(), case)?,
-            Ok(case.fails),
-            "{}",
-            case.name
-        );
-    }
-    Ok(())
-}
-
-/// More requests for memory than the checks make.
-const MOST: u64 = 100;
-
-/// Each request for memory of the checks of a case is refused in turn, until no one is. Answers how many they make.
-fn refuse_each(
-    rt: &impl Abort,
-    memory: &Rationed<Global>,
-    alloc: Global,
-    case: &Case,
-) -> Result<u64, AllocError> {
-    let name = case.name;
-    for met in 0..MOST {
-        memory.ration(met);
-        let answer = checked(memory, alloc, case)?;
-        let is_refused = memory.lift();
-        let want = if is_refused {
-            Err(Fault::NoMemory)
-        } else {
-            Ok(case.fails)
-        };
-        assert_eq!(rt; answer, want, "{name}: {met}");
-        if !is_refused {
-            return Ok(met);
+fn objects_of_each(alloc: Global, lists: &str) -> Result<Vec<Vec<ObjNo>>, Fail> {
+    let mut all = Vec::new(alloc);
+    for list in lists.split(',') {
+        if !list.is_empty() {
+            all.push(objects(alloc, list)?)?;
         }
-        assert_eq!(rt;
-            checked(memory, alloc, case)?,
-            Ok(case.fails),
-            "{name}: {met}"
-        );
     }
-    let call = "check_lists";
-    assert!(rt; false, "{name}: {call} makes more requests than {MOST}");
-    Ok(MOST)
+    Ok(all)
 }
 
-#[test]
-fn each_refused_request_of_a_check_is_told(rt: HostRuntime) -> Result<(), Fail> {
-    let memory = Rationed::new(rt.alloc());
-    for case in &CASES {
-        let requests = refuse_each(&rt, &memory, rt.alloc(), case)?;
-        assert!(rt; requests > 0 || case.enqueued.is_empty(), "{}", case.name);
+fn fates(alloc: Global, jobs: &str) -> Result<Vec<JobFate>, Fail> {
+    let mut all = Vec::new(alloc);
+    for job in jobs.split_whitespace() {
+        let (fate, runs) = job.split_once('-').unwrap_or((job, ""));
+        all.push(JobFate {
+            is_due: fate != "not",
+            runs: runs.parse::<u32>()?,
+            is_early: fate == "early",
+        })?;
     }
-    Ok(())
+    Ok(all)
 }
 
-#[test]
-fn each_check_prints_as_its_name(rt: HostRuntime) -> Result<(), Fail> {
-    let names = [
-        (Check::Twice, "twice"),
-        (Check::Order, "order"),
-        (Check::Total, "total"),
-        (Check::Rest, "rest"),
-        (Check::Reports, "reports"),
-        (Check::Jobs, "jobs"),
-    ];
-    for (check, name) in names {
-        assert_eq!(rt; format!(in rt.alloc(); "{check}")?.as_str(), name);
-    }
-    Ok(())
-}
-
-/// What shows that a case fails, by the case's place in the table.
-const SHOWN: [(usize, &str); 20] = [
-    (0, "2 was put in at 0 and at 1"),
-    (1, "poller 0 took 2 behind 3"),
-    (2, "no poller took 3"),
-    (3, "3 stands"),
-    (7, "7 was put in at 0 and at 3"),
-    (8, "poller 1 took 4 first"),
-    (9, "poller 0 took 2 behind 2"),
-    (10, "poller 1 took 3 behind 4"),
-    (11, "poller 1 took 3, and so did poller 0"),
-    (12, "poller 1 took 3, which the queue did not give"),
-    (14, "at 0 2 was put in and 3 taken"),
-    (16, "at 1 nothing was put in and 2 taken"),
-    (18, "no report of 5"),
-    (19, "no report of 7"),
-    (20, "3 stands"),
-    (22, "job 1 never ran"),
-    (23, "job 2 ran 2 times"),
-    (24, "job 0 ran while its object lived"),
-    (25, "job 1 ran, and was not to"),
-    (26, "no report of 7"),
-];
-
-/// What is told to show that a check of this case fails.
-fn shown_in(alloc: Global, case: &Case) -> Result<String, Fail> {
+/// The case of a row.
+fn case_of(alloc: Global, row: &'static str) -> Result<Case, Fail> {
     let lists = StressLists {
-        enqueued: objects(alloc, case.enqueued)?,
-        taken: objects(alloc, case.taken)?,
-        stands: objects(alloc, case.stands)?,
-        pollers: objects_of_each(alloc, case.lists)?,
-        kept: objects_of_each(alloc, case.kept)?,
-        jobs: case.jobs.iter().copied().collect(alloc)?,
+        enqueued: objects(alloc, column(row, 1))?,
+        taken: objects(alloc, column(row, 2))?,
+        stands: objects(alloc, column(row, 3))?,
+        pollers: objects_of_each(alloc, column(row, 4))?,
+        kept: objects_of_each(alloc, column(row, 5))?,
+        jobs: fates(alloc, column(row, 6))?,
     };
+    let mut fails = None;
+    for (check, name) in CHECKS {
+        if name == column(row, 7) {
+            fails = Some(check);
+        }
+    }
+    Ok(Case {
+        lists,
+        fails,
+        shown: column(row, 8),
+    })
+}
+
+/// What is told to show that a check of these lists fails.
+fn shown_by(alloc: Global, lists: &StressLists) -> Result<String, Fail> {
     let shown = match lists.check(alloc)? {
         Some(check) => lists.evidence(check),
         None => None,
@@ -463,13 +134,72 @@ fn shown_in(alloc: Global, case: &Case) -> Result<String, Fail> {
 }
 
 #[test]
-fn what_shows_that_a_check_fails_is_told(rt: HostRuntime) -> Result<(), Fail> {
-    for (place, want) in SHOWN {
-        let text = match CASES.get(place) {
-            Some(case) => shown_in(rt.alloc(), case)?,
-            None => format!(in rt.alloc(); "no case")?,
-        };
-        assert_eq!(rt; text.as_str(), want, "case {place}");
+fn the_first_check_that_fails_is_told_and_what_shows_it(rt: HostRuntime) -> Result<(), Fail> {
+    let alloc = rt.alloc();
+    for row in CASES {
+        let case = case_of(alloc, row)?;
+        assert_eq!(rt; checked(alloc, &case.lists), Ok(case.fails), "{row}");
+        let shown = shown_by(alloc, &case.lists)?;
+        assert!(rt;
+            case.shown.is_empty() || shown.as_str() == case.shown,
+            "{row}: {shown}"
+        );
+    }
+    Ok(())
+}
+
+/// What the checks answer, with memory of this allocator.
+fn checked<A: Allocator + Copy>(memory: A, lists: &StressLists) -> Result<Option<Check>, Fault> {
+    check_lists(
+        memory,
+        lists.enqueued.as_slice(),
+        lists.taken.as_slice(),
+        lists.stands.as_slice(),
+        lists.pollers.as_slice(),
+        lists.kept.as_slice(),
+        lists.jobs.as_slice(),
+    )
+}
+
+/// More requests for memory than the checks make.
+const MOST: u64 = 100;
+
+/// Each request for memory of the checks of a case is refused in turn, until no one is. Answers how many they make.
+fn refuse_each(rt: &impl Abort, memory: &Rationed<Global>, case: &Case, row: &str) -> u64 {
+    for met in 0..MOST {
+        memory.ration(met);
+        let answer = checked(memory, &case.lists);
+        if !memory.lift() {
+            assert_eq!(rt; answer, Ok(case.fails), "{row}: {met}");
+            return met;
+        }
+        assert_eq!(rt; answer, Err(Fault::NoMemory), "{row}: {met}");
+        assert_eq!(rt;
+            checked(memory, &case.lists),
+            Ok(case.fails),
+            "{row}: {met}"
+        );
+    }
+    let call = "check_lists";
+    assert!(rt; false, "{row}: {call} makes more requests than {MOST}");
+    MOST
+}
+
+#[test]
+fn each_refused_request_of_a_check_is_told(rt: HostRuntime) -> Result<(), Fail> {
+    let memory = Rationed::new(rt.alloc());
+    for row in CASES {
+        let case = case_of(rt.alloc(), row)?;
+        let requests = refuse_each(&rt, &memory, &case, row);
+        assert!(rt; requests > 0 || case.lists.enqueued.is_empty(), "{row}");
+    }
+    Ok(())
+}
+
+#[test]
+fn each_check_prints_as_its_name(rt: HostRuntime) -> Result<(), Fail> {
+    for (check, name) in CHECKS {
+        assert_eq!(rt; format!(in rt.alloc(); "{check}")?.as_str(), name);
     }
     Ok(())
 }

@@ -4,27 +4,18 @@ use ref_base::Fault;
 use refrun::{Counts, StressOptions, Tally, stress};
 use std::test::Fail;
 
-/// Runs whose lists must pass all checks.
-static PASSING: [StressOptions; 3] = [
+/// A run of so many mutators, workers, pollers and rounds.
+fn options((mutators, workers, pollers, rounds): (u32, u32, u32, u64)) -> StressOptions {
     StressOptions {
-        mutators: 2,
-        workers: 2,
-        pollers: 1,
-        rounds: 100,
-    },
-    StressOptions {
-        mutators: 1,
-        workers: 1,
-        pollers: 1,
-        rounds: 1,
-    },
-    StressOptions {
-        mutators: 5,
-        workers: 3,
-        pollers: 3,
-        rounds: 40,
-    },
-];
+        mutators,
+        workers,
+        pollers,
+        rounds,
+    }
+}
+
+/// Runs whose lists must pass all checks, as `options` takes them.
+const PASSING: [(u32, u32, u32, u64); 3] = [(2, 2, 1, 100), (1, 1, 1, 1), (5, 3, 3, 40)];
 
 /// What a tally shows of a run that never began.
 const NOTHING_DONE: Counts = Counts {
@@ -39,48 +30,19 @@ const NOTHING_DONE: Counts = Counts {
 };
 
 /// Runs with too many threads, or too few, of a kind.
-static REFUSED: [StressOptions; 6] = [
-    StressOptions {
-        mutators: 8,
-        workers: 2,
-        pollers: 1,
-        rounds: 1,
-    },
-    StressOptions {
-        mutators: 1,
-        workers: 9,
-        pollers: 1,
-        rounds: 1,
-    },
-    StressOptions {
-        mutators: 0,
-        workers: 1,
-        pollers: 0,
-        rounds: 1,
-    },
-    StressOptions {
-        mutators: u32::MAX,
-        workers: 1,
-        pollers: u32::MAX,
-        rounds: 1,
-    },
-    StressOptions {
-        mutators: 1,
-        workers: 0,
-        pollers: 1,
-        rounds: 1,
-    },
-    StressOptions {
-        mutators: 1,
-        workers: u32::MAX,
-        pollers: 1,
-        rounds: 10_000,
-    },
+const REFUSED: [(u32, u32, u32, u64); 6] = [
+    (8, 2, 1, 1),
+    (1, 9, 1, 1),
+    (0, 1, 0, 1),
+    (u32::MAX, 1, u32::MAX, 1),
+    (1, 0, 1, 1),
+    (1, u32::MAX, 1, 10_000),
 ];
 
 #[test]
 fn the_lists_of_a_run_pass_each_check(rt: HostRuntime) -> Result<(), Fail> {
-    for options in PASSING {
+    for run in PASSING {
+        let options = options(run);
         let tally = Tally::new();
         assert_eq!(rt; stress(&rt, rt.alloc(), options, &tally), Ok(None));
         let rounds = u64::from(options.mutators) * options.rounds;
@@ -98,11 +60,8 @@ fn the_lists_of_a_run_pass_each_check(rt: HostRuntime) -> Result<(), Fail> {
 
 #[test]
 fn a_run_that_is_stopped_begins_no_round(rt: HostRuntime) -> Result<(), Fail> {
-    for options in PASSING {
-        let endless = StressOptions {
-            rounds: u64::MAX,
-            ..options
-        };
+    for (mutators, workers, pollers, _) in PASSING {
+        let endless = options((mutators, workers, pollers, u64::MAX));
         let tally = Tally::new();
         tally.stop();
         assert_eq!(rt; stress(&rt, rt.alloc(), endless, &tally), Ok(None));
@@ -113,12 +72,10 @@ fn a_run_that_is_stopped_begins_no_round(rt: HostRuntime) -> Result<(), Fail> {
 
 #[test]
 fn a_run_with_too_many_threads_is_refused(rt: HostRuntime) -> Result<(), Fail> {
-    for options in REFUSED {
+    for run in REFUSED {
         let tally = Tally::new();
-        assert_eq!(rt;
-            stress(&rt, rt.alloc(), options, &tally),
-            Err(Fault::BadConfig)
-        );
+        let answer = stress(&rt, rt.alloc(), options(run), &tally);
+        assert_eq!(rt; answer, Err(Fault::BadConfig));
         assert_eq!(rt; tally.counts(), NOTHING_DONE);
     }
     Ok(())
@@ -135,7 +92,10 @@ fn notices_go_in_batches_too(rt: HostRuntime) -> Result<(), Fail> {
             return Ok(());
         }
         let tally = Tally::new();
-        assert_eq!(rt; stress(&rt, rt.alloc(), PASSING[0], &tally), Ok(None));
+        assert_eq!(rt;
+            stress(&rt, rt.alloc(), options(PASSING[0]), &tally),
+            Ok(None)
+        );
         handed = tally.counts().handed.max(handed);
         polled = tally.counts().polled.max(polled);
     }

@@ -3,8 +3,10 @@
 ghost use Rattle.std.specs.Prelude.{◌≡◌, IfOk, length};
 ghost use Rattle.ref_world.specs.Cores.{core_queue_at};
 
-use super::{CONFIG, do_steps};
-use crate::rows::{M, PUT, RELEASE, new, object, own, poll, took, unhook, weak};
+use super::{CONFIG, TWO_WORKERS, do_steps, three_cleared};
+use crate::rows::{
+    M, PUT, RELEASE, hand, new, object, of_cycle, own, poll, took, unhook, weak, worker_puts,
+};
 use ref_base::{Config, Fault, MutNo, ObjNo, QueueNo, Reply, SlotNo};
 use ref_world::World;
 use std::alloc::{Allocator, Global};
@@ -13,13 +15,13 @@ use std::test::Fail;
 
 /// What a queue has, by the numbers of the references.
 #[derive(Clone, Copy)]
-pub struct Lists<'a> {
+struct Lists<'a> {
     /// All that was ever put in.
-    pub enqueued: &'a [u32],
+    enqueued: &'a [u32],
     /// What of it was taken.
-    pub taken: &'a [u32],
+    taken: &'a [u32],
     /// What of it stands.
-    pub stands: &'a [u32],
+    stands: &'a [u32],
 }
 
 /// How many notices stand in the queue of this number.
@@ -43,7 +45,7 @@ fn are(rt: &impl Abort, list: &[ObjNo], want: &[u32]) {
 }
 
 /// The queues have these, in the order of their numbers, and there are no more. Lists take this memory.
-pub fn have_lists<A: Allocator + Copy>(
+fn have_lists<A: Allocator + Copy>(
     rt: &impl Abort,
     alloc: Global,
     world: &World<A>,
@@ -83,6 +85,15 @@ fn a_slot_tells_its_reference(rt: HostRuntime) -> Result<(), Fail> {
     Ok(())
 }
 
+/// A queue with all of this.
+const fn queue_of<'a>(enqueued: &'a [u32], taken: &'a [u32], stands: &'a [u32]) -> Lists<'a> {
+    Lists {
+        enqueued,
+        taken,
+        stands,
+    }
+}
+
 #[test]
 fn each_queue_has_its_own(rt: HostRuntime) -> Result<(), Fail> {
     let two_queues = Config {
@@ -105,19 +116,32 @@ fn each_queue_has_its_own(rt: HostRuntime) -> Result<(), Fail> {
     ];
     let mut world = World::new(rt.alloc(), two_queues)?;
     do_steps(&rt, &mut world, &story);
-    let queues = [
-        Lists {
-            enqueued: &[3],
-            taken: &[],
-            stands: &[3],
-        },
-        Lists {
-            enqueued: &[4, 2],
-            taken: &[4],
-            stands: &[2],
-        },
-    ];
+    let queues = [queue_of(&[3], &[], &[3]), queue_of(&[4, 2], &[4], &[2])];
     let checked = have_lists(&rt, rt.alloc(), &world, &queues);
+    world.end();
+    checked
+}
+
+#[test]
+fn two_workers_put_in_what_each_cleared_in_its_order(rt: HostRuntime) -> Result<(), Fail> {
+    let put_in = [
+        (hand(0), of_cycle(2, 1, 0)),
+        (hand(1), of_cycle(4, 1, 1)),
+        (worker_puts(0), Reply::Added(0)),
+        (hand(0), of_cycle(6, 1, 0)),
+        (worker_puts(0), Reply::Added(1)),
+        (worker_puts(1), Reply::Added(2)),
+        (poll(0), took(2)),
+        (RELEASE, Reply::Done),
+        (poll(0), took(6)),
+        (RELEASE, Reply::Done),
+        (poll(0), took(4)),
+    ];
+    let mut world = World::new(rt.alloc(), TWO_WORKERS)?;
+    do_steps(&rt, &mut world, &three_cleared());
+    do_steps(&rt, &mut world, &put_in);
+    let queue = queue_of(&[2, 6, 4], &[2, 6, 4], &[]);
+    let checked = have_lists(&rt, rt.alloc(), &world, &[queue]);
     world.end();
     checked
 }

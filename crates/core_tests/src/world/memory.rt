@@ -1,17 +1,17 @@
 //! Worlds whose memory runs out.
 
-use super::{CONFIG, are_rows, do_steps, steps_of};
+use super::{CONFIG, do_steps};
 use crate::rows::{
-    END_MOVE, PUT, RELEASE, SELECT, adopt, begin, clear, clear_next, cleared, close, copy,
-    drop_slot, get, hands, load, move_next, moved, new, nos, object, outs, own, poll, polls,
-    refers_to, refused, scan, scanned, store, sweep, took, unhook, weak, worker_puts,
-    worker_puts_all, worker_releases,
+    END_CLEAR, END_MARK, END_MOVE, END_SWEEP, PUT, RELEASE, SELECT, adopt, begin, clear,
+    clear_next, cleared, close, copy, drop_slot, get, hands, load, move_next, moved, new, nos,
+    object, outs, own, poll, polls, refers_to, refused, scan, scanned, store, sweep, took, unhook,
+    weak, worker_puts, worker_puts_all, worker_releases,
 };
 use crate::scarce::MOST;
 use rationed::Rationed;
-use ref_base::{Config, Done, Fault, PlainStep, QueueNo, Reply, Step, WorkerNo};
+use ref_base::{Config, Done, Fault, QueueNo, Reply, Row, Step, WorkerNo};
 use ref_world::{Trace, World, run};
-use std::alloc::Global;
+use std::alloc::{AllocError, Allocator, Global};
 use std::process::Abort;
 use std::test::Fail;
 
@@ -23,6 +23,9 @@ const TWO_QUEUES: Config = Config {
 
 const NO_MEMORY: Reply = Reply::Refused(Fault::NoMemory);
 
+/// A notice of a batch that finds no memory.
+const WANTING: Done = Done::Refused(Fault::NoMemory);
+
 /// Reference 2 is in the hand of mutator 0.
 fn in_hand() -> [(Step, Reply); 3] {
     [
@@ -30,6 +33,23 @@ fn in_hand() -> [(Step, Reply); 3] {
         (weak(1, 0, 0), object(2)),
         (unhook(1), own(2, 0)),
     ]
+}
+
+/// The steps of a story.
+fn steps_of<A: Allocator>(alloc: A, story: &[(Step, Reply)]) -> Result<Vec<Step, A>, AllocError> {
+    let mut steps = Vec::with_capacity(alloc, story.len())?;
+    for &(step, _reply) in story {
+        steps.push(step)?;
+    }
+    Ok(steps)
+}
+
+/// These rows are a story's, one for each of its steps.
+fn are_rows(rt: &impl Abort, rows: &[Row], story: &[(Step, Reply)]) {
+    assert_eq!(rt; rows.len(), story.len(), "so many rows");
+    for (place, &(step, reply)) in story.iter().enumerate() {
+        assert_eq!(rt; rows.get(place), Some(&Row { step, reply }), "row {place}");
+    }
 }
 
 /// A list of steps that is run with so many requests for memory met, behind those that world and list themselves make.
@@ -188,16 +208,13 @@ fn each_step() -> [(Step, Reply); 34] {
         (scan(0), scanned(3)),
         (scan(0), scanned(4)),
         (scan(0), scanned(6)),
-        (Step::Plain(PlainStep::EndMark), Reply::Doomed(1)),
+        (END_MARK, Reply::Doomed(1)),
         (clear_next(0), cleared(6)),
-        (Step::Plain(PlainStep::EndClear), Reply::Done),
+        (END_CLEAR, Reply::Done),
         (sweep(0), Reply::Swept(1)),
-        (Step::Plain(PlainStep::EndSweep), Reply::Done),
+        (END_SWEEP, Reply::Done),
         (hands(0, 32), of_6()),
-        (
-            worker_puts_all(0),
-            outs(0, &[Done::Refused(Fault::NoMemory)]),
-        ),
+        (worker_puts_all(0), outs(0, &[WANTING])),
         (worker_puts(0), NO_MEMORY),
         (polls(1, 32), Reply::Empty),
         (worker_releases(0), Reply::Done),
@@ -222,10 +239,10 @@ fn moves() -> [(Step, Reply); 32] {
         (scan(0), scanned(1)),
         (scan(0), scanned(65)),
         (scan(0), scanned(66)),
-        (Step::Plain(PlainStep::EndMark), Reply::Doomed(63)),
-        (Step::Plain(PlainStep::EndClear), Reply::Done),
+        (END_MARK, Reply::Doomed(63)),
+        (END_CLEAR, Reply::Done),
         (sweep(0), Reply::Swept(63)),
-        (Step::Plain(PlainStep::EndSweep), Reply::Done),
+        (END_SWEEP, Reply::Done),
         (SELECT, Reply::Selected(3)),
         // These two move what they answer.
         (get(3, 2), object(65)),
@@ -240,9 +257,9 @@ fn moves() -> [(Step, Reply); 32] {
         (scan(0), scanned(1)),
         (scan(0), scanned(65)),
         (scan(0), scanned(66)),
-        (Step::Plain(PlainStep::EndMark), Reply::Doomed(0)),
-        (Step::Plain(PlainStep::EndClear), Reply::Done),
-        (Step::Plain(PlainStep::EndSweep), Reply::Done),
+        (END_MARK, Reply::Doomed(0)),
+        (END_CLEAR, Reply::Done),
+        (END_SWEEP, Reply::Done),
         (SELECT, refused(Fault::NoRoom)),
         (move_next(0), refused(Fault::WrongPhase)),
         (END_MOVE, refused(Fault::WrongPhase)),
@@ -267,19 +284,28 @@ fn no_step_takes_memory_while_objects_move(rt: HostRuntime) -> Result<(), Fail> 
     Ok(())
 }
 
-#[test]
-fn no_step_takes_memory_but_a_put(rt: HostRuntime) -> Result<(), Fail> {
-    let memory = Rationed::new(rt.alloc());
+/// Steps that begin behind these are answered so with no memory. Those of the heap alone may be asked in fewer bytes.
+fn take_no_memory(rt: &impl Abort, alloc: Global, is_asked: bool) -> Result<(), Fail> {
+    let memory = Rationed::new(alloc);
     let mut world = World::new(&memory, TWO_QUEUES)?;
-    do_steps(&rt, &mut world, &in_hand());
-    do_steps(&rt, &mut world, &[(PUT, Reply::Added(0))]);
+    do_steps(rt, &mut world, &in_hand());
+    do_steps(rt, &mut world, &[(PUT, Reply::Added(0))]);
     memory.ration(0);
-    do_steps(&rt, &mut world, &each_step());
-    do_steps(
-        &rt,
-        &mut world,
-        &[(close(0), Reply::Done), (poll(0), Reply::Closed)],
-    );
+    for (row, &(step, want)) in each_step().iter().enumerate() {
+        let reply = match step {
+            Step::Plain(step) if is_asked => world.ask(step).reply(),
+            step => world.step(step),
+        };
+        assert_eq!(rt; reply, want, "row {row}: {step}");
+    }
+    let closed = [(close(0), Reply::Done), (poll(0), Reply::Closed)];
+    do_steps(rt, &mut world, &closed);
     world.end();
     Ok(())
+}
+
+#[test]
+fn no_step_takes_memory_but_a_put(rt: HostRuntime) -> Result<(), Fail> {
+    take_no_memory(&rt, rt.alloc(), false)?;
+    take_no_memory(&rt, rt.alloc(), true)
 }
