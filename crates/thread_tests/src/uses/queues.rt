@@ -6,7 +6,8 @@ ghost use Rattle.ref_share.specs.QueueCalls.{polled};
 ghost use Rattle.ref_share.specs.HeapSeats.{IsHeapSeat};
 ghost use Rattle.ref_share.specs.QueueSeats.{queue_view, IsQueueSeat};
 
-use crate::shares::calls::{Do, replied, step_of};
+use crate::shares::calls::stepped;
+use crate::shares::rows::{new, weak};
 use crate::shares::{CONFIG, M, Q};
 use ref_base::{Fault, HeapStep, Parcel, QueueNo, SlotNo};
 use ref_clear::Notice;
@@ -228,8 +229,8 @@ fn a_queue_that_was_not_closed_is_open(rt: HostRuntime) -> Result<(), Fail> {
 fn notice_of<R: Wait>(rt: &R, heap: &SharedHeap, seat: &mut HeapSeat) -> Option<Notice>
     requires { IsHeapSeat heap.now seat.old }
 {
-    replied(heap.call(rt, seat, HeapStep::Plain(step_of(Do::New(0)))));
-    replied(heap.call(rt, seat, HeapStep::Plain(step_of(Do::Weak(1, 0)))));
+    stepped(heap.call(rt, seat, HeapStep::Plain(new(0))));
+    stepped(heap.call(rt, seat, HeapStep::Plain(weak(1, 0))));
     let step = HeapStep::Unhook {
         mutator: M,
         reference: SlotNo(1),
@@ -237,7 +238,7 @@ fn notice_of<R: Wait>(rt: &R, heap: &SharedHeap, seat: &mut HeapSeat) -> Option<
     match heap.call(rt, seat, step) {
         Ok(HeapReply::Notice(notice)) => Some(notice),
         other => {
-            replied(other);
+            stepped(other);
             None
         }
     }
