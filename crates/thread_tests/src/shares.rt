@@ -16,7 +16,7 @@ use std::alloc::{Allocator, Global};
 use std::process::Abort;
 use std::sync::Wait;
 use std::test::Fail;
-use told::{Told, began, cleared, done, doomed, expect, nothing, object, scanned};
+use told::expect;
 
 mod batches;
 pub mod calls;
@@ -31,6 +31,9 @@ pub mod rows;
 mod stories;
 mod threads;
 pub mod told;
+
+/// A call, and what it is answered.
+pub type Row = (Call, &'static str);
 
 /// One mutator, one worker, one queue, 8 cells, and a span of 10.
 pub const CONFIG: Config = Config {
@@ -98,20 +101,20 @@ pub fn new_batch<A: Allocator>(rt: &impl Abort, alloc: A) -> Batch<Notice, A>
 }
 
 /// A cycle finds object 1 dead. References 2 and 3 to it are in slots 1 and 2, and pending in this order.
-pub fn death() -> [(Call, Told); 12] {
+pub fn death() -> [Row; 12] {
     [
-        (step(new(0)), object(1)),
-        (step(weak(1, 0)), object(2)),
-        (step(weak(2, 0)), object(3)),
-        (step(drop_slot(0)), done()),
-        (step(BEGIN), began(1)),
-        (step(SCAN), scanned(2)),
-        (step(SCAN), scanned(3)),
-        (step(SCAN), nothing()),
-        (step(END_MARK), doomed(1)),
-        (step(CLEAR_NEXT), cleared(2)),
-        (step(CLEAR_NEXT), cleared(3)),
-        (step(END_CLEAR), done()),
+        (step(new(0)), "object 1"),
+        (step(weak(1, 0)), "object 2"),
+        (step(weak(2, 0)), "object 3"),
+        (step(drop_slot(0)), "ok"),
+        (step(BEGIN), "cycle 1"),
+        (step(SCAN), "scanned 2"),
+        (step(SCAN), "scanned 3"),
+        (step(SCAN), "none"),
+        (step(END_MARK), "doomed 1"),
+        (step(CLEAR_NEXT), "cleared 2"),
+        (step(CLEAR_NEXT), "cleared 3"),
+        (step(END_CLEAR), "ok"),
     ]
 }
 
@@ -121,14 +124,15 @@ pub fn make_calls<R: Wait + Abort, A: Allocator + Copy>(
     heap: &SharedHeap<A>,
     queue: &SharedQueue<A>,
     seats: &mut Seats<A>,
-    calls: &[(Call, Told)],
+    calls: &[Row],
 )
     requires seats { IsHeapSeat heap.now seats.old.heap × IsQueueSeat queue.now seats.old.queue }
     requires fits { FitsInMemory (queue_row A.row A.Allocator A.Clone) }
     ensures { IsHeapSeat heap.now seats.new.heap × IsQueueSeat queue.now seats.new.queue }
 {
     for (row, &(call, want)) in calls.iter().enumerate() {
-        expect(rt, row, answer(rt, heap, queue, seats, call), want);
+        let told = answer(rt, heap, queue, seats, call);
+        expect(rt, seats.alloc, row, told, want);
     }
 }
 
@@ -136,8 +140,8 @@ pub fn make_calls<R: Wait + Abort, A: Allocator + Copy>(
 #[derive(Drop)]
 struct Story<'a> {
     starts: Starts,
-    calls: &'a [(Call, Told)],
-    then: &'a [(Call, Told)],
+    calls: &'a [Row],
+    then: &'a [Row],
     /// The references that were ever put in, in order.
     put_in: &'a [u32],
     /// Those of them that stand in the end.
@@ -145,7 +149,7 @@ struct Story<'a> {
 }
 
 /// These calls, and nothing was put in.
-fn story<'a>(calls: &'a [(Call, Told)]) -> Story<'a> {
+fn story<'a>(calls: &'a [Row]) -> Story<'a> {
     Story {
         starts: STARTS,
         calls,
@@ -157,7 +161,7 @@ fn story<'a>(calls: &'a [(Call, Told)]) -> Story<'a> {
 
 impl<'a> Story<'a> {
     /// These calls behind those before.
-    fn then(self, then: &'a [(Call, Told)]) -> Story<'a> {
+    fn then(self, then: &'a [Row]) -> Story<'a> {
         Story { then, ..self }
     }
 

@@ -8,10 +8,7 @@ ghost use Rattle.std.specs.Mem.{FitsInMemory};
 ghost use Rattle.thread_tests.specs.QueueRows.{queue_row};
 
 use super::rows::{Call, OfHeap, OfQueue, Sending};
-use super::told::{
-    Told, added, busy, closed, delivery, done, empty, enqueued, not_put, not_taken, nothing,
-    refused, replied, served, spent, timed_out, took, unknown, was_open,
-};
+use super::told::{Told, counted, delivery, either, not, outs_told, refused, replied, word};
 use super::{M, Q, Seats, W, new_batch};
 use ref_base::{Batch, Fault, HeapStep, MOST_IN_BATCH, Nos, Outs, Parcel, Reply, SlotNo, WorkerNo};
 use ref_clear::Notice;
@@ -34,24 +31,24 @@ pub fn stepped<A: Allocator>(answer: Result<HeapAnswer<A>, TurnFault<HeapCall<A>
         Ok(HeapReply::Told(reply)) => replied(reply.reply()),
         Ok(HeapReply::Notice(notice)) => {
             notice.into_hold().leak();
-            unknown()
+            word("unknown")
         }
         Ok(HeapReply::Held(hold)) => {
             hold.leak();
-            unknown()
+            word("unknown")
         }
         Ok(HeapReply::Back(fault, hold)) => held(hold, fault),
         Ok(HeapReply::Handed(_, batch)) => {
             end_batch(batch);
-            unknown()
+            word("unknown")
         }
         Err(TurnFault::Busy(step)) => {
             spend(step);
-            busy()
+            word("busy")
         }
         Err(TurnFault::Spent(step)) => {
             spend(step);
-            spent()
+            refused(Fault::TurnsSpent)
         }
     }
 }
@@ -76,7 +73,7 @@ pub fn reply_or_fault(answer: Result<Reply, Fault>) -> Told {
 }
 
 fn held(hold: Hold, fault: Fault) -> Told {
-    let told = not_taken(hold.obj().0, fault);
+    let told = not("not released", hold.obj().0, fault);
     hold.leak();
     told
 }
@@ -85,11 +82,11 @@ fn held(hold: Hold, fault: Fault) -> Told {
 pub fn given_up(fault: ShareFault) -> Told {
     match fault {
         ShareFault::Refused(fault) => refused(fault),
-        ShareFault::Busy => busy(),
+        ShareFault::Busy => word("busy"),
         ShareFault::Notice(notice, fault) => {
             let no = notice.obj().0;
             notice.into_hold().leak();
-            not_put(no, fault)
+            not("not put", no, fault)
         }
         ShareFault::Held(hold, fault) => held(hold, fault),
     }
@@ -124,7 +121,7 @@ pub fn refusal<R: Wait, A: Allocator + Copy>(
 {
     match fault {
         ShareFault::Notice(notice, fault) => {
-            let told = not_put(notice.obj().0, fault);
+            let told = not("not put", notice.obj().0, fault);
             released(rt, heap, seat, notice, told)
         }
         fault => given_up(fault),
@@ -134,10 +131,10 @@ pub fn refusal<R: Wait, A: Allocator + Copy>(
 /// What a poll answered, and the notice that it took.
 pub fn of_poll(answer: Result<Polled, ShareFault>) -> (Told, Option<Notice>) {
     match answer {
-        Ok(Polled::Took(notice)) => (took(notice.obj().0), Some(notice)),
-        Ok(Polled::Empty) => (empty(), None),
-        Ok(Polled::Closed) => (closed(), None),
-        Ok(Polled::TimedOut) => (timed_out(), None),
+        Ok(Polled::Took(notice)) => (replied(Reply::Took(notice.obj())), Some(notice)),
+        Ok(Polled::Empty) => (replied(Reply::Empty), None),
+        Ok(Polled::Closed) => (replied(Reply::Closed), None),
+        Ok(Polled::TimedOut) => (word("timed out"), None),
         Err(fault) => (given_up(fault), None),
     }
 }
@@ -172,7 +169,7 @@ pub fn of_heap<R: Wait, A: Allocator + Copy>(
         OfHeap::Try(step) => stepped(heap.try_call(seat, HeapStep::Plain(step))),
         OfHeap::Ask(step) => reply_or_fault(heap.ask(rt, seat, step)),
         OfHeap::Perform(step) => reply_or_fault(heap.perform(rt, seat, step)),
-        OfHeap::Served => served(heap.served(seat)),
+        OfHeap::Served => counted("served", heap.served(seat)),
     }
 }
 
@@ -201,10 +198,10 @@ fn of_queue<R: Wait, A: Allocator + Copy>(
             polled(rt, heap, &mut seats.heap, answer)
         }
         OfQueue::Close => match queue.close(rt, &mut seats.queue) {
-            Ok(answer) => was_open(answer),
+            Ok(answer) => either(answer, "was open", "was closed"),
             Err(fault) => refusal(rt, heap, &mut seats.heap, fault),
         },
-        OfQueue::Served => served(queue.served(&mut seats.queue)),
+        OfQueue::Served => counted("served", queue.served(&mut seats.queue)),
     }
 }
 
@@ -221,15 +218,15 @@ fn put<R: Wait, A: Allocator + Copy>(
 {
     let notice = match heap.unhook(rt, &mut seats.heap, M, SlotNo(slot)) {
         Ok(Some(notice)) => notice,
-        Ok(None) => return nothing(),
+        Ok(None) => return replied(Reply::Nothing),
         Err(fault) => return refused(fault),
     };
     let no = notice.obj().0;
     let (back, told) = match queue.put(rt, &mut seats.queue, notice) {
-        Ok(Put::Added(position)) => return added(position),
+        Ok(Put::Added(position)) => return replied(Reply::Added(position)),
         Ok(Put::Already(back)) => (back, replied(Reply::Already)),
-        Ok(Put::Closed(back)) => (back, closed()),
-        Err((fault, back)) => (back, not_put(no, fault)),
+        Ok(Put::Closed(back)) => (back, replied(Reply::Closed)),
+        Err((fault, back)) => (back, not("not put", no, fault)),
     };
     released(rt, heap, &mut seats.heap, back, told)
 }
@@ -266,14 +263,6 @@ fn told_of<R: Wait, A: Allocator + Copy>(
     }
 }
 
-/// What became of a batch, if there was one.
-fn outs_told(outs: Option<Outs>) -> Told {
-    match outs {
-        Some(outs) => replied(Reply::Outs(outs)),
-        None => nothing(),
-    }
-}
-
 /// Makes a call for which these queues stand in lists, and tells what was answered.
 pub fn sent<R: Wait, A: Allocator + Copy>(
     rt: &R,
@@ -287,43 +276,45 @@ pub fn sent<R: Wait, A: Allocator + Copy>(
     requires empty { batch ≡ [] }
     ensures { IsHeapSeat shared.entry.0.now seat.new × AreSeats shared.entry.1.now seats.new }
 {
-    let (heap, queues) = shared;
     match sending {
         Sending::Enqueue(slot) => {
-            let answer = enqueue(rt, heap, seat, queues, seats, M, SlotNo(slot));
-            told_of(rt, heap, seat, answer.map(|answer| enqueued(answer)), batch)
+            let answer = enqueue(rt, shared.0, seat, shared.1, seats, M, SlotNo(slot));
+            let told = answer.map(|answer| either(answer, "enqueued", "not enqueued"));
+            told_of(rt, shared.0, seat, told, batch)
         }
         Sending::One(worker) => {
-            let answer = deliver_one(rt, heap, seat, queues, seats, WorkerNo(worker));
-            told_of(rt, heap, seat, answer.map(|answer| delivery(answer)), batch)
+            let answer = deliver_one(rt, shared.0, seat, shared.1, seats, WorkerNo(worker));
+            let told = answer.map(|answer| delivery(answer));
+            told_of(rt, shared.0, seat, told, batch)
         }
         Sending::Batch(worker, max) => {
             let worker = WorkerNo(worker);
-            let (answer, left) = deliver_batch(rt, heap, seat, queues, seats, worker, max, batch);
-            told_of(rt, heap, seat, answer.map(|outs| outs_told(outs)), left)
+            let (answer, left) = deliver_batch(
+                rt, shared.0, seat, shared.1, seats, worker, max, batch,
+            );
+            let told = answer.map(|outs| outs_told(outs));
+            told_of(rt, shared.0, seat, told, left)
         }
         Sending::All(worker) => {
-            let (answer, left) = deliver_all(
-                rt,
-                heap,
-                seat,
-                queues,
-                seats,
-                WorkerNo(worker),
-                batch,
-            );
-            told_of(rt, heap, seat, answer.map(|()| done()), left)
+            let worker = WorkerNo(worker);
+            let (answer, left) = deliver_all(rt, shared.0, seat, shared.1, seats, worker, batch);
+            let told = answer.map(|()| replied(Reply::Done));
+            told_of(rt, shared.0, seat, told, left)
         }
         Sending::Cycle(worker, now, urgency) => {
             let worker = WorkerNo(worker);
-            let (answer, left) = cycle(rt, heap, seat, queues, seats, worker, now, urgency, batch);
-            told_of(rt, heap, seat, answer.map(|()| done()), left)
+            let (answer, left) = cycle(
+                rt, shared.0, seat, shared.1, seats, worker, now, urgency, batch,
+            );
+            let told = answer.map(|()| replied(Reply::Done));
+            told_of(rt, shared.0, seat, told, left)
         }
         Sending::MakeOrCollect(step, now) => {
             let (answer, left) = make_or_collect(
-                rt, heap, seat, queues, seats, W, now, step, batch,
+                rt, shared.0, seat, shared.1, seats, W, now, step, batch,
             );
-            told_of(rt, heap, seat, answer.map(|reply| replied(reply)), left)
+            let told = answer.map(|reply| replied(reply));
+            told_of(rt, shared.0, seat, told, left)
         }
     }
 }
@@ -404,12 +395,12 @@ fn handed_and_put<R: Wait, A: Allocator + Copy>(
             let (answer, batch) = queue.put_batch(rt, &mut seats.queue, batch);
             let left = emptied(batch);
             match answer {
-                Ok(outs) => replied(Reply::Outs(outs)).leaving(left),
+                Ok(outs) => outs_told(Some(outs)).leaving(left),
                 Err(fault) => refused(fault).leaving(left),
             }
         }
-        Ok(Some(_)) => unknown().leaving(emptied(batch)),
-        Ok(None) => nothing().leaving(emptied(batch)),
+        Ok(Some(_)) => word("unknown").leaving(emptied(batch)),
+        Ok(None) => replied(Reply::Nothing).leaving(emptied(batch)),
         Err(fault) => refused(fault).leaving(emptied(batch)),
     }
 }
@@ -428,9 +419,9 @@ fn polled_batch<A: Allocator + Copy>(
     let left = emptied(batch);
     match answer {
         Ok(PolledBatch::Took(taken)) if taken == left => replied(Reply::TookSome(taken)),
-        Ok(PolledBatch::Took(_)) => unknown().leaving(left),
-        Ok(PolledBatch::Empty) => empty().leaving(left),
-        Ok(PolledBatch::Closed) => closed().leaving(left),
+        Ok(PolledBatch::Took(_)) => word("unknown").leaving(left),
+        Ok(PolledBatch::Empty) => replied(Reply::Empty).leaving(left),
+        Ok(PolledBatch::Closed) => replied(Reply::Closed).leaving(left),
         Err(fault) => given_up(fault).leaving(left),
     }
 }
@@ -463,6 +454,6 @@ pub fn answer<R: Wait + Abort, A: Allocator + Copy>(
             handed_and_put(rt, heap, queue, seats, max, new_batch(rt, alloc))
         }
         Call::PollBatch(max) => { polled_batch(queue, &mut seats.queue, max, new_batch(rt, alloc)) }
-        Call::Clean(_) => unknown(),
+        Call::Clean(_) => word("unknown"),
     }
 }

@@ -5,9 +5,8 @@ ghost use Rattle.ref_share.specs.HeapSeats.{IsHeapSeat};
 ghost use Rattle.ref_share.specs.QueueSeats.{IsQueueSeat};
 ghost use Rattle.std.specs.Prelude.{◌≡◌, ◌+◌, ◌<◌, ◌^◌};
 
-use super::rows::Call;
-use super::told::{Told, expect};
-use super::{Q, STARTS, Starts, start};
+use super::told::expect;
+use super::{Q, Row, STARTS, Starts, start};
 use acts::{Chair, Shared, told_of_call};
 use hearing::Hearing;
 use ref_objects::Hold;
@@ -36,14 +35,14 @@ struct Story<'a> {
     first: u64,
     /// The jobs, in the order in which they are registered.
     jobs: &'a [u32],
-    calls: &'a [(Call, Told)],
+    calls: &'a [Row],
     /// What a third thread does while two run the jobs of what is gone. Where it is nothing, there are no such threads.
-    meanwhile: &'a [(Call, Told)],
+    meanwhile: &'a [Row],
     /// What it does then, while job 1 waits for it.
-    held: &'a [(Call, Told)],
+    held: &'a [Row],
     /// How many jobs the two run.
     count: u64,
-    then: &'a [(Call, Told)],
+    then: &'a [Row],
     /// How often those who run the jobs of what is gone ran job 1, and job 2.
     heard: (u64, u64),
     /// How many actions were called in all.
@@ -53,7 +52,7 @@ struct Story<'a> {
 }
 
 /// These calls, without a job.
-fn story<'a>(calls: &'a [(Call, Told)]) -> Story<'a> {
+fn story<'a>(calls: &'a [Row]) -> Story<'a> {
     Story {
         heap_first: 0,
         first: 0,
@@ -76,7 +75,7 @@ fn do_all<R: Wait + Abort>(
     chair: &mut Chair,
     jobs: &mut VecDeque<Job>,
     hearing: &Hearing,
-    calls: &[(Call, Told)],
+    calls: &[Row],
 )
     requires { IsHeapSeat shared.heap.now chair.old.seats.heap
         × IsQueueSeat shared.queue.now chair.old.seats.queue
@@ -87,7 +86,7 @@ fn do_all<R: Wait + Abort>(
 {
     for (row, &(call, want)) in calls.iter().enumerate() {
         let told = told_of_call(rt, shared, chair, jobs, hearing, call);
-        expect(rt, row, told, want);
+        expect(rt, chair.seats.alloc, row, told, want);
     }
 }
 

@@ -5,15 +5,13 @@ ghost use Rattle.thread_tests.specs.QueueLists.{AreSeated};
 
 use super::calls::{of_heap, sent, sent_nowhere};
 use super::many_queues::{Lists, make_references, with};
-use super::new_batch;
 use super::rows::{
     BEGIN, CLEAR_NEXT, Call, DELIVER_ALL, END_MARK, SCAN, Sending, cycle, drop_slot, get,
     make_or_collect, new, perform, soft_alone, urgent, weak_alone,
 };
-use super::told::{
-    Told, began, cleared, done, doomed, expect, nos, null, object, refused, scanned, spent, unknown,
-};
-use ref_base::{Config, Fault, Urgency};
+use super::told::{Told, expect, word};
+use super::{Row, new_batch};
+use ref_base::{Config, Urgency};
 use ref_share::{HeapSeat, SharedHeap};
 use std::alloc::Global;
 use std::process::Abort;
@@ -29,13 +27,13 @@ struct Story<'a> {
     heap_first: u64,
     /// The first ticket of each queue.
     first: u64,
-    calls: &'a [(Call, Told)],
+    calls: &'a [Row],
     /// Whether each queue was told of its reference.
     is_told: bool,
 }
 
 /// These calls, and then each queue is told.
-fn story<'a>(calls: &'a [(Call, Told)]) -> Story<'a> {
+fn story<'a>(calls: &'a [Row]) -> Story<'a> {
     Story {
         cells: 32,
         heap_first: 0,
@@ -71,7 +69,7 @@ fn answer<R: Wait + Abort>(
             )
         }
         Call::SendNowhere(sending) => sent_nowhere(rt, heap, seat, sending, new_batch(rt, alloc)),
-        _ => unknown(),
+        _ => word("unknown"),
     }
 }
 
@@ -80,19 +78,11 @@ impl<'a> Story<'a> {
         Story { cells, ..self }
     }
 
-    /// The heap's first ticket.
-    fn heap_from(self, heap_first: u64) -> Story<'a> {
-        Story { heap_first, ..self }
-    }
-
-    /// The first ticket of each queue.
-    fn queues_from(self, first: u64) -> Story<'a> {
-        Story { first, ..self }
-    }
-
-    /// No queue is told.
-    fn in_vain(self) -> Story<'a> {
+    /// No queue is told, with these first tickets of the heap and of each queue.
+    fn in_vain(self, heap_first: u64, first: u64) -> Story<'a> {
         Story {
+            heap_first,
+            first,
             is_told: false,
             ..self
         }
@@ -108,12 +98,8 @@ impl<'a> Story<'a> {
         let mut lists = Lists::new(rt, alloc, 2, self.first);
         make_references(rt, &heap, &mut seat, 2);
         for (row, &(call, want)) in self.calls.iter().enumerate() {
-            expect(
-                rt,
-                row,
-                answer(rt, &heap, &mut seat, &mut lists, call),
-                want,
-            );
+            let told = answer(rt, &heap, &mut seat, &mut lists, call);
+            expect(rt, alloc, row, told, want);
         }
         lists.end(rt, self.is_told);
         Ok(())
@@ -128,23 +114,18 @@ const fn by_worker_1(now: u64) -> Call {
 #[test]
 fn all_that_was_cleared_is_told_to_its_queue(rt: HostRuntime) -> Result<(), Fail> {
     // By whole cycles.
-    story(&[
-        (cycle(5), done()),
-        (cycle(5), done()),
-        (DELIVER_ALL, done()),
-    ])
-    .agree(&rt, rt.alloc())?;
+    story(&[(cycle(5), "ok"), (cycle(5), "ok"), (DELIVER_ALL, "ok")]).agree(&rt, rt.alloc())?;
     // By deliveries of all that is pending.
     story(&[
-        (perform(BEGIN), began(1)),
-        (perform(SCAN), scanned(3)),
-        (perform(SCAN), scanned(2)),
-        (perform(END_MARK), doomed(1)),
-        (perform(CLEAR_NEXT), cleared(3)),
-        (perform(CLEAR_NEXT), cleared(2)),
-        (Call::Send(Sending::All(1)), refused(Fault::NoSuchActor)),
-        (DELIVER_ALL, done()),
-        (DELIVER_ALL, done()),
+        (perform(BEGIN), "cycle 1"),
+        (perform(SCAN), "scanned 3"),
+        (perform(SCAN), "scanned 2"),
+        (perform(END_MARK), "doomed 1"),
+        (perform(CLEAR_NEXT), "cleared 3"),
+        (perform(CLEAR_NEXT), "cleared 2"),
+        (Call::Send(Sending::All(1)), "refused: NoSuchActor"),
+        (DELIVER_ALL, "ok"),
+        (DELIVER_ALL, "ok"),
     ])
     .agree(&rt, rt.alloc())
 }
@@ -152,42 +133,41 @@ fn all_that_was_cleared_is_told_to_its_queue(rt: HostRuntime) -> Result<(), Fail
 #[test]
 fn what_the_heap_refuses_in_a_cycle_is_told(rt: HostRuntime) -> Result<(), Fail> {
     story(&[
-        (cycle(5), done()),
-        (cycle(4), refused(Fault::ClockBack)),
-        (by_worker_1(5), refused(Fault::NoSuchActor)),
-        (cycle(5), refused(Fault::WrongPhase)),
-        (perform(BEGIN), refused(Fault::WrongPhase)),
+        (cycle(5), "ok"),
+        (cycle(4), "refused: ClockBack"),
+        (by_worker_1(5), "refused: NoSuchActor"),
+        (cycle(5), "refused: WrongPhase"),
+        (perform(BEGIN), "refused: WrongPhase"),
     ])
     .agree(&rt, rt.alloc())?;
     // No turn is left behind a begin and a scan.
-    story(&[(cycle(5), spent()), (DELIVER_ALL, spent())])
-        .heap_from(u64::MAX - 5)
-        .in_vain()
-        .agree(&rt, rt.alloc())
+    story(&[
+        (cycle(5), "refused: TurnsSpent"),
+        (DELIVER_ALL, "refused: TurnsSpent"),
+    ])
+    .in_vain(u64::MAX - 5, 0)
+    .agree(&rt, rt.alloc())
 }
 
 #[test]
 fn a_cycle_stops_where_a_notice_comes_back(rt: HostRuntime) -> Result<(), Fail> {
-    // The notice of the last queue's reference comes first.
-    let (first, second) = (nos(&[3]), nos(&[2]));
     let nowhere = Call::SendNowhere(Sending::Cycle(0, 5, Urgency::Normal));
     let deliver_nowhere = Call::SendNowhere(Sending::All(0));
-    let bad_queue = refused(Fault::BadQueue);
     story(&[
-        (nowhere, bad_queue.leaving(first)),
-        (deliver_nowhere, bad_queue.leaving(second)),
-        (deliver_nowhere, done()),
-        (cycle(5), refused(Fault::WrongPhase)),
+        // The notice of the last queue's reference comes first.
+        (nowhere, "refused: BadQueue left 3"),
+        (deliver_nowhere, "refused: BadQueue left 2"),
+        (deliver_nowhere, "ok"),
+        (cycle(5), "refused: WrongPhase"),
     ])
-    .in_vain()
+    .in_vain(0, 0)
     .agree(&rt, rt.alloc())?;
     story(&[
-        (cycle(5), spent().leaving(first)),
-        (DELIVER_ALL, spent().leaving(second)),
-        (DELIVER_ALL, done()),
+        (cycle(5), "refused: TurnsSpent left 3"),
+        (DELIVER_ALL, "refused: TurnsSpent left 2"),
+        (DELIVER_ALL, "ok"),
     ])
-    .queues_from(u64::MAX)
-    .in_vain()
+    .in_vain(0, u64::MAX)
     .agree(&rt, rt.alloc())
 }
 
@@ -204,17 +184,17 @@ const fn refer(slot: u32) -> Call {
 #[test]
 fn an_urgent_cycle_keeps_no_soft_reference(rt: HostRuntime) -> Result<(), Fail> {
     story(&[
-        (perform(new(4)), object(4)),
-        (perform(soft_alone(5, 4)), object(5)),
-        (perform(drop_slot(4)), done()),
-        (cycle(6), done()),
-        (get_referent(), object(4)),
-        (refer(6), object(6)),
-        (perform(drop_slot(7)), done()),
-        (urgent(6), done()),
-        (get_referent(), null()),
-        (refer(6), refused(Fault::EmptySlot)),
-        (urgent(5), refused(Fault::ClockBack)),
+        (perform(new(4)), "object 4"),
+        (perform(soft_alone(5, 4)), "object 5"),
+        (perform(drop_slot(4)), "ok"),
+        (cycle(6), "ok"),
+        (get_referent(), "object 4"),
+        (refer(6), "object 6"),
+        (perform(drop_slot(7)), "ok"),
+        (urgent(6), "ok"),
+        (get_referent(), "null"),
+        (refer(6), "refused: EmptySlot"),
+        (urgent(5), "refused: ClockBack"),
     ])
     .agree(&rt, rt.alloc())
 }
@@ -224,25 +204,25 @@ fn where_a_heap_is_full_a_cycle_comes_first_and_then_an_urgent_one(
     rt: HostRuntime,
 ) -> Result<(), Fail> {
     story(&[
-        (perform(new(4)), object(4)),
-        (perform(soft_alone(5, 4)), object(5)),
-        (perform(new(4)), object(6)),
-        (perform(soft_alone(6, 4)), object(7)),
-        (perform(new(4)), object(8)),
+        (perform(new(4)), "object 4"),
+        (perform(soft_alone(5, 4)), "object 5"),
+        (perform(new(4)), "object 6"),
+        (perform(soft_alone(6, 4)), "object 7"),
+        (perform(new(4)), "object 8"),
         // All eight cells are taken, and nothing but weak references keeps object 1.
-        (perform(new(8)), refused(Fault::NoCell)),
-        (make_or_collect(8), object(9)),
-        (get_referent(), object(4)),
-        (perform(drop_slot(7)), done()),
+        (perform(new(8)), "refused: NoCell"),
+        (make_or_collect(8), "object 9"),
+        (get_referent(), "object 4"),
+        (perform(drop_slot(7)), "ok"),
         // Only an urgent cycle frees what soft references kept.
-        (make_or_collect(9), object(10)),
-        (get_referent(), null()),
-        (refer(10), refused(Fault::EmptySlot)),
-        (make_or_collect(10), object(11)),
-        (make_or_collect(11), refused(Fault::NoCell)),
-        (perform(drop_slot(10)), done()),
-        (make_or_collect(11), object(12)),
-        (make_or_collect(16), refused(Fault::NoSuchActor)),
+        (make_or_collect(9), "object 10"),
+        (get_referent(), "null"),
+        (refer(10), "refused: EmptySlot"),
+        (make_or_collect(10), "object 11"),
+        (make_or_collect(11), "refused: NoCell"),
+        (perform(drop_slot(10)), "ok"),
+        (make_or_collect(11), "object 12"),
+        (make_or_collect(16), "refused: NoSuchActor"),
     ])
     .with_cells(8)
     .agree(&rt, rt.alloc())

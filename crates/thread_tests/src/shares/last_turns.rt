@@ -6,7 +6,7 @@ ghost use Rattle.ref_share.specs.QueueSeats.{IsQueueSeat};
 
 use super::calls::{of_poll, stepped};
 use super::rows::new;
-use super::told::{Told, empty, object, spent};
+use super::told::Told;
 use super::{CONFIG, Q};
 use ref_base::{HeapStep, Parcel};
 use ref_share::{HeapSeat, QueueSeat, SharedHeap, SharedQueue, end_queue};
@@ -96,19 +96,21 @@ fn polled_by_both<R: Threads + Wait + Sync>(
 }
 
 /// The one was answered this, and the other told that no turn is left.
-fn one_came_second(rt: &impl Abort, (left, right): (Told, Told), want: Told) {
-    let none = spent();
+fn one_came_second(rt: &impl Abort, alloc: Global, (left, right): (Told, Told), want: &str) {
+    let none = "refused: TurnsSpent";
     assert!(rt;
-        left.is(&want) && right.is(&none) || left.is(&none) && right.is(&want),
-        "{left:?}, {right:?}"
+        left.is(alloc, want) && right.is(alloc, none)
+            || left.is(alloc, none) && right.is(alloc, want),
+        "{left}, {right}"
     );
 }
 
 #[test]
 fn at_the_last_turn_of_a_heap_or_a_queue_one_comes_second(rt: HostRuntime) -> Result<(), Fail> {
+    let alloc = rt.alloc();
     for _ in 0..ROUNDS {
-        one_came_second(&rt, both_try(&rt, rt.alloc())?, object(1));
-        one_came_second(&rt, both_poll(&rt, rt.alloc())?, empty());
+        one_came_second(&rt, alloc, both_try(&rt, alloc)?, "object 1");
+        one_came_second(&rt, alloc, both_poll(&rt, alloc)?, "empty");
     }
     Ok(())
 }

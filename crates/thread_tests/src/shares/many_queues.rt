@@ -7,11 +7,9 @@ ghost use Rattle.thread_tests.specs.QueueLists.{AreSeated};
 
 use super::calls::{sent, stepped};
 use super::rows::{BEGIN, CLEAR_NEXT, END_CLEAR, END_MARK, SCAN, Sending, new, weak_for};
-use super::told::{
-    Told, began, cleared, delivered_to, done, doomed, enqueued, expect, nothing, object, scanned,
-};
+use super::told::expect;
 use super::{CONFIG, new_batch};
-use ref_base::{Config, HeapStep, ObjNo, PlainStep, QueueNo};
+use ref_base::{Config, HeapStep, ObjNo, PlainStep, QueueNo, Reply};
 use ref_share::{HeapSeat, QueueSeat, SharedHeap, SharedQueue, end_queue};
 use std::alloc::{AllocFailed, Global};
 use std::process::Abort;
@@ -107,20 +105,20 @@ pub fn make_references<R: Abort>(rt: &R, heap: &SharedHeap, seat: &mut HeapSeat,
     requires queues { queues ≤ 16 }
     ensures { IsHeapSeat heap.now seat.new }
 {
-    tell(rt, heap, seat, new(0), object(1));
+    tell(rt, heap, seat, new(0), Reply::Object(ObjNo(1)));
     for queue in 0..queues {
         let step = weak_for(slot_of(queue, queues), 0, queue);
-        tell(rt, heap, seat, step, object(queue + 2));
+        tell(rt, heap, seat, step, Reply::Object(ObjNo(queue + 2)));
     }
 }
 
 /// The step is answered so.
-fn tell<R: Abort>(rt: &R, heap: &SharedHeap, seat: &mut HeapSeat, step: PlainStep, want: Told)
+fn tell<R: Abort>(rt: &R, heap: &SharedHeap, seat: &mut HeapSeat, step: PlainStep, want: Reply)
     requires { IsHeapSeat heap.now seat.old }
     ensures { IsHeapSeat heap.now seat.new }
 {
     let told = stepped(heap.try_call(seat, HeapStep::Plain(step)));
-    expect(rt, 0, told, want);
+    assert!(rt; told.reply() == Some(want), "{told}, and not {want}");
 }
 
 /// The slot of the reference for this queue.
@@ -137,22 +135,28 @@ pub fn find_dead<R: Abort>(rt: &R, heap: &SharedHeap, seat: &mut HeapSeat, queue
     requires queues { 0 < queues × queues ≤ 16 }
     ensures { IsHeapSeat heap.now seat.new }
 {
-    tell(rt, heap, seat, BEGIN, began(1));
+    tell(rt, heap, seat, BEGIN, Reply::Cycle(1));
     for place in 0..queues {
-        tell(rt, heap, seat, SCAN, scanned(queue_at(place, queues) + 2));
+        tell(
+            rt,
+            heap,
+            seat,
+            SCAN,
+            Reply::Scanned(ObjNo(queue_at(place, queues) + 2)),
+        );
     }
-    tell(rt, heap, seat, SCAN, nothing());
-    tell(rt, heap, seat, END_MARK, doomed(1));
+    tell(rt, heap, seat, SCAN, Reply::Nothing);
+    tell(rt, heap, seat, END_MARK, Reply::Doomed(1));
     for place in 0..queues {
         tell(
             rt,
             heap,
             seat,
             CLEAR_NEXT,
-            cleared(queue_at(place, queues) + 2),
+            Reply::Cleared(ObjNo(queue_at(place, queues) + 2)),
         );
     }
-    tell(rt, heap, seat, END_CLEAR, done());
+    tell(rt, heap, seat, END_CLEAR, Reply::Done);
 }
 
 /// The queue whose reference is the one at this place in the order of slots.
@@ -170,7 +174,7 @@ fn send<R: Wait + Abort>(
     seat: &mut HeapSeat,
     lists: &mut Lists,
     sending: Sending,
-    want: Told,
+    want: &str,
 )
     requires { IsHeapSeat heap.now seat.old × AreSeated lists.old.queues.items lists.old.seats.items }
     ensures { IsHeapSeat heap.now seat.new × AreSeated lists.new.queues.items lists.new.seats.items }
@@ -184,7 +188,7 @@ fn send<R: Wait + Abort>(
         sending,
         batch,
     );
-    expect(rt, 0, told, want);
+    expect(rt, lists.alloc, 0, told, want);
 }
 
 /// A configuration with this many queues.
@@ -206,10 +210,20 @@ fn deliver_all<R: Wait + Abort>(rt: &R, alloc: Global, queues: u32) -> Result<()
     find_dead(rt, &heap, &mut seat, queues);
     for place in 0..queues {
         let queue = queue_at(place, queues);
-        let want = delivered_to(queue, queue + 2, 0);
-        send(rt, &heap, &mut seat, &mut lists, Sending::One(0), want);
+        let no = queue + 2;
+        let Ok(want) = format!(in alloc; "delivered {no} {queue} 0") else {
+            panic!(rt; "no memory for a text");
+        };
+        send(
+            rt,
+            &heap,
+            &mut seat,
+            &mut lists,
+            Sending::One(0),
+            want.as_str(),
+        );
     }
-    send(rt, &heap, &mut seat, &mut lists, Sending::One(0), nothing());
+    send(rt, &heap, &mut seat, &mut lists, Sending::One(0), "none");
     lists.end(rt, true);
     Ok(())
 }
@@ -223,8 +237,8 @@ fn enqueue_all<R: Wait + Abort>(rt: &R, alloc: Global, queues: u32) -> Result<()
     make_references(rt, &heap, &mut seat, queues);
     for queue in 0..queues {
         let sending = Sending::Enqueue(slot_of(queue, queues));
-        for want in [true, false] {
-            send(rt, &heap, &mut seat, &mut lists, sending, enqueued(want));
+        for want in ["enqueued", "not enqueued"] {
+            send(rt, &heap, &mut seat, &mut lists, sending, want);
         }
     }
     lists.end(rt, true);

@@ -10,13 +10,10 @@ use super::rows::{
     BEGIN, CLEAR_NEXT, Call, DELIVER, DELIVER_ALL, END_CLEAR, END_MARK, POLL, SCAN, deliver_batch,
     drop_slot, enqueue, new, step, weak,
 };
-use super::told::{
-    Told, added, began, cleared, delivered, done, doomed, empty, enqueued, nos, not_put, nothing,
-    object, outs, refused, registered, scanned, took, took_some,
-};
-use super::{CONFIG, M, Q, STARTS, Seats, death, make_calls, new_batch, start};
+use super::told::{Told, counted, expect};
+use super::{CONFIG, M, Q, Row, STARTS, Seats, death, make_calls, new_batch, start};
 use rationed::Rationed;
-use ref_base::{Done, Fault, SlotNo};
+use ref_base::{Fault, SlotNo};
 use ref_queue::Job;
 use ref_share::{SharedCleaner, SharedHeap, SharedQueue, end_queue, run_jobs_left};
 use std::alloc::{Allocator, Global};
@@ -109,19 +106,19 @@ fn what_finds_no_memory_is_not_made(rt: HostRuntime) -> Result<(), Fail> {
     Ok(())
 }
 
-/// A call behind a death, with a call that shows what stands then.
+/// What a call behind a death is told, a second call that shows what stands then, and the first once more.
+type Answers = [&'static str; 3];
+
 #[derive(Drop)]
 struct Trial<'a> {
     name: &'static str,
-    death: &'a [(Call, Told)],
+    death: &'a [Row],
     call: Call,
     next: Call,
-    /// What both are told where no request is refused.
-    done: (Told, Told),
-    /// What both may be told where one is: more stands in each than in those before.
-    refusals: &'a [(Told, Told)],
-    /// What the call is told once more where it was refused at first.
-    then: Told,
+    /// The answers where no request is refused.
+    done: Answers,
+    /// Those that there may be where the first call has one refused: in each more stands than in those before.
+    refusals: &'a [Answers],
 }
 
 /// What a call is told with so many requests met.
@@ -148,26 +145,7 @@ fn told_first<'a, R: Wait + Abort>(
     }
 }
 
-/// What the next call is told, and the first once more where it was refused.
-fn told_next<'a, R: Wait + Abort>(
-    rt: &R,
-    heap: &SharedHeap<&'a Rationed<Global>>,
-    queue: &SharedQueue<&'a Rationed<Global>>,
-    seats: &mut Seats<&'a Rationed<Global>>,
-    next: Call,
-    again: Option<Call>,
-) -> (Told, Option<Told>)
-    requires { IsHeapSeat heap.now seats.old.heap × IsQueueSeat queue.now seats.old.queue }
-    ensures { IsHeapSeat heap.now seats.new.heap × IsQueueSeat queue.now seats.new.queue }
-{
-    let told = answer(rt, heap, queue, seats, next);
-    match again {
-        Some(call) => (told, Some(answer(rt, heap, queue, seats, call))),
-        None => (told, None),
-    }
-}
-
-/// What the calls of a trial are told on this heap and this queue, which are new.
+/// What the calls of a trial are told on this heap and this queue, which are new, and whether a request was refused.
 fn told_on<'a, R: Wait + Abort>(
     rt: &R,
     heap: &SharedHeap<&'a Rationed<Global>>,
@@ -175,30 +153,32 @@ fn told_on<'a, R: Wait + Abort>(
     seats: &mut Seats<&'a Rationed<Global>>,
     trial: &Trial,
     met: u64,
-) -> ((Told, Told), Option<Told>)
+) -> ([Told; 3], bool)
     requires { IsHeapSeat heap.now seats.old.heap × IsQueueSeat queue.now seats.old.queue }
     ensures { IsHeapSeat heap.now seats.new.heap × IsQueueSeat queue.now seats.new.queue }
 {
     make_calls(rt, heap, queue, seats, trial.death);
-    let told = told_first(rt, heap, queue, seats, trial.call, met);
-    let again = if seats.alloc.lift() {
-        Some(trial.call)
-    } else {
-        None
-    };
-    let (next, then) = told_next(rt, heap, queue, seats, trial.next, again);
-    ((told, next), then)
+    let first = told_first(rt, heap, queue, seats, trial.call, met);
+    let was_refused = seats.alloc.lift();
+    let next = answer(rt, heap, queue, seats, trial.next);
+    let then = answer(rt, heap, queue, seats, trial.call);
+    ([first, next, then], was_refused)
 }
 
-/// The place of what both were told among what they may be told where a request is refused.
-fn place_of(rt: &impl Abort, trial: &Trial, met: u64, told: (Told, Told)) -> usize {
-    for (place, (first, next)) in trial.refusals.iter().enumerate() {
-        if told.0.is(first) && told.1.is(next) {
+/// Whether the calls were told this.
+fn are_so(alloc: &Rationed<Global>, told: &[Told; 3], want: &Answers) -> bool {
+    told[0].is(alloc, want[0]) && told[1].is(alloc, want[1]) && told[2].is(alloc, want[2])
+}
+
+/// The place of what the calls were told among what they may be told where a request is refused.
+fn place_of(rt: &impl Abort, alloc: &Rationed<Global>, trial: &Trial, told: &[Told; 3]) -> usize {
+    for (place, want) in trial.refusals.iter().enumerate() {
+        if are_so(alloc, told, want) {
             return place;
         }
     }
-    let name = trial.name;
-    panic!(rt; "{name} with {met} requests met: {told:?}")
+    let (name, first, next, then) = (trial.name, told[0], told[1], told[2]);
+    panic!(rt; "{name} is told {first}, the next {next}, and then {then}")
 }
 
 /// Makes the calls with each request refused in turn. Answers the place of what they were told at the last refusal.
@@ -210,36 +190,39 @@ fn refuse_each<R: Wait + Abort>(
     let mut place = 0;
     for met in 0..MOST {
         let (heap, queue, mut seats) = start(memory, STARTS)?;
-        let (told, then) = told_on(rt, &heap, &queue, &mut seats, trial, met);
+        let (told, was_refused) = told_on(rt, &heap, &queue, &mut seats, trial, met);
         end_queue(queue.finish(seats.queue));
-        let Some(then) = then else {
-            let is_done = told.0.is(&trial.done.0) && told.1.is(&trial.done.1);
-            assert!(rt; is_done, "{told:?} with {met} requests met");
-            are_few(rt, trial.name, met);
+        if !was_refused {
+            let name = trial.name;
+            assert!(rt;
+                are_so(memory, &told, &trial.done),
+                "{name} with {met} requests met"
+            );
+            are_few(rt, name, met);
             return Ok(place);
-        };
-        place = place_of(rt, trial, met, told);
-        assert!(rt; then.is(&trial.then), "there is memory then: {then:?}");
+        }
+        place = place_of(rt, memory, trial, &told);
     }
     panic!(rt; "a call makes too many requests")
 }
 
-/// A call that puts in the notice of reference 2 has it come back with each request refused in turn.
+/// A call that puts in the notice of reference 2 has it come back with each request refused in turn. What it is told
+/// once more, behind a poll, where it was not refused, and where it was.
 fn comes_back<R: Wait + Abort>(
     rt: &R,
     memory: &Rationed<Global>,
     name: &'static str,
     call: Call,
-    (added, then): (Told, Told),
+    done: &'static str,
+    (once_more, then): (&'static str, &'static str),
 ) -> Result<(), Fail> {
     let trial = Trial {
         name,
         death: &death(),
         call,
         next: POLL,
-        done: (added, took(2)),
-        refusals: &[(not_put(2, Fault::NoMemory), empty())],
-        then,
+        done: [done, "took 2", once_more],
+        refusals: &[["not put 2: NoMemory", "empty", then]],
     };
     refuse_each(rt, memory, &trial)?;
     Ok(())
@@ -247,85 +230,93 @@ fn comes_back<R: Wait + Abort>(
 
 #[test]
 fn a_notice_that_finds_no_memory_comes_back(rt: HostRuntime) -> Result<(), Fail> {
-    let memory = Rationed::new(rt.alloc());
-    let (put, is_put) = (Call::Put(1), (added(0), added(0)));
-    comes_back(&rt, &memory, "SharedQueue::put", put, is_put)?;
-    let is_enqueued = (enqueued(true), enqueued(true));
-    comes_back(&rt, &memory, "enqueue", enqueue(1), is_enqueued)?;
+    let memory = &Rationed::new(rt.alloc());
+    let put = Call::Put(1);
+    comes_back(
+        &rt,
+        memory,
+        "SharedQueue::put",
+        put,
+        "added 0",
+        ("already", "added 0"),
+    )?;
+    let twice = ("not enqueued", "enqueued");
+    comes_back(&rt, memory, "enqueue", enqueue(1), "enqueued", twice)?;
     // What came back is handed on no more.
-    let are_delivered = (delivered(2, 0), delivered(3, 0));
-    comes_back(&rt, &memory, "deliver_one", DELIVER, are_delivered)
-}
-
-/// A delivery of a batch, or of all that is pending, is refused, and these come back.
-fn left(numbers: &[u32]) -> Told {
-    refused(Fault::NoMemory).leaving(nos(numbers))
+    let twice = ("delivered 3 0 1", "delivered 3 0 0");
+    comes_back(
+        &rt,
+        memory,
+        "deliver_one",
+        DELIVER,
+        "delivered 2 0 0",
+        twice,
+    )
 }
 
 /// Nothing of what comes back is handed on once more.
 #[test]
 fn notices_of_a_batch_that_find_no_memory_come_back(rt: HostRuntime) -> Result<(), Fail> {
-    let memory = Rationed::new(rt.alloc());
     let trial = Trial {
         name: "deliver_batch",
         death: &death(),
         call: deliver_batch(32),
         next: Call::PollBatch(32),
-        done: (outs(0, &[Done::Added, Done::Added]), took_some(&[2, 3])),
-        refusals: &[(left(&[2, 3]), empty()), (left(&[3]), took_some(&[2]))],
-        then: nothing(),
+        done: ["added 0, added 1 behind 0", "took 2 3", "none"],
+        refusals: &[
+            ["refused: NoMemory left 2 3", "empty", "none"],
+            ["refused: NoMemory left 3", "took 2", "none"],
+        ],
     };
-    refuse_each(&rt, &memory, &trial)?;
+    refuse_each(&rt, &Rationed::new(rt.alloc()), &trial)?;
     Ok(())
 }
 
 /// A cycle finds object 1 dead. References 2 to 6 to it are in slots 1 to 5, and pending in this order.
-fn death_of_five() -> [(Call, Told); 21] {
+fn death_of_five() -> [Row; 21] {
     [
-        (step(new(0)), object(1)),
-        (step(weak(1, 0)), object(2)),
-        (step(weak(2, 0)), object(3)),
-        (step(weak(3, 0)), object(4)),
-        (step(weak(4, 0)), object(5)),
-        (step(weak(5, 0)), object(6)),
-        (step(drop_slot(0)), done()),
-        (step(BEGIN), began(1)),
-        (step(SCAN), scanned(2)),
-        (step(SCAN), scanned(3)),
-        (step(SCAN), scanned(4)),
-        (step(SCAN), scanned(5)),
-        (step(SCAN), scanned(6)),
-        (step(SCAN), nothing()),
-        (step(END_MARK), doomed(1)),
-        (step(CLEAR_NEXT), cleared(2)),
-        (step(CLEAR_NEXT), cleared(3)),
-        (step(CLEAR_NEXT), cleared(4)),
-        (step(CLEAR_NEXT), cleared(5)),
-        (step(CLEAR_NEXT), cleared(6)),
-        (step(END_CLEAR), done()),
+        (step(new(0)), "object 1"),
+        (step(weak(1, 0)), "object 2"),
+        (step(weak(2, 0)), "object 3"),
+        (step(weak(3, 0)), "object 4"),
+        (step(weak(4, 0)), "object 5"),
+        (step(weak(5, 0)), "object 6"),
+        (step(drop_slot(0)), "ok"),
+        (step(BEGIN), "cycle 1"),
+        (step(SCAN), "scanned 2"),
+        (step(SCAN), "scanned 3"),
+        (step(SCAN), "scanned 4"),
+        (step(SCAN), "scanned 5"),
+        (step(SCAN), "scanned 6"),
+        (step(SCAN), "none"),
+        (step(END_MARK), "doomed 1"),
+        (step(CLEAR_NEXT), "cleared 2"),
+        (step(CLEAR_NEXT), "cleared 3"),
+        (step(CLEAR_NEXT), "cleared 4"),
+        (step(CLEAR_NEXT), "cleared 5"),
+        (step(CLEAR_NEXT), "cleared 6"),
+        (step(END_CLEAR), "ok"),
     ]
 }
 
 #[test]
 fn where_memory_ends_in_the_middle_what_came_before_stands(rt: HostRuntime) -> Result<(), Fail> {
-    let memory = Rationed::new(rt.alloc());
     let trial = Trial {
         name: "deliver_all",
         death: &death_of_five(),
         call: DELIVER_ALL,
         next: Call::PollBatch(32),
-        done: (done(), took_some(&[2, 3, 4, 5, 6])),
+        done: ["ok", "took 2 3 4 5 6", "ok"],
         refusals: &[
-            (left(&[2, 3, 4, 5, 6]), empty()),
-            (left(&[3, 4, 5, 6]), took_some(&[2])),
-            (left(&[4, 5, 6]), took_some(&[2, 3])),
-            (left(&[5, 6]), took_some(&[2, 3, 4])),
-            (left(&[6]), took_some(&[2, 3, 4, 5])),
+            ["refused: NoMemory left 2 3 4 5 6", "empty", "ok"],
+            ["refused: NoMemory left 3 4 5 6", "took 2", "ok"],
+            ["refused: NoMemory left 4 5 6", "took 2 3", "ok"],
+            ["refused: NoMemory left 5 6", "took 2 3 4", "ok"],
+            ["refused: NoMemory left 6", "took 2 3 4 5", "ok"],
         ],
-        then: done(),
     };
     assert!(rt;
-        refuse_each(&rt, &memory, &trial)? > 0,
+        refuse_each(&rt, &Rationed::new(rt.alloc()), &trial)? > 0,
         "none is in the middle"
     );
     Ok(())
@@ -352,7 +343,7 @@ fn register_with<R: Wait>(
     };
     let was_refused = memory.lift();
     let told = match answer {
-        Ok(cleanable) => registered(cleanable.obj.0),
+        Ok(cleanable) => counted("registered", u64::from(cleanable.obj.0)),
         Err((fault, job)) => refusal(rt, &heap, &mut heap_seat, fault).with_job(job.number()),
     };
     run_jobs_left(cleaner.finish(seat));
@@ -370,11 +361,11 @@ fn register_each<R: Wait + Abort>(
     for met in 0..MOST {
         let (told, was_refused) = register_with(rt, memory, is_apart, met, adding(alloc, 1)?)?;
         let want = if was_refused {
-            refused(Fault::NoMemory).with_job(1)
+            "refused: NoMemory job 1"
         } else {
-            registered(2)
+            "registered 2"
         };
-        assert!(rt; told.is(&want), "{told:?} with {met} requests met");
+        expect(rt, alloc, 0, told, want);
         if !was_refused {
             return Ok(met);
         }

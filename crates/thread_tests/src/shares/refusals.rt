@@ -4,9 +4,6 @@ use super::rows::{
     CLOSE, Call, DELIVER, HEAP_SERVED, POLL, SERVED, Sending, WAIT, ask, drop_slot, enqueue, new,
     step, weak, weak_alone, within,
 };
-use super::told::{
-    enqueued, not_put, not_released, nothing, object, refused, served, spent, timed_out, was_open,
-};
 use super::{CONFIG, death, story};
 use ref_base::{Config, Fault};
 use ref_share::SharedHeap;
@@ -17,24 +14,24 @@ use std::test::Fail;
 fn what_is_not_there_is_refused(rt: HostRuntime) -> Result<(), Fail> {
     // A limit of polls is from 1 to a million.
     story(&[
-        (within(0), refused(Fault::BadConfig)),
-        (within(1_000_001), refused(Fault::BadConfig)),
-        (within(1), timed_out()),
-        (within(1_000_000), timed_out()),
-        (SERVED, served(1_000_001)),
+        (within(0), "refused: BadConfig"),
+        (within(1_000_001), "refused: BadConfig"),
+        (within(1), "timed out"),
+        (within(1_000_000), "timed out"),
+        (SERVED, "served 1000001"),
     ])
     .agree(&rt, rt.alloc())?;
     // What the heap refuses is told.
     story(&[
-        (step(new(0)), object(1)),
-        (step(weak_alone(1, 0)), object(2)),
-        (enqueue(1), enqueued(false)),
-        (enqueue(16), refused(Fault::NoSuchActor)),
-        (enqueue(5), refused(Fault::EmptySlot)),
-        (enqueue(0), refused(Fault::NotAReference)),
-        (Call::Send(Sending::One(1)), refused(Fault::NoSuchActor)),
-        (DELIVER, nothing()),
-        (SERVED, served(0)),
+        (step(new(0)), "object 1"),
+        (step(weak_alone(1, 0)), "object 2"),
+        (enqueue(1), "not enqueued"),
+        (enqueue(16), "refused: NoSuchActor"),
+        (enqueue(5), "refused: EmptySlot"),
+        (enqueue(0), "refused: NotAReference"),
+        (Call::Send(Sending::One(1)), "refused: NoSuchActor"),
+        (DELIVER, "none"),
+        (SERVED, "served 0"),
     ])
     .agree(&rt, rt.alloc())
 }
@@ -42,14 +39,14 @@ fn what_is_not_there_is_refused(rt: HostRuntime) -> Result<(), Fail> {
 #[test]
 fn what_no_queue_takes_comes_back(rt: HostRuntime) -> Result<(), Fail> {
     let alloc = rt.alloc();
-    let bad_queue = not_put(2, Fault::BadQueue);
+    let bad_queue = "not put 2: BadQueue";
     story(&death())
         .then(&[
             (Call::SendNowhere(Sending::Enqueue(1)), bad_queue),
             (Call::SendNowhere(Sending::One(0)), bad_queue),
         ])
         .agree(&rt, alloc)?;
-    let wrong_queue = not_put(2, Fault::WrongQueue);
+    let wrong_queue = "not put 2: WrongQueue";
     story(&death())
         .then(&[
             (Call::Put(1), wrong_queue),
@@ -58,7 +55,7 @@ fn what_no_queue_takes_comes_back(rt: HostRuntime) -> Result<(), Fail> {
         ])
         .at_another_queue()
         .agree(&rt, alloc)?;
-    let no_turn = not_put(2, Fault::TurnsSpent);
+    let no_turn = "not put 2: TurnsSpent";
     story(&death())
         .then(&[
             (Call::Put(1), no_turn),
@@ -72,24 +69,24 @@ fn what_no_queue_takes_comes_back(rt: HostRuntime) -> Result<(), Fail> {
 #[test]
 fn the_last_turn_is_made_once(rt: HostRuntime) -> Result<(), Fail> {
     story(&[
-        (CLOSE, was_open(true)),
-        (CLOSE, spent()),
-        (POLL, spent()),
-        (within(3), spent()),
-        (WAIT, spent()),
-        (within(0), refused(Fault::BadConfig)),
-        (SERVED, served(u64::MAX)),
+        (CLOSE, "was open"),
+        (CLOSE, "refused: TurnsSpent"),
+        (POLL, "refused: TurnsSpent"),
+        (within(3), "refused: TurnsSpent"),
+        (WAIT, "refused: TurnsSpent"),
+        (within(0), "refused: BadConfig"),
+        (SERVED, "served 18446744073709551615"),
     ])
     .queue_from(u64::MAX - 1)
     .agree(&rt, rt.alloc())?;
     story(&[
-        (step(new(0)), object(1)),
-        (step(drop_slot(0)), spent()),
-        (ask(drop_slot(0)), spent()),
-        (enqueue(1), spent()),
-        (DELIVER, spent()),
-        (HEAP_SERVED, served(u64::MAX)),
-        (SERVED, served(0)),
+        (step(new(0)), "object 1"),
+        (step(drop_slot(0)), "refused: TurnsSpent"),
+        (ask(drop_slot(0)), "refused: TurnsSpent"),
+        (enqueue(1), "refused: TurnsSpent"),
+        (DELIVER, "refused: TurnsSpent"),
+        (HEAP_SERVED, "served 18446744073709551615"),
+        (SERVED, "served 0"),
     ])
     .heap_from(u64::MAX - 1)
     .agree(&rt, rt.alloc())
@@ -99,17 +96,20 @@ fn the_last_turn_is_made_once(rt: HostRuntime) -> Result<(), Fail> {
 fn without_a_turn_for_the_release_the_hold_comes_back(rt: HostRuntime) -> Result<(), Fail> {
     // Two objects are made, and two unhooks.
     story(&[
-        (step(new(0)), object(1)),
-        (step(weak(1, 0)), object(2)),
-        (enqueue(1), enqueued(true)),
-        (enqueue(1), not_released(2)),
+        (step(new(0)), "object 1"),
+        (step(weak(1, 0)), "object 2"),
+        (enqueue(1), "enqueued"),
+        (enqueue(1), "not released 2: TurnsSpent"),
     ])
     .heap_from(u64::MAX - 4)
     .leaves(&[2], &[2])
     .agree(&rt, rt.alloc())?;
     // Twelve turns of the cycle, an unhook and a hand.
     story(&death())
-        .then(&[(enqueue(1), enqueued(true)), (DELIVER, not_released(2))])
+        .then(&[
+            (enqueue(1), "enqueued"),
+            (DELIVER, "not released 2: TurnsSpent"),
+        ])
         .heap_from(u64::MAX - 14)
         .leaves(&[2], &[2])
         .agree(&rt, rt.alloc())

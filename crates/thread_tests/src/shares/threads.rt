@@ -6,7 +6,7 @@ ghost use Rattle.ref_share.specs.QueueSeats.{IsQueueSeat};
 use super::calls::answer;
 use super::rows::{CLOSE, Call, DELIVER, WAIT, enqueue};
 use super::stories::two_references;
-use super::told::{Told, closed, delivered, enqueued, took, was_open};
+use super::told::Told;
 use super::{Seats, Story, death, make_calls, start, story};
 use ref_share::{QueueSeat, SharedHeap, SharedQueue};
 use std::alloc::Global;
@@ -142,13 +142,14 @@ fn agree_while_two_wait<R: Threads + Wait + Abort + Sync>(
     rt: &R,
     alloc: Global,
     story: &Story,
-    (one, other): (Told, Told),
+    (one, other): (&str, &str),
 ) -> Result<(), Fail> {
     let (heap, queue, seats) = start(alloc, story.starts)?;
     let (first, second, seats) = told_meanwhile(rt, &heap, &queue, seats, story);
     assert!(rt;
-        first.is(&one) && second.is(&other) || second.is(&one) && first.is(&other),
-        "{first:?}, {second:?}"
+        first.is(alloc, one) && second.is(alloc, other)
+            || second.is(alloc, one) && first.is(alloc, other),
+        "{first}, {second}"
     );
     assert!(rt;
         heap.finish(seats.heap).is_ok(),
@@ -159,19 +160,19 @@ fn agree_while_two_wait<R: Threads + Wait + Abort + Sync>(
 
 #[test]
 fn who_waits_is_told_what_comes_or_of_the_close(rt: HostRuntime) -> Result<(), Fail> {
-    let close = (CLOSE, was_open(true));
+    let close = (CLOSE, "was open");
     let alloc = rt.alloc();
     // A close wakes all that wait.
-    agree_while_two_wait(&rt, alloc, &story(&[close]), (closed(), closed()))?;
+    agree_while_two_wait(&rt, alloc, &story(&[close]), ("closed", "closed"))?;
     // What is put later goes to those that wait.
     let (death, deliveries) = (
         death(),
-        [(DELIVER, delivered(2, 0)), (DELIVER, delivered(3, 1))],
+        [(DELIVER, "delivered 2 0 0"), (DELIVER, "delivered 3 0 1")],
     );
     let both = story(&death).then(&deliveries).leaves(&[2, 3], &[]);
-    agree_while_two_wait(&rt, alloc, &both, (took(2), took(3)))?;
+    agree_while_two_wait(&rt, alloc, &both, ("took 2", "took 3"))?;
     // Who waits for more than comes is told of the close.
-    let (two, calls) = (two_references(), [(enqueue(1), enqueued(true)), close]);
+    let (two, calls) = (two_references(), [(enqueue(1), "enqueued"), close]);
     let one = story(&two).then(&calls).leaves(&[2], &[]);
-    agree_while_two_wait(&rt, alloc, &one, (took(2), closed()))
+    agree_while_two_wait(&rt, alloc, &one, ("took 2", "closed"))
 }

@@ -15,7 +15,6 @@ ghost use Rattle.thread_tests.specs.QueueRows.{queue_row};
 
 use crate::shares::many_queues::{Lists, find_dead, make_references, with};
 use crate::shares::rows::CLOSE;
-use crate::shares::told::was_open;
 use crate::shares::{M, STARTS, Seats, W, death, make_calls, start};
 use rationed::Rationed;
 use ref_base::{Batch, Fault, Parcel, SlotNo};
@@ -158,7 +157,7 @@ fn sent_without_memory<'a, R: Wait + Abort>(
     let first = is_in_vain(rt, heap, queue, seats);
     let left = keeps_what_found_no_memory(rt, heap, queue, seats, batch);
     memory.lift();
-    make_calls(rt, heap, queue, seats, &[(CLOSE, was_open(true))]);
+    make_calls(rt, heap, queue, seats, &[(CLOSE, "was open")]);
     let last = is_in_vain(rt, heap, queue, seats);
     Ok((first, left, last))
 }
@@ -213,14 +212,9 @@ fn sent_to<R: Wait + Abort>(
 #[test]
 fn a_queue_that_stands_in_the_lists_is_found(rt: HostRuntime) -> Result<(), Fail> {
     for is_dead in [false, true] {
-        assert!(rt;
-            sent_to(&rt, rt.alloc(), 2, is_dead)? == [None, None],
-            "both stand"
-        );
-        assert!(rt;
-            sent_to(&rt, rt.alloc(), 1, is_dead)? == [Some(true), None],
-            "the first stands"
-        );
+        // Both stand in the lists, or the first.
+        assert!(rt; sent_to(&rt, rt.alloc(), 2, is_dead)? == [None, None]);
+        assert!(rt; sent_to(&rt, rt.alloc(), 1, is_dead)? == [Some(true), None]);
     }
     Ok(())
 }

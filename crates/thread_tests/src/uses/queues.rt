@@ -197,7 +197,7 @@ fn is_open_without_a_turn(queue: SharedQueue, seat: QueueSeat) -> Option<bool>
 #[test]
 fn a_queue_that_was_closed_stays_so(rt: HostRuntime) -> Result<(), Fail> {
     let (queue, mut seat) = SharedQueue::new(rt.alloc(), Q)?;
-    let is_in_vain = polls_twice(&rt, &queue, &mut seat);
+    assert!(rt; polls_twice(&rt, &queue, &mut seat));
     let was_open = match closes_once(&rt, &queue, &mut seat) {
         Ok(was_open) => Some(was_open),
         Err(fault) => {
@@ -207,19 +207,8 @@ fn a_queue_that_was_closed_stays_so(rt: HostRuntime) -> Result<(), Fail> {
     };
     let is_refused = refuses_a_million_polls(&rt, &queue, &mut seat);
     let is_open = is_open_once_closed(&rt, queue, seat);
-    for (fact, holds) in [
-        ("it has nothing", is_in_vain),
-        ("it is closed once", was_open == Some(false)),
-        ("it may be polled a million times", !is_refused),
-        ("it is closed in the end", is_open == Some(false)),
-    ] {
-        assert!(rt; holds, "{fact}");
-    }
-    Ok(())
-}
-
-#[test]
-fn a_queue_that_was_not_closed_is_open(rt: HostRuntime) -> Result<(), Fail> {
+    assert!(rt; was_open == Some(false) && !is_refused && is_open == Some(false));
+    // And one that was not closed is open.
     let (queue, seat) = SharedQueue::starting(rt.alloc(), Q, u64::MAX)?;
     assert!(rt; is_open_without_a_turn(queue, seat) == Some(true));
     Ok(())
@@ -282,17 +271,7 @@ fn is_told<R: Wait>(rt: &R, alloc: Global) -> Result<bool, Fault> {
 
 #[test]
 fn a_put_tells_why_it_adds_nothing(rt: HostRuntime) {
-    for (fact, holds) in [
-        (
-            "its own is added",
-            own_in(&rt, rt.alloc(), Q) == Ok(Some(true)),
-        ),
-        (
-            "what is another queue's is not",
-            own_in(&rt, rt.alloc(), QueueNo(1)) == Ok(None),
-        ),
-        ("turns are spent", is_told(&rt, rt.alloc()) == Ok(true)),
-    ] {
-        assert!(rt; holds, "{fact}");
-    }
+    assert!(rt; own_in(&rt, rt.alloc(), Q) == Ok(Some(true)));
+    assert!(rt; own_in(&rt, rt.alloc(), QueueNo(1)) == Ok(None));
+    assert!(rt; is_told(&rt, rt.alloc()) == Ok(true));
 }

@@ -7,7 +7,7 @@ ghost use Rattle.ref_share.specs.QueueSeats.{IsQueueSeat};
 use super::hearing::Hearing;
 use crate::shares::calls::{answer, refusal};
 use crate::shares::rows::{Call, Cleaning};
-use crate::shares::told::{Told, no_job, ran, ran_jobs, ran_unheld, registered, served, unknown};
+use crate::shares::told::{Told, counted, numbered, word};
 use crate::shares::{M, Seats};
 use ref_base::{ObjNo, SlotNo};
 use ref_queue::Job;
@@ -53,7 +53,7 @@ fn register<R: Wait>(
     let own = &mut chair.cleaner;
     let seat = &mut chair.seats.heap;
     match cleaner.register(rt, own, heap, seat, M, SlotNo(source), SlotNo(slot), job) {
-        Ok(cleanable) => registered(cleanable.obj.0),
+        Ok(cleanable) => counted("registered", u64::from(cleanable.obj.0)),
         Err((fault, job)) => refusal(rt, heap, seat, fault).with_job(job.number()),
     }
 }
@@ -61,12 +61,13 @@ fn register<R: Wait>(
 /// What a clean did. A hold that came back is given up.
 pub fn of_clean(cleaned: Cleaned) -> Told {
     match cleaned {
-        Cleaned::Gone => no_job(),
-        Cleaned::Ran(job, None) => ran(job.number, job.answer),
+        Cleaned::Gone => word("no job"),
+        Cleaned::Ran(job, None) => numbered("ran", [Some(job.number), Some(job.answer), None]),
         Cleaned::Ran(job, Some(hold)) => {
-            let unheld = hold.obj().0;
+            let unheld = u64::from(hold.obj().0);
             hold.leak();
-            ran_unheld(job.number, job.answer, unheld)
+            let numbers = [Some(job.number), Some(job.answer), Some(unheld)];
+            numbered("ran unheld", numbers)
         }
     }
 }
@@ -124,7 +125,7 @@ pub fn run_jobs<R: Wait>(
         cleaner.clean_some(rt, own, heap, heap_seat, queue, queue_seat, hearing)
     };
     match answer {
-        Ok(count) => ran_jobs(count),
+        Ok(count) => counted("ran jobs", count),
         Err(fault) => refusal(rt, heap, heap_seat, fault),
     }
 }
@@ -148,13 +149,16 @@ pub fn told_of_call<R: Wait + Abort>(
     match call {
         Call::Clean(Cleaning::Register(source, slot)) => match jobs.pop_front() {
             Some(job) => register(rt, shared, chair, job, source, slot),
-            None => no_job(),
+            None => word("no job"),
         },
         Call::Clean(Cleaning::Clean(reference, slot)) => clean(rt, shared, chair, reference, slot),
         Call::Clean(Cleaning::Loop) => run_jobs(rt, shared, chair, hearing, true),
         Call::Clean(Cleaning::Some) => run_jobs(rt, shared, chair, hearing, false),
-        Call::Clean(Cleaning::Served) => served(shared.cleaner.served(&mut chair.cleaner)),
-        Call::Clean(_) => unknown(),
+        Call::Clean(Cleaning::Served) => counted(
+            "served",
+            shared.cleaner.served(&mut chair.cleaner),
+        ),
+        Call::Clean(_) => word("unknown"),
         call => answer(rt, shared.heap, shared.queue, &mut chair.seats, call),
     }
 }

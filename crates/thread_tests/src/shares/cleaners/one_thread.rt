@@ -10,12 +10,9 @@ use crate::shares::rows::{
     CLEAN_SOME, Call, Cleaning, OfHeap, Sending, ask, clean, clear, cycle, drop_slot, get,
     make_or_collect, new, perform, refers_to, register, soft, urgent, weak,
 };
-use crate::shares::told::{
-    Told, came_out, done, expect, is_registered, no_job, object, ran, ran_jobs, refers, refused,
-    registered, unknown,
-};
-use crate::shares::{CONFIG, M, new_batch};
-use ref_base::{Config, Fault, ObjNo, PlainStep, SlotNo};
+use crate::shares::told::{Told, counted, either, expect, replied, word};
+use crate::shares::{CONFIG, M, Row, new_batch};
+use ref_base::{Config, Fault, ObjNo, PlainStep, Reply, SlotNo};
 use ref_queue::Job;
 use ref_share::{Cleanable, CleanedHeap, end_batch};
 use std::alloc::Global;
@@ -51,7 +48,7 @@ fn of_heap<R: Wait>(rt: &R, heap: &mut CleanedHeap, call: OfHeap) -> Told
             },
         ) => reply_or_fault(heap.refers_to(rt, reference, other)),
         OfHeap::Perform(step) => reply_or_fault(heap.perform(rt, step)),
-        _ => unknown(),
+        _ => word("unknown"),
     }
 }
 
@@ -73,11 +70,11 @@ fn sent<R: Wait + Abort>(rt: &R, alloc: Global, heap: &mut CleanedHeap, sending:
             let (cycled, left) = heap.cycle(rt, now, urgency, new_batch(rt, alloc));
             end_batch(left);
             match cycled {
-                Ok(()) => done(),
+                Ok(()) => replied(Reply::Done),
                 Err(fault) => given_up(fault),
             }
         }
-        _ => unknown(),
+        _ => word("unknown"),
     }
 }
 
@@ -93,7 +90,7 @@ fn registered_with<R: Wait>(
     ensures { HasSeats heap.new }
 {
     match heap.register(rt, SlotNo(source), SlotNo(slot), job) {
-        Ok(cleanable) => registered(cleanable.obj.0),
+        Ok(cleanable) => counted("registered", u64::from(cleanable.obj.0)),
         Err((fault, job)) => given_up(fault).with_job(job.number()),
     }
 }
@@ -104,12 +101,12 @@ fn unregistered<R: Wait>(rt: &R, heap: &mut CleanedHeap, cleanable: Cleanable) -
     ensures { HasSeats heap.new }
 {
     match heap.unregister(rt, cleanable) {
-        Ok(Some((job, None))) => came_out(job.number()),
+        Ok(Some((job, None))) => counted("came out", job.number()),
         Ok(Some((_job, Some(hold)))) => {
             hold.leak();
-            unknown()
+            word("unknown")
         }
-        Ok(None) => no_job(),
+        Ok(None) => word("no job"),
         Err(fault) => given_up(fault),
     }
 }
@@ -128,7 +125,7 @@ fn cleaned<R: Wait>(
     match call {
         Cleaning::Register(source, slot) => match jobs.pop_front() {
             Some(job) => registered_with(rt, heap, job, source, slot),
-            None => no_job(),
+            None => word("no job"),
         },
         Cleaning::Clean(no, slot) => {
             match heap.clean(rt, SlotNo(slot), Cleanable { obj: ObjNo(no) }) {
@@ -138,14 +135,14 @@ fn cleaned<R: Wait>(
         }
         Cleaning::Unregister(no) => unregistered(rt, heap, Cleanable { obj: ObjNo(no) }),
         Cleaning::IsRegistered(no) => match heap.is_registered(rt, Cleanable { obj: ObjNo(no) }) {
-            Ok(answer) => is_registered(answer),
+            Ok(answer) => either(answer, "registered", "not registered"),
             Err(fault) => given_up(fault),
         },
         Cleaning::Some => match heap.clean_some(rt, hearing) {
-            Ok(count) => ran_jobs(count),
+            Ok(count) => counted("ran jobs", count),
             Err(fault) => given_up(fault),
         },
-        _ => unknown(),
+        _ => word("unknown"),
     }
 }
 
@@ -165,7 +162,7 @@ fn answered<R: Wait + Abort>(
         Call::Heap(call) => of_heap(rt, heap, call),
         Call::Send(sending) => sent(rt, alloc, heap, sending),
         Call::Clean(call) => cleaned(rt, heap, jobs, hearing, call),
-        _ => unknown(),
+        _ => word("unknown"),
     }
 }
 
@@ -174,7 +171,7 @@ fn answered<R: Wait + Abort>(
 struct Story<'a> {
     /// The jobs, in the order in which they are registered.
     jobs: &'a [u32],
-    calls: &'a [(Call, Told)],
+    calls: &'a [Row],
     /// How often job 1 was run by a `clean_some`. No other job is.
     heard: u64,
     /// How many notices stand in the end.
@@ -189,13 +186,13 @@ fn use_all<R: Wait + Abort>(
     alloc: Global,
     jobs: VecDeque<Job>,
     hearing: &Hearing,
-    calls: &[(Call, Told)],
+    calls: &[Row],
 ) -> Result<usize, Fail> {
     let mut jobs = jobs;
     let mut heap = CleanedHeap::new(alloc, CONFIG)?;
     for (row, &(call, want)) in calls.iter().enumerate() {
         let told = answered(rt, alloc, &mut heap, &mut jobs, hearing, call);
-        expect(rt, row, told, want);
+        expect(rt, alloc, row, told, want);
     }
     Ok(heap.end())
 }
@@ -213,16 +210,6 @@ fn agree<R: Wait + Abort>(rt: &R, alloc: Global, story: &Story) -> Result<(), Fa
         "actions called"
     );
     Ok(())
-}
-
-/// Registers the next job for what the slot holds.
-const fn register_for(slot: u32) -> Call {
-    register(slot, WAY)
-}
-
-/// Runs the job of this reference.
-const fn clean_job(reference: u32) -> Call {
-    clean(reference, WAY)
 }
 
 const fn unregister(reference: u32) -> Call {
@@ -248,19 +235,19 @@ fn a_program_of_one_thread_runs_the_jobs_of_what_died(rt: HostRuntime) -> Result
     let story = Story {
         jobs: &[1, 2, 3],
         calls: &[
-            (perform(new(0)), object(1)),
-            (register_for(0), registered(2)),
-            (cycle(5), done()),
-            (CLEAN_SOME, ran_jobs(0)),
-            (perform(drop_slot(0)), done()),
-            (cycle(5), done()),
-            (perform(new(3)), object(3)),
-            (CLEAN_SOME, ran_jobs(1)),
-            (CLEAN_SOME, ran_jobs(0)),
-            (perform(drop_slot(16)), refused(Fault::NoSuchActor)),
-            (cycle(4), refused(Fault::ClockBack)),
-            (register_for(0), refused(Fault::EmptySlot).with_job(2)),
-            (register_for(3), registered(4)),
+            (perform(new(0)), "object 1"),
+            (register(0, WAY), "registered 2"),
+            (cycle(5), "ok"),
+            (CLEAN_SOME, "ran jobs 0"),
+            (perform(drop_slot(0)), "ok"),
+            (cycle(5), "ok"),
+            (perform(new(3)), "object 3"),
+            (CLEAN_SOME, "ran jobs 1"),
+            (CLEAN_SOME, "ran jobs 0"),
+            (perform(drop_slot(16)), "refused: NoSuchActor"),
+            (cycle(4), "refused: ClockBack"),
+            (register(0, WAY), "refused: EmptySlot job 2"),
+            (register(3, WAY), "registered 4"),
         ],
         heard: 1,
         standing: 0,
@@ -275,23 +262,23 @@ fn a_job_is_cleaned_by_hand_or_taken_out_once(rt: HostRuntime) -> Result<(), Fai
     let story = Story {
         jobs: &[1, 2, 3],
         calls: &[
-            (perform(new(0)), object(1)),
-            (register_for(0), registered(2)),
-            (register_for(0), registered(3)),
-            (register_for(0), registered(4)),
+            (perform(new(0)), "object 1"),
+            (register(0, WAY), "registered 2"),
+            (register(0, WAY), "registered 3"),
+            (register(0, WAY), "registered 4"),
             // The reference is in no slot, so that nobody can clear it.
-            (perform(clear(WAY)), refused(Fault::EmptySlot)),
-            (has_job(2), is_registered(true)),
-            (unregister(2), came_out(1)),
-            (has_job(2), is_registered(false)),
-            (unregister(2), no_job()),
-            (clean_job(2), no_job()),
-            (clean_job(3), ran(2, 1002)),
-            (clean_job(3), no_job()),
-            (unregister(3), no_job()),
-            (perform(drop_slot(0)), done()),
-            (cycle(5), done()),
-            (has_job(4), is_registered(true)),
+            (perform(clear(WAY)), "refused: EmptySlot"),
+            (has_job(2), "registered"),
+            (unregister(2), "came out 1"),
+            (has_job(2), "not registered"),
+            (unregister(2), "no job"),
+            (clean(2, WAY), "no job"),
+            (clean(3, WAY), "ran 2 1002"),
+            (clean(3, WAY), "no job"),
+            (unregister(3), "no job"),
+            (perform(drop_slot(0)), "ok"),
+            (cycle(5), "ok"),
+            (has_job(4), "registered"),
         ],
         heard: 0,
         // That of reference 4, whose job is left. The others went with their jobs.
@@ -306,7 +293,7 @@ fn agree_without<R: Wait + Abort>(
     rt: &R,
     alloc: Global,
     standing: usize,
-    calls: &[(Call, Told)],
+    calls: &[Row],
 ) -> Result<(), Fail> {
     let story = Story {
         jobs: &[],
@@ -323,30 +310,30 @@ fn a_cache_of_soft_references_is_emptied_before_there_is_no_cell(
     rt: HostRuntime,
 ) -> Result<(), Fail> {
     let calls = [
-        (perform(new(0)), object(1)),
-        (soft_to_0(1), object(2)),
-        (perform(new(0)), object(3)),
-        (soft_to_0(2), object(4)),
-        (perform(new(0)), object(5)),
-        (soft_to_0(3), object(6)),
-        (make_or_collect(0), object(7)),
-        (perform(weak(4, 0)), object(8)),
+        (perform(new(0)), "object 1"),
+        (soft_to_0(1), "object 2"),
+        (perform(new(0)), "object 3"),
+        (soft_to_0(2), "object 4"),
+        (perform(new(0)), "object 5"),
+        (soft_to_0(3), "object 6"),
+        (make_or_collect(0), "object 7"),
+        (perform(weak(4, 0)), "object 8"),
         // All eight cells are taken. What slot 0 held is kept by nothing but the weak reference.
-        (perform(drop_slot(0)), done()),
-        (make_or_collect(0), object(9)),
-        (is_null(4), refers(true)),
-        (is_null(1), refers(false)),
-        (is_null(3), refers(false)),
+        (perform(drop_slot(0)), "ok"),
+        (make_or_collect(0), "object 9"),
+        (is_null(4), "true"),
+        (is_null(1), "false"),
+        (is_null(3), "false"),
         // A normal cycle keeps each soft referent, and an urgent one none.
-        (make_or_collect(5), object(10)),
-        (is_null(1), refers(true)),
-        (is_null(2), refers(true)),
-        (is_null(3), refers(true)),
-        (make_or_collect(6), object(11)),
-        (make_or_collect(7), object(12)),
-        (make_or_collect(8), refused(Fault::NoCell)),
-        (perform(drop_slot(6)), done()),
-        (make_or_collect(8), object(13)),
+        (make_or_collect(5), "object 10"),
+        (is_null(1), "true"),
+        (is_null(2), "true"),
+        (is_null(3), "true"),
+        (make_or_collect(6), "object 11"),
+        (make_or_collect(7), "object 12"),
+        (make_or_collect(8), "refused: NoCell"),
+        (perform(drop_slot(6)), "ok"),
+        (make_or_collect(8), "object 13"),
     ];
     agree_without(&rt, rt.alloc(), 4, &calls)
 }
@@ -356,21 +343,21 @@ fn a_soft_reference_is_kept_by_its_span_and_by_no_urgent_cycle(
     rt: HostRuntime,
 ) -> Result<(), Fail> {
     let calls = [
-        (perform(new(0)), object(1)),
-        (soft_to_0(1), object(2)),
-        (perform(new(0)), object(3)),
-        (soft_to_0(2), object(4)),
-        (perform(drop_slot(0)), done()),
-        (cycle(10), done()),
-        (is_null(1), refers(false)),
+        (perform(new(0)), "object 1"),
+        (soft_to_0(1), "object 2"),
+        (perform(new(0)), "object 3"),
+        (soft_to_0(2), "object 4"),
+        (perform(drop_slot(0)), "ok"),
+        (cycle(10), "ok"),
+        (is_null(1), "false"),
         // It gets the clock of now as its stamp.
-        (perform(get(0, 2)), object(3)),
-        (perform(drop_slot(0)), done()),
-        (cycle(11), done()),
-        (is_null(1), refers(true)),
-        (is_null(2), refers(false)),
-        (urgent(11), done()),
-        (is_null(2), refers(true)),
+        (perform(get(0, 2)), "object 3"),
+        (perform(drop_slot(0)), "ok"),
+        (cycle(11), "ok"),
+        (is_null(1), "true"),
+        (is_null(2), "false"),
+        (urgent(11), "ok"),
+        (is_null(2), "true"),
     ];
     agree_without(&rt, rt.alloc(), 2, &calls)
 }
@@ -396,7 +383,7 @@ fn a_cleaned_heap_is_heap_0(rt: HostRuntime) -> Result<(), Fail> {
     let made = reply_or_fault(heap.make(&rt, SlotNo(0), 0));
     let number = number_of_heap(&rt, &mut heap);
     let standing = heap.end();
-    assert!(rt; made.is(&object(1)), "{made:?}");
+    assert!(rt; made.is(rt.alloc(), "object 1"), "{made}");
     assert!(rt; number == Some(0), "the heap has another number");
     assert!(rt; standing == 0, "{standing} notices stand");
     Ok(())

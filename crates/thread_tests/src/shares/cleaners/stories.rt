@@ -5,56 +5,52 @@ use crate::shares::rows::{
     BEGIN, CLEAN_LOOP, CLEAN_SOME, CLEANER_SERVED, CLEAR_NEXT, CLOSE, DELIVER, END_CLEAR, END_MARK,
     SCAN, ask, clean, drop_slot, enqueue, new, register, step, weak,
 };
-use crate::shares::told::{
-    began, cleared, delivered, done, doomed, enqueued, no_job, not_released, nothing, object, ran,
-    ran_jobs, ran_unheld, refused, registered, scanned, served, spent, was_open,
-};
 use ref_base::Fault;
 use std::test::Fail;
 
 #[test]
 fn each_job_runs_once_by_hand_or_by_one_of_two_threads(rt: HostRuntime) -> Result<(), Fail> {
     let calls = [
-        (step(new(0)), object(1)),
-        (register(0, 1), registered(2)),
-        (clean(2, 16), refused(Fault::NoSuchActor)),
-        (clean(2, 3), ran(3, 1003)),
-        (clean(2, 3), no_job()),
-        (step(drop_slot(0)), done()),
-        (step(drop_slot(1)), done()),
-        (step(new(4)), object(3)),
-        (register(4, 5), registered(4)),
-        (step(new(6)), object(5)),
-        (register(6, 7), registered(6)),
-        (step(drop_slot(4)), done()),
-        (step(drop_slot(6)), done()),
-        (step(BEGIN), began(1)),
-        (step(SCAN), scanned(4)),
-        (step(SCAN), scanned(6)),
-        (step(SCAN), nothing()),
-        (step(END_MARK), doomed(4)),
-        (step(CLEAR_NEXT), cleared(4)),
-        (step(CLEAR_NEXT), cleared(6)),
-        (step(END_CLEAR), done()),
+        (step(new(0)), "object 1"),
+        (register(0, 1), "registered 2"),
+        (clean(2, 16), "refused: NoSuchActor"),
+        (clean(2, 3), "ran 3 1003"),
+        (clean(2, 3), "no job"),
+        (step(drop_slot(0)), "ok"),
+        (step(drop_slot(1)), "ok"),
+        (step(new(4)), "object 3"),
+        (register(4, 5), "registered 4"),
+        (step(new(6)), "object 5"),
+        (register(6, 7), "registered 6"),
+        (step(drop_slot(4)), "ok"),
+        (step(drop_slot(6)), "ok"),
+        (step(BEGIN), "cycle 1"),
+        (step(SCAN), "scanned 4"),
+        (step(SCAN), "scanned 6"),
+        (step(SCAN), "none"),
+        (step(END_MARK), "doomed 4"),
+        (step(CLEAR_NEXT), "cleared 4"),
+        (step(CLEAR_NEXT), "cleared 6"),
+        (step(END_CLEAR), "ok"),
     ];
     let story = Story {
         meanwhile: &[
-            (DELIVER, delivered(4, 0)),
-            (DELIVER, delivered(6, 1)),
-            (CLOSE, was_open(true)),
+            (DELIVER, "delivered 4 0 0"),
+            (DELIVER, "delivered 6 0 1"),
+            (CLOSE, "was open"),
         ],
         held: &[
-            (ask(new(8)), object(7)),
-            (register(8, 9), registered(8)),
-            (clean(8, 3), ran(4, 1004)),
+            (ask(new(8)), "object 7"),
+            (register(8, 9), "registered 8"),
+            (clean(8, 3), "ran 4 1004"),
         ],
         count: 2,
         then: &[
-            (clean(2, 3), no_job()),
-            (clean(4, 3), no_job()),
-            (clean(6, 3), no_job()),
-            (DELIVER, nothing()),
-            (CLEANER_SERVED, served(12)),
+            (clean(2, 3), "no job"),
+            (clean(4, 3), "no job"),
+            (clean(6, 3), "no job"),
+            (DELIVER, "none"),
+            (CLEANER_SERVED, "served 12"),
         ],
         ..story(&calls)
     };
@@ -69,13 +65,13 @@ fn each_job_runs_once_by_hand_or_by_one_of_two_threads(rt: HostRuntime) -> Resul
 fn jobs_run_whose_notices_stand(rt: HostRuntime) -> Result<(), Fail> {
     // A notice without a job counts for nothing.
     story(&[
-        (step(new(0)), object(1)),
-        (step(weak(1, 0)), object(2)),
-        (register(0, 2), registered(3)),
-        (enqueue(1), enqueued(true)),
-        (enqueue(2), enqueued(true)),
-        (CLOSE, was_open(true)),
-        (CLEAN_LOOP, ran_jobs(1)),
+        (step(new(0)), "object 1"),
+        (step(weak(1, 0)), "object 2"),
+        (register(0, 2), "registered 3"),
+        (enqueue(1), "enqueued"),
+        (enqueue(2), "enqueued"),
+        (CLOSE, "was open"),
+        (CLEAN_LOOP, "ran jobs 1"),
     ])
     .with_jobs(&[1])
     .hears(1, 0)
@@ -83,17 +79,17 @@ fn jobs_run_whose_notices_stand(rt: HostRuntime) -> Result<(), Fail> {
     .agree(&rt, rt.alloc())?;
     // They run without waiting.
     story(&[
-        (step(new(0)), object(1)),
-        (CLEAN_SOME, ran_jobs(0)),
-        (register(0, 1), registered(2)),
-        (register(0, 2), registered(3)),
-        (CLEAN_SOME, ran_jobs(0)),
-        (enqueue(1), enqueued(true)),
-        (enqueue(2), enqueued(true)),
-        (CLEAN_SOME, ran_jobs(2)),
-        (CLEAN_SOME, ran_jobs(0)),
-        (CLOSE, was_open(true)),
-        (CLEAN_SOME, ran_jobs(0)),
+        (step(new(0)), "object 1"),
+        (CLEAN_SOME, "ran jobs 0"),
+        (register(0, 1), "registered 2"),
+        (register(0, 2), "registered 3"),
+        (CLEAN_SOME, "ran jobs 0"),
+        (enqueue(1), "enqueued"),
+        (enqueue(2), "enqueued"),
+        (CLEAN_SOME, "ran jobs 2"),
+        (CLEAN_SOME, "ran jobs 0"),
+        (CLOSE, "was open"),
+        (CLEAN_SOME, "ran jobs 0"),
     ])
     .with_jobs(&[1, 2])
     .hears(1, 1)
@@ -105,22 +101,22 @@ fn jobs_run_whose_notices_stand(rt: HostRuntime) -> Result<(), Fail> {
 fn what_is_refused_gives_the_job_back(rt: HostRuntime) -> Result<(), Fail> {
     // The heap refuses.
     story(&[
-        (register(0, 1), refused(Fault::EmptySlot).with_job(0)),
-        (register(16, 1), refused(Fault::NoSuchActor).with_job(1)),
-        (CLEANER_SERVED, served(0)),
+        (register(0, 1), "refused: EmptySlot job 0"),
+        (register(16, 1), "refused: NoSuchActor job 1"),
+        (CLEANER_SERVED, "served 0"),
     ])
     .with_jobs(&[0, 1])
     .agree(&rt, rt.alloc())?;
     // The first register takes the cleaner's last turn.
     story(&[
-        (step(new(0)), object(1)),
-        (register(0, 1), registered(2)),
-        (clean(2, 3), spent()),
-        (register(0, 3), spent().with_job(2)),
-        (enqueue(1), enqueued(true)),
-        (CLOSE, was_open(true)),
-        (CLEAN_LOOP, spent()),
-        (CLEANER_SERVED, served(u64::MAX)),
+        (step(new(0)), "object 1"),
+        (register(0, 1), "registered 2"),
+        (clean(2, 3), "refused: TurnsSpent"),
+        (register(0, 3), "refused: TurnsSpent job 2"),
+        (enqueue(1), "enqueued"),
+        (CLOSE, "was open"),
+        (CLEAN_LOOP, "refused: TurnsSpent"),
+        (CLEANER_SERVED, "served 18446744073709551615"),
     ])
     .cleaner_from(u64::MAX - 1)
     .with_jobs(&[1, 2])
@@ -128,8 +124,8 @@ fn what_is_refused_gives_the_job_back(rt: HostRuntime) -> Result<(), Fail> {
     .agree(&rt, rt.alloc())?;
     // An object, a reference and its hold are the heap's last turns.
     story(&[
-        (step(new(0)), object(1)),
-        (register(0, 1), not_released(2).with_job(1)),
+        (step(new(0)), "object 1"),
+        (register(0, 1), "not released 2: TurnsSpent job 1"),
     ])
     .heap_from(u64::MAX - 3)
     .cleaner_from(u64::MAX)
@@ -139,11 +135,11 @@ fn what_is_refused_gives_the_job_back(rt: HostRuntime) -> Result<(), Fail> {
 
 #[test]
 fn without_a_turn_of_the_heap_a_job_still_runs(rt: HostRuntime) -> Result<(), Fail> {
-    let first = (step(new(0)), object(1));
-    let register = (register(0, 1), registered(2));
-    let put_in = (enqueue(1), enqueued(true));
-    let close = (CLOSE, was_open(true));
-    let unheld = (clean(2, 3), ran_unheld(1, 1001, 2));
+    let first = (step(new(0)), "object 1");
+    let register = (register(0, 1), "registered 2");
+    let put_in = (enqueue(1), "enqueued");
+    let close = (CLOSE, "was open");
+    let unheld = (clean(2, 3), "ran unheld 1 1001 2");
     // An object, a reference and its hold are the last turns.
     story(&[first, register, unheld])
         .heap_from(u64::MAX - 3)
@@ -151,14 +147,14 @@ fn without_a_turn_of_the_heap_a_job_still_runs(rt: HostRuntime) -> Result<(), Fa
         .ends(1, 0)
         .agree(&rt, rt.alloc())?;
     // Or they and an unhook: without a turn for its notice a job stays.
-    let looped = (CLEAN_LOOP, not_released(2));
+    let looped = (CLEAN_LOOP, "not released 2: TurnsSpent");
     story(&[first, register, put_in, close, looped, unheld])
         .heap_from(u64::MAX - 4)
         .with_jobs(&[1])
         .ends(1, 0)
         .agree(&rt, rt.alloc())?;
     // Or the release of the notice, too.
-    let gone = (clean(2, 3), no_job());
+    let gone = (clean(2, 3), "no job");
     story(&[first, register, put_in, close, looped, gone])
         .heap_from(u64::MAX - 5)
         .with_jobs(&[1])

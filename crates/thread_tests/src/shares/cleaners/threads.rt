@@ -226,10 +226,10 @@ pub fn clean_meanwhile<R: Threads + Wait + Abort + Sync>(
                 × IsCleanSeat shared.cleaner.now third.cleaner }
         { one_beside(rt, shared, right, third, jobs, hearing, story) },
     );
-    match (first.count_of_jobs(), second.count_of_jobs()) {
+    match (first.number_of("ran jobs"), second.number_of("ran jobs")) {
         (Some(one), Some(other)) => {
             assert!(rt; one.checked_add(other) == Some(story.count), "jobs in all");
         }
-        _ => assert!(rt; false, "{first:?}, {second:?}"),
+        _ => assert!(rt; false, "{first}, {second}"),
     }
 }
