@@ -49,14 +49,7 @@ pub fn command<'a>(alloc: Global) -> Result<Command<'a>, Error> {
         .arg(count(alloc, "seconds", "S", i64::from(u32::MAX)).help(
             "Begins no round after so many seconds",
         ))?
-        .arg(
-            Arg::new(alloc, "keep")
-                .long("keep")
-                .value_name("FOLDER")
-                .action(ArgAction::Set)
-                .value_parser(ValueParser::NonEmptyString)
-                .help("Writes the run's lists into the folder"),
-        )?
+        .arg(keep_option(alloc))?
         .arg(
             Arg::new(alloc, "quiet")
                 .long("quiet")
@@ -64,6 +57,16 @@ pub fn command<'a>(alloc: Global) -> Result<Command<'a>, Error> {
                 .help("Doesn't tell how far the run is"),
         )?;
     Ok(command)
+}
+
+/// An option that names a folder.
+fn keep_option<'a>(alloc: Global) -> Arg<'a> {
+    Arg::new(alloc, "keep")
+        .long("keep")
+        .value_name("FOLDER")
+        .action(ArgAction::Set)
+        .value_parser(ValueParser::NonEmptyString)
+        .help("Writes the run's lists into the folder")
 }
 
 /// An option that is a number from 1 on.
