@@ -21,8 +21,9 @@ pub struct Case {
     pub text: &'static [u8],
     pub prints: &'static [u8],
     pub error: &'static str,
-    /// What it may print where a put or a `job` found no memory, in the order in which that comes as there is more.
-    pub scarce: &'static [&'static [u8]],
+    /// The rows that it may print in place of those with their numbers where a put or a `job` found no memory, in the
+    /// order in which that comes as there is more.
+    pub scarce: &'static [&'static [&'static str]],
 }
 
 /// Each task, done and with a fault.
@@ -81,23 +82,7 @@ w0 scan
 13 w0 scan : refused 12 WrongPhase
 ",
         error: "",
-        scarce: &[
-            b"reftrace 1
-1 m0 new s0 0 : object 1
-2 m0 phantom s1 s0 q0 0 : object 2
-3 m0 job s1 3 : refused 3 NoMemory
-4 m0 drop s0 : ok
-5 begin 5 normal : cycle 1
-6 w0 scan : scanned 2
-7 w0 scan : none
-8 endmark : doomed 1
-9 m0 run s1 : gone
-10 w0 clearnext : cleared 2
-11 endclear : ok
-12 w0 hand : notice 2 q0 cycle 1 w0
-13 w0 scan : refused 12 WrongPhase
-",
-        ],
+        scarce: &[&["3 m0 job s1 3 : refused 3 NoMemory", "9 m0 run s1 : gone"]],
     },
     Case {
         name: "a script with a fault",

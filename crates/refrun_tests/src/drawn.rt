@@ -30,178 +30,63 @@ const PLAIN: Parts = Parts {
 /// The most ways in which a kind of step is answered.
 const WAYS: usize = 9;
 
-/// What each step is answered: the first word of a reply, the name of a refusal, and where several things are told at
-/// once `several`.
+/// How many kinds of steps there are.
+const KINDS: usize = 33;
+
+/// What each step is answered: the first word of a reply, or the name of a refusal. A notice is told by its cause,
+/// `own` or `cycle`. Where none is doomed that is `doomed-none`, and where several things are told at once `several`.
 ///
-/// Three refusals are met by no script that is drawn: numbers (NumbersSpent) and page addresses (AddressesSpent) are
-/// spent by none, and memory is there (NoMemory).
-static ANSWERS: [(&'static str, &'static [&'static str]); 33] = [
-    ("new", &["object", "NoSuchActor", "BadField", "NoCell"]),
-    (
-        "soft",
-        &[
-            "object",
-            "NoSuchActor",
-            "BadQueue",
-            "EmptySlot",
-            "BadField",
-            "NoCell",
-        ],
-    ),
-    (
-        "weak",
-        &[
-            "object",
-            "NoSuchActor",
-            "BadQueue",
-            "EmptySlot",
-            "BadField",
-            "NoCell",
-        ],
-    ),
-    (
-        "phantom",
-        &[
-            "object",
-            "NoSuchActor",
-            "BadQueue",
-            "EmptySlot",
-            "BadField",
-            "NoCell",
-        ],
-    ),
-    ("store", &["ok", "NoSuchActor", "EmptySlot", "BadField"]),
-    (
-        "load",
-        &["object", "null", "NoSuchActor", "EmptySlot", "BadField"],
-    ),
-    ("copy", &["object", "null", "NoSuchActor"]),
-    ("drop", &["ok", "NoSuchActor"]),
-    (
-        "get",
-        &[
-            "object",
-            "null",
-            "NoSuchActor",
-            "EmptySlot",
-            "NotAReference",
-        ],
-    ),
-    (
-        "clear",
-        &["ok", "NoSuchActor", "EmptySlot", "NotAReference"],
-    ),
-    (
-        "refers",
-        &["true", "false", "NoSuchActor", "EmptySlot", "NotAReference"],
-    ),
-    (
-        "unhook",
-        &[
-            "notice",
-            "none",
-            "NoSuchActor",
-            "HandFull",
-            "EmptySlot",
-            "NotAReference",
-        ],
-    ),
-    (
-        "put",
-        &["added", "already", "closed", "NoSuchActor", "HandEmpty"],
-    ),
-    (
-        "puts",
-        &[
-            "added",
-            "already",
-            "closed",
-            "several",
-            "NoSuchActor",
-            "HandEmpty",
-        ],
-    ),
-    (
-        "poll",
-        &[
-            "took",
-            "empty",
-            "closed",
-            "NoSuchActor",
-            "BadQueue",
-            "HandFull",
-        ],
-    ),
-    (
-        "polls",
-        &[
-            "took",
-            "several",
-            "empty",
-            "closed",
-            "NoSuchActor",
-            "BadQueue",
-            "BadConfig",
-            "HandFull",
-        ],
-    ),
-    ("adopt", &["object", "NoSuchActor", "HandEmpty"]),
-    ("release", &["ok", "NoSuchActor", "HandEmpty"]),
-    ("close", &["ok", "closed", "NoSuchActor", "BadQueue"]),
-    (
-        "job",
-        &[
-            "ok",
-            "used",
-            "NoSuchActor",
-            "EmptySlot",
-            "NotAReference",
-            "RegisteredTwice",
-        ],
-    ),
-    (
-        "run",
-        &["ran", "gone", "NoSuchActor", "EmptySlot", "NotAReference"],
-    ),
-    ("begin", &["cycle", "WrongPhase", "ClockBack"]),
-    ("scan", &["scanned", "none", "NoSuchActor", "WrongPhase"]),
-    ("endmark", &["doomed", "WrongPhase", "GreyLeft"]),
-    (
-        "clearnext",
-        &[
-            "cleared",
-            "kept",
-            "skipped",
-            "none",
-            "NoSuchActor",
-            "WrongPhase",
-        ],
-    ),
-    ("endclear", &["ok", "WrongPhase", "ClearingLeft"]),
-    ("hand", &["notice", "none", "NoSuchActor", "HandFull"]),
-    (
-        "hands",
-        &[
-            "notices",
-            "several",
-            "none",
-            "NoSuchActor",
-            "BadConfig",
-            "HandFull",
-        ],
-    ),
-    ("sweep", &["swept", "none", "NoSuchActor", "WrongPhase"]),
-    ("endsweep", &["ok", "WrongPhase", "SweepLeft"]),
-    ("select", &["selected", "WrongPhase", "NoRoom"]),
-    ("move", &["moved", "none", "NoSuchActor", "WrongPhase"]),
-    ("endmove", &["ok", "WrongPhase", "MovesLeft"]),
+/// Two refusals are met by nothing that is drawn: numbers (NumbersSpent) are spent by none, and memory is there
+/// (NoMemory). Page addresses (AddressesSpent) are spent where a world starts late.
+static ANSWERS: [&'static str; KINDS] = [
+    "job: ok used NoSuchActor EmptySlot NotAReference RegisteredTwice",
+    "run: ran gone NoSuchActor EmptySlot NotAReference",
+    "new: object NoSuchActor BadField NoCell",
+    "soft: object NoSuchActor BadQueue EmptySlot BadField NoCell",
+    "weak: object NoSuchActor BadQueue EmptySlot BadField NoCell",
+    "phantom: object NoSuchActor BadQueue EmptySlot BadField NoCell",
+    "store: ok NoSuchActor EmptySlot BadField",
+    "load: object null NoSuchActor EmptySlot BadField",
+    "copy: object null NoSuchActor",
+    "drop: ok NoSuchActor",
+    "get: object null NoSuchActor EmptySlot NotAReference",
+    "clear: ok NoSuchActor EmptySlot NotAReference",
+    "refers: true false NoSuchActor EmptySlot NotAReference",
+    "unhook: own none NoSuchActor HandFull EmptySlot NotAReference",
+    "put: added already closed NoSuchActor HandEmpty",
+    "puts: added already closed several NoSuchActor HandEmpty",
+    "poll: took empty closed NoSuchActor BadQueue HandFull",
+    "polls: took several empty closed NoSuchActor BadQueue BadConfig HandFull",
+    "adopt: object NoSuchActor HandEmpty",
+    "release: ok NoSuchActor HandEmpty",
+    "close: ok closed NoSuchActor BadQueue",
+    "begin: cycle WrongPhase ClockBack",
+    "scan: scanned none NoSuchActor WrongPhase",
+    "endmark: doomed doomed-none WrongPhase GreyLeft",
+    "clearnext: cleared kept skipped none NoSuchActor WrongPhase",
+    "endclear: ok WrongPhase ClearingLeft",
+    "hand: cycle none NoSuchActor HandFull",
+    "hands: notices several none NoSuchActor BadConfig HandFull",
+    "sweep: swept none NoSuchActor WrongPhase",
+    "endsweep: ok WrongPhase SweepLeft",
+    "select: selected WrongPhase NoRoom AddressesSpent",
+    "move: moved none NoSuchActor WrongPhase",
+    "endmove: ok WrongPhase MovesLeft",
 ];
 
+/// The place of the first kind of step that isn't of jobs, and that of the first that is of moves.
+pub const FIRST_OF_WORLDS: usize = 2;
+
+pub const FIRST_OF_MOVES: usize = 30;
+
 /// How often each step was answered in each of its ways.
-type Counts = [[u32; WAYS]; 33];
+pub type Counts = [[u32; WAYS]; KINDS];
+
+/// No step was answered.
+pub const NO_COUNTS: Counts = [[0; WAYS]; KINDS];
 
 /// The script of a seed, with memory of this allocator, and what came of it.
-fn script<A: Allocator + Copy>(
+pub fn script<A: Allocator + Copy>(
     memory: A,
     alloc: Global,
     seed: u64,
@@ -239,31 +124,35 @@ fn way_of<'a>(name: &str, reply: &'a str) -> Option<&'a str> {
     let third = words.next();
     match first {
         "refused" => third,
+        "notice" => words.next(),
+        "doomed" if second == Some("0") => Some("doomed-none"),
         "notices" if third.is_some_and(|word| !word.starts_with("q")) => Some("several"),
         "took" if third.is_some() => Some("several"),
         _ if name == "puts" && reply.contains(',') => Some("several"),
-        _ if second.is_none() || first != "refused" => Some(first),
-        _ => None,
+        _ => Some(first),
     }
 }
 
 /// Counts the ways in which the steps of a trace were answered, each of which is one of theirs.
 fn count(rt: &impl Abort, counts: &mut Counts, seed: u64, trace: &str) {
     for row in trace.lines() {
-        let Some((name, way)) = words_of(row) else {
-            assert!(rt; row.starts_with("reftrace"), "seed {seed}: {row}");
-            continue;
-        };
-        assert!(rt; is_counted(counts, name, way), "seed {seed}: {row}");
+        assert!(rt;
+            row.starts_with("reftrace") || is_counted(counts, row),
+            "seed {seed}: {row}"
+        );
     }
 }
 
-/// Counts a step of this name that was answered in this way, if it is one of its ways.
-fn is_counted(counts: &mut Counts, name: &str, way: &str) -> bool {
-    for ((listed, ways), counts) in ANSWERS.iter().zip(counts.as_mut_slice()) {
-        if *listed == name {
-            for (listed, count) in ways.iter().zip(counts.as_mut_slice()) {
-                if *listed == way {
+/// Counts the way in which the step of a row was answered, if it is one of its ways.
+pub fn is_counted(counts: &mut Counts, row: &str) -> bool {
+    let Some((name, way)) = words_of(row) else {
+        return false;
+    };
+    for (answers, counts) in ANSWERS.iter().zip(counts.as_mut_slice()) {
+        let (kind, ways) = answers.split_once(':').unwrap_or((*answers, ""));
+        if kind == name {
+            for (listed, count) in ways.split_whitespace().zip(counts.as_mut_slice()) {
+                if listed == way {
                     *count = count.saturating_add(1);
                     return true;
                 }
@@ -273,11 +162,15 @@ fn is_counted(counts: &mut Counts, name: &str, way: &str) -> bool {
     false
 }
 
-/// Each step was answered in each of its ways.
-fn are_met(rt: &impl Abort, counts: &Counts) {
-    for ((name, ways), counts) in ANSWERS.iter().zip(counts) {
-        for (way, count) in ways.iter().zip(counts) {
-            assert!(rt; *count > 0, "{name} never answered {way}");
+/// Each step of the kinds from this place on was answered in each of its ways but this one.
+pub fn are_met(rt: &impl Abort, counts: &Counts, from: usize, but: &str) {
+    for (place, (answers, counts)) in ANSWERS.iter().zip(counts).enumerate() {
+        let (kind, ways) = answers.split_once(':').unwrap_or((*answers, ""));
+        for (way, count) in ways.split_whitespace().zip(counts) {
+            assert!(rt;
+                place < from || *count > 0 || way == but,
+                "{kind} never answered {way}"
+            );
         }
     }
 }
@@ -287,7 +180,7 @@ fn over_1000_seeds_each_script_is_read_and_each_step_is_answered_in_each_of_its_
     rt: HostRuntime,
 ) -> Result<(), Fail> {
     let alloc = rt.alloc();
-    let mut counts: Counts = [[0; WAYS]; 33];
+    let mut counts = NO_COUNTS;
     for seed in 0..SEEDS {
         let steps = if seed % 20 == 0 { MORE_STEPS } else { STEPS };
         let (answer, text) = script(alloc, alloc, seed, steps, Parts::ALL);
@@ -298,7 +191,7 @@ fn over_1000_seeds_each_script_is_read_and_each_step_is_answered_in_each_of_its_
         assert_eq!(rt; trace.lines().count(), 1 + steps as usize, "seed {seed}");
         count(&rt, &mut counts, seed, trace);
     }
-    are_met(&rt, &counts);
+    are_met(&rt, &counts, 0, "AddressesSpent");
     Ok(())
 }
 
@@ -328,44 +221,32 @@ fn a_seed_gives_one_script(rt: HostRuntime) -> Result<(), Fail> {
     Ok(())
 }
 
-/// Parts, and words that stand in no script without them.
-static WITHOUT: [(Parts, &'static [&'static str]); 4] = [
+/// Parts, and words that stand in no script without them, or at the begin of none.
+static WITHOUT: [(Parts, &'static str); 4] = [
     (
         Parts {
             moves: false,
             ..Parts::ALL
         },
-        &["select", "move", "endmove"],
+        "select|move|endmove",
     ),
     (
         Parts {
             batches: false,
             ..Parts::ALL
         },
-        &["hands", "puts", "polls"],
+        "hands|puts|polls",
     ),
     (
         Parts {
             jobs: false,
             ..Parts::ALL
         },
-        &["job", "run"],
+        "job|run",
     ),
     (
         PLAIN,
-        &[
-            "select",
-            "move",
-            "endmove",
-            "hands",
-            "puts",
-            "polls",
-            "job",
-            "run",
-            "soft",
-            "urgent",
-            "2\nconfig",
-        ],
+        "select|move|endmove|hands|puts|polls|job|run|soft|urgent|refscript 2",
     ),
 ];
 
@@ -377,9 +258,9 @@ fn a_part_that_is_left_out_is_not_there(rt: HostRuntime) -> Result<(), Fail> {
             let (answer, text) = script(alloc, alloc, seed, 300, parts);
             assert_eq!(rt; answer, Ok(()));
             let text = std::str::from_utf8(text.as_slice())?;
-            for word in words {
-                let is_there = text.split([' ', '\n']).any(|other| other == *word);
-                assert!(rt; !is_there, "{word}, seed {seed}");
+            for word in words.split('|') {
+                let is_there = text.split([' ', '\n']).any(|other| other == word);
+                assert!(rt; !is_there && !text.starts_with(word), "{word}, seed {seed}");
             }
         }
     }

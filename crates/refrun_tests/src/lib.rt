@@ -32,3 +32,5 @@ mod stress_cases;
 mod texts;
 #[cfg(test)]
 mod uses;
+#[cfg(test)]
+mod worlds;

@@ -7,9 +7,9 @@ use std::alloc::{Allocator, Global};
 use std::process::Abort;
 use std::test::Fail;
 
-/// A case a row: its name; what was put in, was taken and stands; what each poller took and each mutator kept, with a
-/// comma between two and `-` for nothing; what became of each job; the first check that fails; and what shows it, where
-/// it is looked at.
+/// A case a row. Behind its name stands what was put in, was taken and stands, then what each poller took and each
+/// mutator kept. There a comma stands between two lists, and `-` for one that is empty. Then stands what became of each
+/// job, the first check that fails, and what shows it, where that is looked at.
 ///
 /// A job was due, or not, or ran early though it was due, while its object lived. How often it ran stands behind that.
 static CASES: [&'static str; 27] = [

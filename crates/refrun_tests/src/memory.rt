@@ -2,7 +2,6 @@
 //! run meets no refusal.
 
 use crate::cases::{CASES, Case, Task};
-use crate::faulty_texts::READ;
 use crate::texts::{agree, printed};
 use rationed::Rationed;
 use refrun::TextFault;
@@ -55,66 +54,34 @@ m2 adopt s2
 ",
         error: "",
         scarce: &[
-            b"reftrace 1
-1 m0 new s0 0 : object 1
-2 m0 weak s1 s0 q0 0 : object 2
-3 m0 unhook s1 : notice 2 q0 own
-4 m1 new s0 0 : object 3
-5 m1 weak s1 s0 q1 0 : object 4
-6 m1 unhook s1 : notice 4 q1 own
-7 m2 new s0 0 : object 5
-8 m2 weak s1 s0 q2 0 : object 6
-9 m2 unhook s1 : notice 6 q2 own
-10 m0 put : refused 3 NoMemory
-11 m1 put : refused 3 NoMemory
-12 m2 put : refused 3 NoMemory
-13 m1 poll q1 : refused 23 HandFull
-14 m0 release : ok
-15 m2 adopt s2 : object 6
-",
-            b"reftrace 1
-1 m0 new s0 0 : object 1
-2 m0 weak s1 s0 q0 0 : object 2
-3 m0 unhook s1 : notice 2 q0 own
-4 m1 new s0 0 : object 3
-5 m1 weak s1 s0 q1 0 : object 4
-6 m1 unhook s1 : notice 4 q1 own
-7 m2 new s0 0 : object 5
-8 m2 weak s1 s0 q2 0 : object 6
-9 m2 unhook s1 : notice 6 q2 own
-10 m0 put : added 0
-11 m1 put : refused 3 NoMemory
-12 m2 put : refused 3 NoMemory
-13 m1 poll q1 : refused 23 HandFull
-14 m0 release : refused 24 HandEmpty
-15 m2 adopt s2 : object 6
-",
-            b"reftrace 1
-1 m0 new s0 0 : object 1
-2 m0 weak s1 s0 q0 0 : object 2
-3 m0 unhook s1 : notice 2 q0 own
-4 m1 new s0 0 : object 3
-5 m1 weak s1 s0 q1 0 : object 4
-6 m1 unhook s1 : notice 4 q1 own
-7 m2 new s0 0 : object 5
-8 m2 weak s1 s0 q2 0 : object 6
-9 m2 unhook s1 : notice 6 q2 own
-10 m0 put : added 0
-11 m1 put : added 0
-12 m2 put : refused 3 NoMemory
-13 m1 poll q1 : took 4
-14 m0 release : refused 24 HandEmpty
-15 m2 adopt s2 : object 6
-",
+            &[
+                "10 m0 put : refused 3 NoMemory",
+                "11 m1 put : refused 3 NoMemory",
+                "12 m2 put : refused 3 NoMemory",
+                "13 m1 poll q1 : refused 23 HandFull",
+                "14 m0 release : ok",
+                "15 m2 adopt s2 : object 6",
+            ],
+            &[
+                "11 m1 put : refused 3 NoMemory",
+                "12 m2 put : refused 3 NoMemory",
+                "13 m1 poll q1 : refused 23 HandFull",
+                "15 m2 adopt s2 : object 6",
+            ],
+            &[
+                "12 m2 put : refused 3 NoMemory",
+                "15 m2 adopt s2 : object 6",
+            ],
         ],
     },
     Case {
-        name: "a job that stays to be registered",
+        name: "a job that is none, and one that stays to be registered",
         task: Task::RunWithJobs,
         text: b"refscript 1
 config 1 1 1 8 0
 m0 new s0 0
 m0 weak s1 s0 - 0
+m0 job s1 64
 m0 job s1 0
 m0 job s1 0
 m0 run s1
@@ -122,20 +89,17 @@ m0 run s1
         prints: b"reftrace 1
 1 m0 new s0 0 : object 1
 2 m0 weak s1 s0 - 0 : object 2
-3 m0 job s1 0 : ok
-4 m0 job s1 0 : used
-5 m0 run s1 : ran 0 1000
+3 m0 job s1 64 : used
+4 m0 job s1 0 : ok
+5 m0 job s1 0 : used
+6 m0 run s1 : ran 0 1000
 ",
         error: "",
-        scarce: &[
-            b"reftrace 1
-1 m0 new s0 0 : object 1
-2 m0 weak s1 s0 - 0 : object 2
-3 m0 job s1 0 : refused 3 NoMemory
-4 m0 job s1 0 : refused 3 NoMemory
-5 m0 run s1 : gone
-",
-        ],
+        scarce: &[&[
+            "4 m0 job s1 0 : refused 3 NoMemory",
+            "5 m0 job s1 0 : refused 3 NoMemory",
+            "6 m0 run s1 : gone",
+        ]],
     },
 ];
 
@@ -147,6 +111,27 @@ enum Came {
     Nothing,
     /// Memory ran out inside a put or a `job`: the place of what was printed among what may be.
     Partly(usize),
+}
+
+/// A trace with these rows in place of those with their numbers.
+fn with_rows(alloc: Global, trace: &[u8], rows: &[&str]) -> Result<Vec<u8>, AllocError> {
+    let mut text = Vec::new(alloc);
+    for line in trace.split_inclusive(|byte| *byte == b'\n') {
+        let mut told = line;
+        for row in rows {
+            if number_of(row.as_bytes()) == number_of(line) {
+                told = row.as_bytes();
+            }
+        }
+        text.extend_from_slice(told.trim_ascii())?;
+        text.push(b'\n')?;
+    }
+    Ok(text)
+}
+
+/// What stands in front of a row's first space.
+fn number_of(row: &[u8]) -> Option<&[u8]> {
+    row.split(|byte| *byte == b' ').next()
 }
 
 /// Runs a text with so many requests for memory met. Where one was refused the same text is answered as ever once there
@@ -171,12 +156,13 @@ fn come(
         assert!(rt; output.is_empty(), "{}: {met}", case.name);
         return Ok(Came::Nothing);
     }
-    let place = case
-        .scarce
-        .iter()
-        .position(|text| *text == output.as_slice());
-    assert!(rt; place.is_some(), "{}: {met}", case.name);
-    Ok(Came::Partly(place.unwrap_or(0)))
+    for (place, rows) in case.scarce.iter().enumerate() {
+        if with_rows(alloc, case.prints, rows)?.as_slice() == output.as_slice() {
+            return Ok(Came::Partly(place));
+        }
+    }
+    assert!(rt; false, "{}: {met}", case.name);
+    Ok(Came::Nothing)
 }
 
 /// The call that does a task.
@@ -214,7 +200,7 @@ fn refuse_each(rt: &impl Abort, alloc: Global, case: &Case) -> Result<(), AllocE
 
 #[test]
 fn a_text_is_answered_whole_or_memory_ran_out(rt: HostRuntime) -> Result<(), Fail> {
-    for cases in [CASES.as_slice(), READ.as_slice(), SCARCE.as_slice()] {
+    for cases in [CASES.as_slice(), SCARCE.as_slice()] {
         for case in cases {
             refuse_each(&rt, rt.alloc(), case)?;
         }

@@ -1,5 +1,5 @@
-//! The texts of numbers, faults, strengths, counts, and replies with numbers that no script comes to. All other steps and
-//! replies stand in the traces of `refrun_cases`.
+//! The texts of numbers, faults, strengths, counts, and replies with numbers that no script comes to. All other steps
+//! and replies stand in the traces of `refrun_cases`.
 
 use ref_base::{
     Done, Fault, MutNo, Nos, ObjNo, Outs, PlainStep, QueueNo, Reach, Reply, Row, SlotNo, Step,
