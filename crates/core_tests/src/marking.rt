@@ -206,8 +206,12 @@ fn freed_next(heap: &mut Marker, condemned: &mut Worklist) -> Option<(u32, bool)
     requires { IsHealing heap.old }
     ensures { IsHealing heap.new }
 {
-    let entry = condemned.take_first()?;
-    Some((entry.no.0, freed(heap, entry)))
+    let Some(entry) = condemned.take_first() else {
+        return None;
+    };
+    let number = entry.no.0;
+    let was_there = freed(heap, entry);
+    Some((number, was_there))
 }
 
 // Frees all that is listed, and tells how many there were.

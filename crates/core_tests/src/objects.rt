@@ -137,8 +137,12 @@ fn freed_next<A: Allocator + Copy>(
     heap: &mut Objects<A>,
     condemned: &mut Worklist<A>,
 ) -> Option<(u32, bool)> {
-    let entry = condemned.take_first()?;
-    Some((entry.no.0, freed(heap, entry)))
+    let Some(entry) = condemned.take_first() else {
+        return None;
+    };
+    let number = entry.no.0;
+    let was_there = freed(heap, entry);
+    Some((number, was_there))
 }
 
 // The number of what was marked.

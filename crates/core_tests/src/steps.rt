@@ -1,7 +1,5 @@
 //! What does steps and replies to each, and the runner of all its stories.
 
-ghost use Rattle.std.specs.Prelude.{Unit};
-
 use crate::rows::{new, object};
 use ref_base::{Fault, ObjNo, Reply, Step};
 use ref_objects::Look;
@@ -79,10 +77,10 @@ pub fn value(answer: Result<Option<ObjNo>, Fault>) -> Reply {
 
 /// What came of a look.
 pub fn looked(look: Look) -> Reply {
-    let no = look.was.no;
+    let no = look.was.no.0;
     match look.was.reference {
-        Some(_) if look.is_cleared => Reply::Cleared(no),
-        Some(reference) if reference.referent.is_some() => Reply::Kept(no),
-        _ => Reply::Skipped(no),
+        Some(_) if look.is_cleared => Reply::Cleared(ObjNo(no)),
+        Some(reference) if reference.referent.is_some() => Reply::Kept(ObjNo(no)),
+        _ => Reply::Skipped(ObjNo(no)),
     }
 }

@@ -12,9 +12,9 @@ use crate::steps::agree;
 use ref_base::{
     Config, Fault, ObjNo, Phase, PlainStep, QueueNo, Reply, SlotNo, Step, Urgency, WorkerNo,
 };
-use ref_clear::{Heap, Pending};
+use ref_clear::Heap;
 use ref_objects::Start;
-use std::alloc::{Allocator, Global};
+use std::alloc::Global;
 use std::mem;
 use std::process::Abort;
 use std::test::Fail;
@@ -145,25 +145,10 @@ fn cycles_are_spent_where_they_begin_at_the_last(rt: HostRuntime) -> Result<(), 
     Ok(())
 }
 
-/// What is pending of this worker at this place: its reference and its cycle. All are for queue 0.
-fn pends<A: Allocator + Copy>(
-    rt: &impl Abort,
-    heap: &Heap<A>,
-    (worker, place): (u32, usize),
-    want: Option<(u32, u64)>,
-) {
-    let want = match want {
-        Some((object, cycle)) => Some(Pending {
-            object: ObjNo(object),
-            queue: QueueNo(0),
-            cycle,
-        }),
-        None => None,
-    };
-    assert!(rt;
-        heap.pending_of(WorkerNo(worker), place) == want,
-        "{worker}, {place}"
-    );
+/// What is pending of this worker at this place: its reference, its queue and its cycle.
+fn pending(heap: &Heap, worker: u32, place: usize) -> Option<(u32, u32, u64)> {
+    let pending = heap.pending_of(WorkerNo(worker), place)?;
+    Some((pending.object.0, pending.queue.0, pending.cycle))
 }
 
 #[test]
@@ -184,7 +169,7 @@ fn a_notice_tells_the_last_cycle(rt: HostRuntime) -> Result<(), Fail> {
         (begin(5), refused(Fault::NumbersSpent)),
     ];
     agree(&rt, &mut bench, &story);
-    pends(&rt, &bench.heap, (0, 0), Some((2, u64::MAX)));
+    assert!(rt; pending(&bench.heap, 0, 0) == Some((2, 0, u64::MAX)));
     agree(&rt, &mut bench, &[(hand(0), of_cycle(2, u64::MAX, 0))]);
     assert!(rt; bench.heap.hold_count() == 1);
     agree(&rt, &mut bench, &[(adopt(2), object(2))]);
@@ -252,9 +237,9 @@ fn the_roots_of_a_cycle_are_slots_then_holds_then_what_is_pending(
         (scan(0), scanned(3)),
     ];
     agree(&rt, &mut bench, &story);
-    pends(&rt, &bench.heap, (0, 1), Some((2, 1)));
-    pends(&rt, &bench.heap, (1, 0), Some((3, 1)));
-    pends(&rt, &bench.heap, (2, 0), None);
+    assert!(rt; pending(&bench.heap, 0, 1) == Some((2, 0, 1)));
+    assert!(rt; pending(&bench.heap, 1, 0) == Some((3, 0, 1)));
+    assert!(rt; pending(&bench.heap, 2, 0) == None);
     // Each worker hands on its own, in every phase.
     let story = [
         (hand(1), of_cycle(3, 1, 1)),
@@ -263,7 +248,7 @@ fn the_roots_of_a_cycle_are_slots_then_holds_then_what_is_pending(
         (hand(0), of_cycle(4, 1, 0)),
     ];
     agree(&rt, &mut bench, &story);
-    pends(&rt, &bench.heap, (0, 0), Some((2, 1)));
+    assert!(rt; pending(&bench.heap, 0, 0) == Some((2, 0, 1)));
     agree(&rt, &mut bench, &[(hand(0), of_cycle(2, 1, 0))]);
     bench.end();
     Ok(())

@@ -44,6 +44,17 @@ impl<'a> Trial for Add<'a> {
     }
 }
 
+/// A call of a graph where there is nothing yet.
+fn adding<'a>(alloc: Global, memory: &'a Rationed<Global>) -> Add<'a> {
+    Add {
+        graph: Graph::new(memory),
+        alloc,
+        call: Root(0),
+        count: 0,
+        object: (0, None),
+    }
+}
+
 /// The number of the object at this place: every second is one that a graph looks up by hashing.
 fn number_at(place: u32) -> u32 {
     if place % 2 == 0 {
@@ -59,13 +70,7 @@ const TO_0: [Option<u32>; 1] = [Some(0)];
 #[test]
 fn an_add_without_memory_changes_nothing(rt: HostRuntime) {
     let memory = Rationed::new(rt.alloc());
-    let mut trial = Add {
-        graph: Graph::new(&memory),
-        alloc: rt.alloc(),
-        call: Root(0),
-        count: 0,
-        object: (0, None),
-    };
+    let mut trial = adding(rt.alloc(), &memory);
     let mut requests = 0u64;
     for place in 0..60 {
         let no = number_at(place);
@@ -85,13 +90,7 @@ fn an_add_without_memory_changes_nothing(rt: HostRuntime) {
 #[test]
 fn a_root_without_memory_changes_nothing(rt: HostRuntime) {
     let memory = Rationed::new(rt.alloc());
-    let mut trial = Add {
-        graph: Graph::new(&memory),
-        alloc: rt.alloc(),
-        call: Root(0),
-        count: 0,
-        object: (0, None),
-    };
+    let mut trial = adding(rt.alloc(), &memory);
     let mut requests = 0u64;
     for place in 0..60 {
         let no = number_at(place);

@@ -11,12 +11,14 @@ use crate::rows::{
     scan, scanned, store, unregistered,
 };
 use crate::steps::{agree, make_in};
-use ref_base::{Fault, ObjNo, Phase, Reply, SlotNo, Step};
+use ref_base::{Fault, ObjNo, Phase, Reply, SlotNo};
 use ref_mark::Marker;
 use ref_objects::{Start, Worklist};
 use std::alloc::Global;
 use std::process::Abort;
 use std::test::Fail;
+
+const SPENT: Reply = Reply::Refused(Fault::AddressesSpent);
 
 const WRONG_PHASE: Reply = Reply::Refused(Fault::WrongPhase);
 
@@ -178,11 +180,10 @@ fn a_get_moves_the_referent(rt: HostRuntime) -> Result<(), Fail> {
 
 #[test]
 fn no_object_is_chosen_where_addresses_are_spent(rt: HostRuntime) -> Result<(), Fail> {
-    let spent: (Step, Reply) = (SELECT, refused(Fault::AddressesSpent));
     let mut heap = sparse(&rt, rt.alloc(), 4_294_967_292)?;
     // Colour A, page 4,294,967,293, cell 0.
     field_is(&rt, &heap, 0, 4_611_686_293_305_294_656);
-    agree(&rt, &mut heap, &[spent]);
+    agree(&rt, &mut heap, &[(SELECT, SPENT)]);
     assert!(rt; heap.phase() == Phase::Idle);
     field_is(&rt, &heap, 0, 4_611_686_293_305_294_656);
     for (slot, no) in [(0, 1), (1, 65), (2, 2)] {
@@ -191,7 +192,7 @@ fn no_object_is_chosen_where_addresses_are_spent(rt: HostRuntime) -> Result<(), 
     let story = [
         (move_next(0), WRONG_PHASE),
         (END_MOVE, WRONG_PHASE),
-        spent,
+        (SELECT, SPENT),
         (new(3, 0), object(66)),
         (store(0, 2, 3), Reply::Done),
     ];

@@ -122,9 +122,9 @@ fn is_answered<A: Allocator>(pages: &mut Pages<A>, call: Call) -> bool {
     }
 }
 
-/// Makes a story's calls in turn, each of which has its answer.
-fn agree<A: Allocator>(rt: &impl Abort, pages: &mut Pages<A>, story: &[Call]) {
+/// Makes the calls of this story in turn, each of which has its answer.
+fn agree<A: Allocator>(rt: &impl Abort, name: &str, pages: &mut Pages<A>, story: &[Call]) {
     for (row, &call) in story.iter().enumerate() {
-        assert!(rt; is_answered(pages, call), "row {row}");
+        assert!(rt; is_answered(pages, call), "{name}: row {row}");
     }
 }

@@ -57,7 +57,7 @@ fn after_new_no_call_takes_memory(rt: HostRuntime) -> Result<(), Fail> {
         Renumber,
         Address(&[(1, 10)]),
     ];
-    agree(&rt, &mut pages, &story);
+    agree(&rt, "after new", &mut pages, &story);
     assert!(rt; !memory.lift(), "no request is refused");
     Ok(())
 }

@@ -4,161 +4,156 @@ use super::Call::{
     self, Address, Choose, Empty, Fill, FirstLeft, Full, Give, HasChosen, HasLeft, IsChosen, Place,
     Renumber, Taken,
 };
+use super::agree;
 use ref_base::Fault;
 use ref_space::Pages;
-use std::alloc::Global;
-use std::process::Abort;
 use std::test::Fail;
 
-/// The story of four new pages from this address on.
-fn agree(rt: &impl Abort, alloc: Global, first_address: u32, story: &[Call]) -> Result<(), Fail> {
-    // Which `Pages::new` asks of its callers.
-    assert!(rt;
-        first_address <= 4_294_967_292,
-        "four addresses are below 2^32"
-    );
-    let mut pages = Pages::new(alloc, 4, first_address)?;
-    super::agree(rt, &mut pages, story);
+const ONE_SPARSE: &[Call] = &[
+    Choose(Err(Fault::NoRoom)),
+    Place(&[(0, 0)]),
+    Choose(Err(Fault::NoRoom)),
+    HasChosen(false),
+    Place(&[(0, 1)]),
+    Address(&[(0, 7)]),
+];
+
+const SPARSE_AT_32: &[Call] = &[
+    Fill(0, 0, 64),
+    Fill(1, 0, 64),
+    Fill(2, 0, 64),
+    Empty(0, 33, 64),
+    Choose(Err(Fault::NoRoom)),
+    Empty(1, 32, 64),
+    Choose(Err(Fault::NoRoom)),
+    Empty(2, 1, 64),
+    Choose(Ok(33)),
+    HasChosen(true),
+    Fill(0, 33, 64),
+    Fill(3, 0, 64),
+    Full,
+    Taken(&[(1, 32), (2, 1)]),
+];
+
+const CHOSEN_LAST: &[Call] = &[
+    Fill(0, 0, 64),
+    Fill(1, 0, 64),
+    Fill(2, 0, 40),
+    Empty(0, 1, 64),
+    Empty(1, 0, 62),
+    Choose(Ok(3)),
+    Place(&[(2, 40), (2, 41), (2, 42)]),
+    Empty(0, 0, 1),
+    Empty(1, 62, 64),
+    Place(&[(2, 43)]),
+    Renumber,
+    HasChosen(false),
+    Address(&[(0, 11), (1, 12), (2, 9), (3, 10)]),
+    Taken(&[(2, 44)]),
+    Fill(2, 44, 64),
+    Fill(3, 0, 64),
+    Fill(0, 0, 64),
+    Fill(1, 0, 64),
+    Full,
+    Empty(0, 9, 10),
+    Empty(3, 5, 6),
+    Place(&[(3, 5), (0, 9)]),
+    Full,
+];
+
+const SECOND_MOVE: &[Call] = &[
+    Fill(0, 0, 64),
+    Place(&[(1, 0)]),
+    Empty(0, 1, 64),
+    Choose(Ok(2)),
+    Place(&[(2, 0), (2, 1)]),
+    Empty(0, 0, 1),
+    Empty(1, 0, 1),
+    Renumber,
+    Fill(2, 2, 64),
+    Place(&[(3, 0)]),
+    Empty(2, 0, 63),
+    Choose(Ok(2)),
+    Place(&[(0, 0), (0, 1)]),
+    Empty(2, 63, 64),
+    Empty(3, 0, 1),
+    Renumber,
+    Address(&[(0, 11), (1, 12), (2, 13), (3, 14)]),
+    Place(&[(0, 2)]),
+];
+
+const NO_CHOICE: &[Call] = &[
+    Fill(0, 0, 64),
+    Place(&[(1, 0)]),
+    Renumber,
+    Address(&[(0, 7), (3, 10)]),
+    Taken(&[(0, 64)]),
+    Place(&[(1, 1)]),
+];
+
+const SPENT: &[Call] = &[
+    Place(&[(0, 0)]),
+    Choose(Err(Fault::NoRoom)),
+    Fill(0, 1, 64),
+    Place(&[(1, 0)]),
+    Empty(0, 1, 64),
+    Choose(Err(Fault::AddressesSpent)),
+    HasChosen(false),
+    Place(&[(0, 1)]),
+    Address(&[(3, 4_294_967_295)]),
+];
+
+const LAST_GIVEN: &[Call] = &[
+    Fill(0, 0, 64),
+    Place(&[(1, 0)]),
+    Empty(0, 1, 64),
+    Choose(Ok(2)),
+    Empty(0, 0, 1),
+    Empty(1, 0, 1),
+    Renumber,
+    Address(&[(0, 4_294_967_294), (1, 4_294_967_295)]),
+    Fill(2, 0, 64),
+    Place(&[(3, 0)]),
+    Empty(2, 1, 64),
+    Choose(Err(Fault::AddressesSpent)),
+];
+
+/// Stories of four new pages: their names, and the address that the first page has.
+const STORIES: [(&str, u32, &[Call]); 7] = [
+    ("one sparse page is too few", 7, ONE_SPARSE),
+    (
+        "a page with 32 taken cells is chosen and one with 33 is not",
+        7,
+        SPARSE_AT_32,
+    ),
+    ("chosen pages come last at new addresses", 7, CHOSEN_LAST),
+    (
+        "a second move goes on from the next address",
+        7,
+        SECOND_MOVE,
+    ),
+    (
+        "without a choice a renumbering changes nothing",
+        7,
+        NO_CHOICE,
+    ),
+    (
+        "no choice is made where addresses are spent",
+        4_294_967_292,
+        SPENT,
+    ),
+    ("the last addresses are given", 4_294_967_290, LAST_GIVEN),
+];
+
+#[test]
+fn each_story_of_moves_is_told(rt: HostRuntime) -> Result<(), Fail> {
+    for (name, address, story) in STORIES {
+        // Which `Pages::new` asks of its callers.
+        assert!(rt; address <= 4_294_967_292, "four addresses are below 2^32");
+        let mut pages = Pages::new(rt.alloc(), 4, address)?;
+        agree(&rt, name, &mut pages, story);
+    }
     Ok(())
-}
-
-#[test]
-fn one_sparse_page_is_too_few(rt: HostRuntime) -> Result<(), Fail> {
-    let story = [
-        Choose(Err(Fault::NoRoom)),
-        Place(&[(0, 0)]),
-        Choose(Err(Fault::NoRoom)),
-        HasChosen(false),
-        Place(&[(0, 1)]),
-        Address(&[(0, 7)]),
-    ];
-    agree(&rt, rt.alloc(), 7, &story)
-}
-
-#[test]
-fn a_page_with_32_taken_cells_is_chosen_and_one_with_33_is_not(
-    rt: HostRuntime,
-) -> Result<(), Fail> {
-    let story = [
-        Fill(0, 0, 64),
-        Fill(1, 0, 64),
-        Fill(2, 0, 64),
-        Empty(0, 33, 64),
-        Choose(Err(Fault::NoRoom)),
-        Empty(1, 32, 64),
-        Choose(Err(Fault::NoRoom)),
-        Empty(2, 1, 64),
-        Choose(Ok(33)),
-        HasChosen(true),
-        Fill(0, 33, 64),
-        Fill(3, 0, 64),
-        Full,
-        Taken(&[(1, 32), (2, 1)]),
-    ];
-    agree(&rt, rt.alloc(), 7, &story)
-}
-
-#[test]
-fn chosen_pages_come_last_at_new_addresses(rt: HostRuntime) -> Result<(), Fail> {
-    let story = [
-        Fill(0, 0, 64),
-        Fill(1, 0, 64),
-        Fill(2, 0, 40),
-        Empty(0, 1, 64),
-        Empty(1, 0, 62),
-        Choose(Ok(3)),
-        Place(&[(2, 40), (2, 41), (2, 42)]),
-        Empty(0, 0, 1),
-        Empty(1, 62, 64),
-        Place(&[(2, 43)]),
-        Renumber,
-        HasChosen(false),
-        Address(&[(0, 11), (1, 12), (2, 9), (3, 10)]),
-        Taken(&[(2, 44)]),
-        Fill(2, 44, 64),
-        Fill(3, 0, 64),
-        Fill(0, 0, 64),
-        Fill(1, 0, 64),
-        Full,
-        Empty(0, 9, 10),
-        Empty(3, 5, 6),
-        Place(&[(3, 5), (0, 9)]),
-        Full,
-    ];
-    agree(&rt, rt.alloc(), 7, &story)
-}
-
-#[test]
-fn a_second_move_goes_on_from_the_next_address(rt: HostRuntime) -> Result<(), Fail> {
-    let story = [
-        Fill(0, 0, 64),
-        Place(&[(1, 0)]),
-        Empty(0, 1, 64),
-        Choose(Ok(2)),
-        Place(&[(2, 0), (2, 1)]),
-        Empty(0, 0, 1),
-        Empty(1, 0, 1),
-        Renumber,
-        Fill(2, 2, 64),
-        Place(&[(3, 0)]),
-        Empty(2, 0, 63),
-        Choose(Ok(2)),
-        Place(&[(0, 0), (0, 1)]),
-        Empty(2, 63, 64),
-        Empty(3, 0, 1),
-        Renumber,
-        Address(&[(0, 11), (1, 12), (2, 13), (3, 14)]),
-        Place(&[(0, 2)]),
-    ];
-    agree(&rt, rt.alloc(), 7, &story)
-}
-
-#[test]
-fn without_a_choice_a_renumbering_changes_nothing(rt: HostRuntime) -> Result<(), Fail> {
-    let story = [
-        Fill(0, 0, 64),
-        Place(&[(1, 0)]),
-        Renumber,
-        Address(&[(0, 7), (3, 10)]),
-        Taken(&[(0, 64)]),
-        Place(&[(1, 1)]),
-    ];
-    agree(&rt, rt.alloc(), 7, &story)
-}
-
-#[test]
-fn no_choice_is_made_where_addresses_are_spent(rt: HostRuntime) -> Result<(), Fail> {
-    let story = [
-        Place(&[(0, 0)]),
-        Choose(Err(Fault::NoRoom)),
-        Fill(0, 1, 64),
-        Place(&[(1, 0)]),
-        Empty(0, 1, 64),
-        Choose(Err(Fault::AddressesSpent)),
-        HasChosen(false),
-        Place(&[(0, 1)]),
-        Address(&[(3, 4_294_967_295)]),
-    ];
-    agree(&rt, rt.alloc(), 4_294_967_292, &story)
-}
-
-#[test]
-fn the_last_addresses_are_given(rt: HostRuntime) -> Result<(), Fail> {
-    let story = [
-        Fill(0, 0, 64),
-        Place(&[(1, 0)]),
-        Empty(0, 1, 64),
-        Choose(Ok(2)),
-        Empty(0, 0, 1),
-        Empty(1, 0, 1),
-        Renumber,
-        Address(&[(0, 4_294_967_294), (1, 4_294_967_295)]),
-        Fill(2, 0, 64),
-        Place(&[(3, 0)]),
-        Empty(2, 1, 64),
-        Choose(Err(Fault::AddressesSpent)),
-    ];
-    agree(&rt, rt.alloc(), 4_294_967_290, &story)
 }
 
 #[test]
@@ -176,7 +171,7 @@ fn what_is_to_move_has_the_next_free_cells_in_order(rt: HostRuntime) -> Result<(
         IsChosen(1, true),
         IsChosen(2, false),
     ];
-    super::agree(&rt, &mut pages, &chosen);
+    agree(&rt, "chosen", &mut pages, &chosen);
     let mut forwards = [0u32; 256];
     // Which `reserve` asks of its callers.
     assert!(rt; pages.len() == 4);
@@ -204,6 +199,6 @@ fn what_is_to_move_has_the_next_free_cells_in_order(rt: HostRuntime) -> Result<(
         Address(&[(0, 11), (1, 12)]),
         HasLeft(false),
     ];
-    super::agree(&rt, &mut pages, &moved);
+    agree(&rt, "moved", &mut pages, &moved);
     Ok(())
 }
