@@ -149,7 +149,7 @@ struct Story<'a> {
 }
 
 /// These calls, and nothing was put in.
-fn story<'a>(calls: &'a [Row]) -> Story<'a> {
+fn story_of<'a>(calls: &'a [Row]) -> Story<'a> {
     Story {
         starts: STARTS,
         calls,

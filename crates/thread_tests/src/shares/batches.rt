@@ -2,7 +2,7 @@
 //! comes back in the batch where turns run out.
 
 use super::rows::{CLOSE, Call, HEAP_SERVED, SERVED, Sending, deliver_batch, enqueue};
-use super::{death, story};
+use super::{death, story_of};
 use std::test::Fail;
 
 const fn poll(max: u32) -> Call {
@@ -15,7 +15,7 @@ const fn hand_and_put(max: u32) -> Call {
 
 #[test]
 fn a_batch_is_handed_on_and_taken_at_once(rt: HostRuntime) -> Result<(), Fail> {
-    story(&death())
+    story_of(&death())
         .then(&[
             (deliver_batch(32), "added 0, added 1 behind 0"),
             (HEAP_SERVED, "served 13"),
@@ -30,7 +30,7 @@ fn a_batch_is_handed_on_and_taken_at_once(rt: HostRuntime) -> Result<(), Fail> {
         .leaves(&[2, 3], &[])
         .agree(&rt, rt.alloc())?;
     // It is of so many at most.
-    story(&death())
+    story_of(&death())
         .then(&[
             (hand_and_put(1), "added 0 behind 0"),
             (hand_and_put(32), "added 1 behind 1"),
@@ -46,7 +46,7 @@ fn a_batch_is_handed_on_and_taken_at_once(rt: HostRuntime) -> Result<(), Fail> {
 /// Reference 2 was put in by its own call.
 #[test]
 fn what_is_not_added_goes_back_or_stays_in_the_batch(rt: HostRuntime) -> Result<(), Fail> {
-    story(&death())
+    story_of(&death())
         .then(&[
             (enqueue(1), "enqueued"),
             (deliver_batch(1), "already behind 1"),
@@ -60,7 +60,7 @@ fn what_is_not_added_goes_back_or_stays_in_the_batch(rt: HostRuntime) -> Result<
         .leaves(&[2], &[])
         .agree(&rt, rt.alloc())?;
     // A put alone leaves in the batch what is not added.
-    story(&death())
+    story_of(&death())
         .then(&[
             (enqueue(1), "enqueued"),
             (hand_and_put(32), "already, added 1 behind 1 left 2"),
@@ -73,7 +73,7 @@ fn what_is_not_added_goes_back_or_stays_in_the_batch(rt: HostRuntime) -> Result<
 #[test]
 fn a_batch_is_of_1_to_32(rt: HostRuntime) -> Result<(), Fail> {
     let no_worker = Call::Send(Sending::Batch(1, 0));
-    story(&death())
+    story_of(&death())
         .then(&[
             (deliver_batch(0), "refused: BadConfig"),
             (deliver_batch(33), "refused: BadConfig"),
@@ -91,17 +91,17 @@ fn a_batch_is_of_1_to_32(rt: HostRuntime) -> Result<(), Fail> {
 #[test]
 fn without_their_queue_or_a_turn_of_it_all_notices_come_back(rt: HostRuntime) -> Result<(), Fail> {
     let nowhere = Call::SendNowhere(Sending::Batch(0, 32));
-    story(&death())
+    story_of(&death())
         .then(&[(nowhere, "refused: BadQueue left 2 3")])
         .agree(&rt, rt.alloc())?;
-    story(&death())
+    story_of(&death())
         .then(&[
             (deliver_batch(32), "refused: WrongQueue left 2 3"),
             (poll(32), "empty"),
         ])
         .at_another_queue()
         .agree(&rt, rt.alloc())?;
-    story(&death())
+    story_of(&death())
         .then(&[
             (deliver_batch(32), "refused: TurnsSpent left 2 3"),
             (poll(32), "refused: TurnsSpent"),
@@ -113,7 +113,7 @@ fn without_their_queue_or_a_turn_of_it_all_notices_come_back(rt: HostRuntime) ->
 /// A death is 12 turns of the heap. Then there are 0, 1, 2 and 3 more.
 #[test]
 fn a_heap_at_its_last_turns_releases_no_more(rt: HostRuntime) -> Result<(), Fail> {
-    story(&death())
+    story_of(&death())
         .then(&[
             (deliver_batch(32), "refused: TurnsSpent"),
             (SERVED, "served 0"),
@@ -126,7 +126,7 @@ fn a_heap_at_its_last_turns_releases_no_more(rt: HostRuntime) -> Result<(), Fail
         "closed, closed behind 0",
     ];
     for (place, &answer) in answers.iter().enumerate() {
-        story(&death())
+        story_of(&death())
             .then(&[(CLOSE, "was open"), (deliver_batch(32), answer)])
             .heap_from(u64::MAX - 13 - place as u64)
             .agree(&rt, rt.alloc())?;

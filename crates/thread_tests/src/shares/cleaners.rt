@@ -52,7 +52,7 @@ struct Story<'a> {
 }
 
 /// These calls, without a job.
-fn story<'a>(calls: &'a [Row]) -> Story<'a> {
+fn story_of<'a>(calls: &'a [Row]) -> Story<'a> {
     Story {
         heap_first: 0,
         first: 0,

@@ -33,7 +33,7 @@ struct Story<'a> {
 }
 
 /// These calls, and then each queue is told.
-fn story<'a>(calls: &'a [Row]) -> Story<'a> {
+fn story_of<'a>(calls: &'a [Row]) -> Story<'a> {
     Story {
         cells: 32,
         heap_first: 0,
@@ -114,9 +114,9 @@ const fn by_worker_1(now: u64) -> Call {
 #[test]
 fn all_that_was_cleared_is_told_to_its_queue(rt: HostRuntime) -> Result<(), Fail> {
     // By whole cycles.
-    story(&[(cycle(5), "ok"), (cycle(5), "ok"), (DELIVER_ALL, "ok")]).agree(&rt, rt.alloc())?;
+    story_of(&[(cycle(5), "ok"), (cycle(5), "ok"), (DELIVER_ALL, "ok")]).agree(&rt, rt.alloc())?;
     // By deliveries of all that is pending.
-    story(&[
+    story_of(&[
         (perform(BEGIN), "cycle 1"),
         (perform(SCAN), "scanned 3"),
         (perform(SCAN), "scanned 2"),
@@ -132,7 +132,7 @@ fn all_that_was_cleared_is_told_to_its_queue(rt: HostRuntime) -> Result<(), Fail
 
 #[test]
 fn what_the_heap_refuses_in_a_cycle_is_told(rt: HostRuntime) -> Result<(), Fail> {
-    story(&[
+    story_of(&[
         (cycle(5), "ok"),
         (cycle(4), "refused: ClockBack"),
         (by_worker_1(5), "refused: NoSuchActor"),
@@ -141,7 +141,7 @@ fn what_the_heap_refuses_in_a_cycle_is_told(rt: HostRuntime) -> Result<(), Fail>
     ])
     .agree(&rt, rt.alloc())?;
     // No turn is left behind a begin and a scan.
-    story(&[
+    story_of(&[
         (cycle(5), "refused: TurnsSpent"),
         (DELIVER_ALL, "refused: TurnsSpent"),
     ])
@@ -153,7 +153,7 @@ fn what_the_heap_refuses_in_a_cycle_is_told(rt: HostRuntime) -> Result<(), Fail>
 fn a_cycle_stops_where_a_notice_comes_back(rt: HostRuntime) -> Result<(), Fail> {
     let nowhere = Call::SendNowhere(Sending::Cycle(0, 5, Urgency::Normal));
     let deliver_nowhere = Call::SendNowhere(Sending::All(0));
-    story(&[
+    story_of(&[
         // The notice of the last queue's reference comes first.
         (nowhere, "refused: BadQueue left 3"),
         (deliver_nowhere, "refused: BadQueue left 2"),
@@ -162,7 +162,7 @@ fn a_cycle_stops_where_a_notice_comes_back(rt: HostRuntime) -> Result<(), Fail> 
     ])
     .in_vain(0, 0)
     .agree(&rt, rt.alloc())?;
-    story(&[
+    story_of(&[
         (cycle(5), "refused: TurnsSpent left 3"),
         (DELIVER_ALL, "refused: TurnsSpent left 2"),
         (DELIVER_ALL, "ok"),
@@ -183,7 +183,7 @@ const fn refer(slot: u32) -> Call {
 
 #[test]
 fn an_urgent_cycle_keeps_no_soft_reference(rt: HostRuntime) -> Result<(), Fail> {
-    story(&[
+    story_of(&[
         (perform(new(4)), "object 4"),
         (perform(soft_alone(5, 4)), "object 5"),
         (perform(drop_slot(4)), "ok"),
@@ -203,7 +203,7 @@ fn an_urgent_cycle_keeps_no_soft_reference(rt: HostRuntime) -> Result<(), Fail> 
 fn where_a_heap_is_full_a_cycle_comes_first_and_then_an_urgent_one(
     rt: HostRuntime,
 ) -> Result<(), Fail> {
-    story(&[
+    story_of(&[
         (perform(new(4)), "object 4"),
         (perform(soft_alone(5, 4)), "object 5"),
         (perform(new(4)), "object 6"),

@@ -4,7 +4,7 @@ use super::rows::{
     CLOSE, Call, DELIVER, HEAP_SERVED, POLL, SERVED, Sending, WAIT, ask, drop_slot, enqueue, new,
     step, weak, weak_alone, within,
 };
-use super::{CONFIG, death, story};
+use super::{CONFIG, death, story_of};
 use ref_base::{Config, Fault};
 use ref_share::SharedHeap;
 use std::alloc::Global;
@@ -13,7 +13,7 @@ use std::test::Fail;
 #[test]
 fn what_is_not_there_is_refused(rt: HostRuntime) -> Result<(), Fail> {
     // A limit of polls is from 1 to a million.
-    story(&[
+    story_of(&[
         (within(0), "refused: BadConfig"),
         (within(1_000_001), "refused: BadConfig"),
         (within(1), "timed out"),
@@ -22,7 +22,7 @@ fn what_is_not_there_is_refused(rt: HostRuntime) -> Result<(), Fail> {
     ])
     .agree(&rt, rt.alloc())?;
     // What the heap refuses is told.
-    story(&[
+    story_of(&[
         (step(new(0)), "object 1"),
         (step(weak_alone(1, 0)), "object 2"),
         (enqueue(1), "not enqueued"),
@@ -40,14 +40,14 @@ fn what_is_not_there_is_refused(rt: HostRuntime) -> Result<(), Fail> {
 fn what_no_queue_takes_comes_back(rt: HostRuntime) -> Result<(), Fail> {
     let alloc = rt.alloc();
     let bad_queue = "not put 2: BadQueue";
-    story(&death())
+    story_of(&death())
         .then(&[
             (Call::SendNowhere(Sending::Enqueue(1)), bad_queue),
             (Call::SendNowhere(Sending::One(0)), bad_queue),
         ])
         .agree(&rt, alloc)?;
     let wrong_queue = "not put 2: WrongQueue";
-    story(&death())
+    story_of(&death())
         .then(&[
             (Call::Put(1), wrong_queue),
             (enqueue(1), wrong_queue),
@@ -56,7 +56,7 @@ fn what_no_queue_takes_comes_back(rt: HostRuntime) -> Result<(), Fail> {
         .at_another_queue()
         .agree(&rt, alloc)?;
     let no_turn = "not put 2: TurnsSpent";
-    story(&death())
+    story_of(&death())
         .then(&[
             (Call::Put(1), no_turn),
             (enqueue(1), no_turn),
@@ -68,7 +68,7 @@ fn what_no_queue_takes_comes_back(rt: HostRuntime) -> Result<(), Fail> {
 
 #[test]
 fn the_last_turn_is_made_once(rt: HostRuntime) -> Result<(), Fail> {
-    story(&[
+    story_of(&[
         (CLOSE, "was open"),
         (CLOSE, "refused: TurnsSpent"),
         (POLL, "refused: TurnsSpent"),
@@ -79,7 +79,7 @@ fn the_last_turn_is_made_once(rt: HostRuntime) -> Result<(), Fail> {
     ])
     .queue_from(u64::MAX - 1)
     .agree(&rt, rt.alloc())?;
-    story(&[
+    story_of(&[
         (step(new(0)), "object 1"),
         (step(drop_slot(0)), "refused: TurnsSpent"),
         (ask(drop_slot(0)), "refused: TurnsSpent"),
@@ -95,7 +95,7 @@ fn the_last_turn_is_made_once(rt: HostRuntime) -> Result<(), Fail> {
 #[test]
 fn without_a_turn_for_the_release_the_hold_comes_back(rt: HostRuntime) -> Result<(), Fail> {
     // Two objects are made, and two unhooks.
-    story(&[
+    story_of(&[
         (step(new(0)), "object 1"),
         (step(weak(1, 0)), "object 2"),
         (enqueue(1), "enqueued"),
@@ -105,7 +105,7 @@ fn without_a_turn_for_the_release_the_hold_comes_back(rt: HostRuntime) -> Result
     .leaves(&[2], &[2])
     .agree(&rt, rt.alloc())?;
     // Twelve turns of the cycle, an unhook and a hand.
-    story(&death())
+    story_of(&death())
         .then(&[
             (enqueue(1), "enqueued"),
             (DELIVER, "not released 2: TurnsSpent"),

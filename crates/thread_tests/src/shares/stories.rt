@@ -4,7 +4,7 @@ use super::rows::{
     CLOSE, Call, DELIVER, HEAP_SERVED, POLL, SERVED, Sending, WAIT, ask, drop_slot, enqueue, new,
     step, weak, within,
 };
-use super::{Q, Row, Starts, death, story};
+use super::{Q, Row, Starts, death, story_of};
 use ref_base::{Fault, Reply};
 use std::test::Fail;
 
@@ -21,7 +21,7 @@ pub fn two_references() -> [Row; 3] {
 fn what_is_put_in_is_taken_out_in_order(rt: HostRuntime) -> Result<(), Fail> {
     let alloc = rt.alloc();
     // One thread enqueues and polls.
-    story(&two_references())
+    story_of(&two_references())
         .then(&[
             (enqueue(1), "enqueued"),
             (enqueue(1), "not enqueued"),
@@ -36,7 +36,7 @@ fn what_is_put_in_is_taken_out_in_order(rt: HostRuntime) -> Result<(), Fail> {
         .leaves(&[2, 3], &[])
         .agree(&rt, alloc)?;
     // A closed queue gives what stands.
-    story(&two_references())
+    story_of(&two_references())
         .then(&[
             (enqueue(1), "enqueued"),
             (enqueue(2), "enqueued"),
@@ -55,7 +55,7 @@ fn what_is_put_in_is_taken_out_in_order(rt: HostRuntime) -> Result<(), Fail> {
 #[test]
 fn puts_and_steps_take_turns(rt: HostRuntime) -> Result<(), Fail> {
     // A put answers as the queue does.
-    story(&two_references())
+    story_of(&two_references())
         .then(&[
             (Call::Put(1), "added 0"),
             (Call::Put(1), "already"),
@@ -67,7 +67,7 @@ fn puts_and_steps_take_turns(rt: HostRuntime) -> Result<(), Fail> {
         .leaves(&[2, 3], &[2, 3])
         .agree(&rt, rt.alloc())?;
     // A step is made by a call that waits, too.
-    story(&[
+    story_of(&[
         (ask(new(0)), "object 1"),
         (step(drop_slot(0)), "ok"),
         (ask(drop_slot(16)), "refused 9 NoSuchActor"),
@@ -85,7 +85,7 @@ fn puts_and_steps_take_turns(rt: HostRuntime) -> Result<(), Fail> {
 #[test]
 fn what_a_cycle_cleared_is_delivered(rt: HostRuntime) -> Result<(), Fail> {
     let alloc = rt.alloc();
-    story(&death())
+    story_of(&death())
         .then(&[
             (DELIVER, "delivered 2 0 0"),
             (DELIVER, "delivered 3 0 1"),
@@ -97,7 +97,7 @@ fn what_a_cycle_cleared_is_delivered(rt: HostRuntime) -> Result<(), Fail> {
         .leaves(&[2, 3], &[3])
         .agree(&rt, alloc)?;
     // Nothing is delivered behind a close.
-    story(&death())
+    story_of(&death())
         .then(&[
             (DELIVER, "delivered 2 0 0"),
             (CLOSE, "was open"),
@@ -109,7 +109,7 @@ fn what_a_cycle_cleared_is_delivered(rt: HostRuntime) -> Result<(), Fail> {
         .leaves(&[2], &[2])
         .agree(&rt, alloc)?;
     // What was enqueued before is dropped.
-    story(&death())
+    story_of(&death())
         .then(&[
             (enqueue(1), "enqueued"),
             (DELIVER, "dropped 2"),

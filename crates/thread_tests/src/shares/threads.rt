@@ -7,7 +7,7 @@ use super::calls::answer;
 use super::rows::{CLOSE, Call, DELIVER, WAIT, enqueue};
 use super::stories::two_references;
 use super::told::Told;
-use super::{Seats, Story, death, make_calls, start, story};
+use super::{Seats, Story, death, make_calls, start, story_of};
 use ref_share::{QueueSeat, SharedHeap, SharedQueue};
 use std::alloc::Global;
 use std::process::Abort;
@@ -163,16 +163,16 @@ fn who_waits_is_told_what_comes_or_of_the_close(rt: HostRuntime) -> Result<(), F
     let close = (CLOSE, "was open");
     let alloc = rt.alloc();
     // A close wakes all that wait.
-    agree_while_two_wait(&rt, alloc, &story(&[close]), ("closed", "closed"))?;
+    agree_while_two_wait(&rt, alloc, &story_of(&[close]), ("closed", "closed"))?;
     // What is put later goes to those that wait.
     let (death, deliveries) = (
         death(),
         [(DELIVER, "delivered 2 0 0"), (DELIVER, "delivered 3 0 1")],
     );
-    let both = story(&death).then(&deliveries).leaves(&[2, 3], &[]);
+    let both = story_of(&death).then(&deliveries).leaves(&[2, 3], &[]);
     agree_while_two_wait(&rt, alloc, &both, ("took 2", "took 3"))?;
     // Who waits for more than comes is told of the close.
     let (two, calls) = (two_references(), [(enqueue(1), "enqueued"), close]);
-    let one = story(&two).then(&calls).leaves(&[2], &[]);
+    let one = story_of(&two).then(&calls).leaves(&[2], &[]);
     agree_while_two_wait(&rt, alloc, &one, ("took 2", "closed"))
 }

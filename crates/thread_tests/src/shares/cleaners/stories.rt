@@ -1,6 +1,6 @@
 //! Jobs that are run, and calls that are refused.
 
-use super::{Story, story};
+use super::{Story, story_of};
 use crate::shares::rows::{
     BEGIN, CLEAN_LOOP, CLEAN_SOME, CLEANER_SERVED, CLEAR_NEXT, CLOSE, DELIVER, END_CLEAR, END_MARK,
     SCAN, ask, clean, drop_slot, enqueue, new, register, step, weak,
@@ -52,7 +52,7 @@ fn each_job_runs_once_by_hand_or_by_one_of_two_threads(rt: HostRuntime) -> Resul
             (DELIVER, "none"),
             (CLEANER_SERVED, "served 12"),
         ],
-        ..story(&calls)
+        ..story_of(&calls)
     };
     story
         .with_jobs(&[3, 1, 2, 4])
@@ -64,7 +64,7 @@ fn each_job_runs_once_by_hand_or_by_one_of_two_threads(rt: HostRuntime) -> Resul
 #[test]
 fn jobs_run_whose_notices_stand(rt: HostRuntime) -> Result<(), Fail> {
     // A notice without a job counts for nothing.
-    story(&[
+    story_of(&[
         (step(new(0)), "object 1"),
         (step(weak(1, 0)), "object 2"),
         (register(0, 2), "registered 3"),
@@ -78,7 +78,7 @@ fn jobs_run_whose_notices_stand(rt: HostRuntime) -> Result<(), Fail> {
     .ends(1, 0)
     .agree(&rt, rt.alloc())?;
     // They run without waiting.
-    story(&[
+    story_of(&[
         (step(new(0)), "object 1"),
         (CLEAN_SOME, "ran jobs 0"),
         (register(0, 1), "registered 2"),
@@ -100,7 +100,7 @@ fn jobs_run_whose_notices_stand(rt: HostRuntime) -> Result<(), Fail> {
 #[test]
 fn what_is_refused_gives_the_job_back(rt: HostRuntime) -> Result<(), Fail> {
     // The heap refuses.
-    story(&[
+    story_of(&[
         (register(0, 1), "refused: EmptySlot job 0"),
         (register(16, 1), "refused: NoSuchActor job 1"),
         (CLEANER_SERVED, "served 0"),
@@ -108,7 +108,7 @@ fn what_is_refused_gives_the_job_back(rt: HostRuntime) -> Result<(), Fail> {
     .with_jobs(&[0, 1])
     .agree(&rt, rt.alloc())?;
     // The first register takes the cleaner's last turn.
-    story(&[
+    story_of(&[
         (step(new(0)), "object 1"),
         (register(0, 1), "registered 2"),
         (clean(2, 3), "refused: TurnsSpent"),
@@ -123,7 +123,7 @@ fn what_is_refused_gives_the_job_back(rt: HostRuntime) -> Result<(), Fail> {
     .ends(0, 1)
     .agree(&rt, rt.alloc())?;
     // An object, a reference and its hold are the heap's last turns.
-    story(&[
+    story_of(&[
         (step(new(0)), "object 1"),
         (register(0, 1), "not released 2: TurnsSpent job 1"),
     ])
@@ -141,21 +141,21 @@ fn without_a_turn_of_the_heap_a_job_still_runs(rt: HostRuntime) -> Result<(), Fa
     let close = (CLOSE, "was open");
     let unheld = (clean(2, 3), "ran unheld 1 1001 2");
     // An object, a reference and its hold are the last turns.
-    story(&[first, register, unheld])
+    story_of(&[first, register, unheld])
         .heap_from(u64::MAX - 3)
         .with_jobs(&[1])
         .ends(1, 0)
         .agree(&rt, rt.alloc())?;
     // Or they and an unhook: without a turn for its notice a job stays.
     let looped = (CLEAN_LOOP, "not released 2: TurnsSpent");
-    story(&[first, register, put_in, close, looped, unheld])
+    story_of(&[first, register, put_in, close, looped, unheld])
         .heap_from(u64::MAX - 4)
         .with_jobs(&[1])
         .ends(1, 0)
         .agree(&rt, rt.alloc())?;
     // Or the release of the notice, too.
     let gone = (clean(2, 3), "no job");
-    story(&[first, register, put_in, close, looped, gone])
+    story_of(&[first, register, put_in, close, looped, gone])
         .heap_from(u64::MAX - 5)
         .with_jobs(&[1])
         .hears(1, 0)
