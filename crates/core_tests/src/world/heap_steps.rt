@@ -107,21 +107,28 @@ fn released<A: Allocator + Copy>(bench: &mut Bench<A>) -> (Reply, Nos) {
 }
 
 /// What a step is answered. A step that is none of a heap's finds no such actor.
+fn done<A: Allocator + Copy>(bench: &mut Bench<A>, step: Step) -> (Reply, Nos) {
+    match step {
+        Step::Plain(step) => asked(bench, HeapStep::Plain(step)),
+        Step::Unhook { mutator, reference } => asked(
+            bench,
+            HeapStep::Unhook { mutator, reference },
+        ),
+        Step::Hand { worker } => asked(bench, HeapStep::Hand { worker }),
+        Step::Hands { worker, max } => handed(bench, worker, max),
+        Step::Adopt { mutator, slot } => adopted(bench, mutator, slot),
+        Step::Release { .. } => released(bench),
+        _ => (refused(Fault::NoSuchActor), Nos::new()),
+    }
+}
+
 fn answer<A: Allocator + Copy>(bench: &mut Bench<A>, ask: Ask) -> (Reply, Nos) {
     match ask {
         Ask::Hold(slot) => {
             let (mutator, slot) = (M, SlotNo(slot));
             asked(bench, HeapStep::Hold { mutator, slot })
         }
-        Ask::Do(Step::Plain(step)) => asked(bench, HeapStep::Plain(step)),
-        Ask::Do(Step::Unhook { mutator, reference }) => {
-            asked(bench, HeapStep::Unhook { mutator, reference })
-        }
-        Ask::Do(Step::Hand { worker }) => asked(bench, HeapStep::Hand { worker }),
-        Ask::Do(Step::Hands { worker, max }) => handed(bench, worker, max),
-        Ask::Do(Step::Adopt { mutator, slot }) => adopted(bench, mutator, slot),
-        Ask::Do(Step::Release { .. }) => released(bench),
-        Ask::Do(_) => (refused(Fault::NoSuchActor), Nos::new()),
+        Ask::Do(step) => done(bench, step),
     }
 }
 
