@@ -6,7 +6,9 @@ use crate::rows::{
     END_MARK, M, RELEASE, adopt, begin, clear_next, cleared, drop_slot, hand, hands, new, object,
     of_cycle, of_one_cycle, own, refused, scan, scanned, unhook, weak,
 };
-use ref_base::{Batch, Fault, HeapStep, MOST_IN_BATCH, Nos, Parcel, Reply, SlotNo, Step};
+use ref_base::{
+    Batch, Fault, HeapStep, MOST_IN_BATCH, MutNo, Nos, Parcel, Reply, SlotNo, Step, WorkerNo,
+};
 use ref_clear::Notice;
 use ref_objects::{Hold, Start};
 use ref_world::{HeapCall, HeapReply, WorldHeap, apply_heap};
@@ -71,35 +73,63 @@ fn asked<A: Allocator + Copy>(bench: &mut Bench<A>, step: HeapCall<A>) -> (Reply
     (reply, Nos::new())
 }
 
-/// What a step is answered. A step that is none of a heap's finds no such actor.
-fn answer<A: Allocator + Copy>(bench: &mut Bench<A>, ask: Ask) -> (Reply, Nos) {
-    let call = match ask {
-        Ask::Hold(slot) => HeapStep::Hold {
-            mutator: M,
-            slot: SlotNo(slot),
-        },
-        Ask::Do(Step::Plain(step)) => HeapStep::Plain(step),
-        Ask::Do(Step::Unhook { mutator, reference }) => HeapStep::Unhook { mutator, reference },
-        Ask::Do(Step::Hand { worker }) => HeapStep::Hand { worker },
-        Ask::Do(Step::Hands { worker, max }) => match Batch::new(bench.alloc) {
-            Ok(batch) => HeapStep::Hands { worker, max, batch },
-            Err(fault) => return (refused(fault), Nos::new()),
-        },
-        Ask::Do(Step::Adopt { mutator, slot }) => match bench.hand.take() {
-            Some(hold) => HeapStep::Adopt {
+/// A hand of so many at most. `NoMemory` where there is none for the batch.
+fn handed<A: Allocator + Copy>(bench: &mut Bench<A>, worker: WorkerNo, max: u32) -> (Reply, Nos) {
+    match Batch::new(bench.alloc) {
+        Ok(batch) => asked(bench, HeapStep::Hands { worker, max, batch }),
+        Err(fault) => (refused(fault), Nos::new()),
+    }
+}
+
+fn adopted<A: Allocator + Copy>(
+    bench: &mut Bench<A>,
+    mutator: MutNo,
+    slot: SlotNo,
+) -> (Reply, Nos) {
+    match bench.hand.take() {
+        Some(hold) => asked(
+            bench,
+            HeapStep::Adopt {
                 mutator,
                 slot,
                 hold,
             },
-            None => return (refused(Fault::HandEmpty), Nos::new()),
-        },
-        Ask::Do(Step::Release { .. }) => match bench.hand.take() {
-            Some(hold) => HeapStep::Release { hold },
-            None => return (refused(Fault::HandEmpty), Nos::new()),
-        },
-        Ask::Do(_) => return (refused(Fault::NoSuchActor), Nos::new()),
-    };
-    asked(bench, call)
+        ),
+        None => (refused(Fault::HandEmpty), Nos::new()),
+    }
+}
+
+fn released<A: Allocator + Copy>(bench: &mut Bench<A>) -> (Reply, Nos) {
+    match bench.hand.take() {
+        Some(hold) => asked(bench, HeapStep::Release { hold }),
+        None => (refused(Fault::HandEmpty), Nos::new()),
+    }
+}
+
+/// What a step is answered. A step that is none of a heap's finds no such actor.
+fn done<A: Allocator + Copy>(bench: &mut Bench<A>, step: Step) -> (Reply, Nos) {
+    match step {
+        Step::Plain(step) => asked(bench, HeapStep::Plain(step)),
+        Step::Unhook { mutator, reference } => asked(
+            bench,
+            HeapStep::Unhook { mutator, reference },
+        ),
+        Step::Hand { worker } => asked(bench, HeapStep::Hand { worker }),
+        Step::Hands { worker, max } => handed(bench, worker, max),
+        Step::Adopt { mutator, slot } => adopted(bench, mutator, slot),
+        Step::Release { .. } => released(bench),
+        _ => (refused(Fault::NoSuchActor), Nos::new()),
+    }
+}
+
+fn answer<A: Allocator + Copy>(bench: &mut Bench<A>, ask: Ask) -> (Reply, Nos) {
+    match ask {
+        Ask::Hold(slot) => {
+            let (mutator, slot) = (M, SlotNo(slot));
+            asked(bench, HeapStep::Hold { mutator, slot })
+        }
+        Ask::Do(step) => done(bench, step),
+    }
 }
 
 /// The references that a reply of several notices tells.

@@ -284,7 +284,15 @@ fn no_step_takes_memory_while_objects_move(rt: HostRuntime) -> Result<(), Fail> 
     Ok(())
 }
 
-/// Steps that begin behind these are answered so with no memory. Those of the heap alone may be asked in fewer bytes.
+/// The reply to a step, which is asked in fewer bytes where it is of the heap alone.
+fn asked<A: Allocator + Copy>(world: &mut World<A>, step: Step) -> Reply {
+    match step {
+        Step::Plain(step) => world.ask(step).reply(),
+        step => world.step(step),
+    }
+}
+
+/// The rows of `each_step` are so with no memory, where each step is done, and where it is asked.
 fn take_no_memory(rt: &impl Abort, alloc: Global, is_asked: bool) -> Result<(), Fail> {
     let memory = Rationed::new(alloc);
     let mut world = World::new(&memory, TWO_QUEUES)?;
@@ -292,9 +300,10 @@ fn take_no_memory(rt: &impl Abort, alloc: Global, is_asked: bool) -> Result<(), 
     do_steps(rt, &mut world, &[(PUT, Reply::Added(0))]);
     memory.ration(0);
     for (row, &(step, want)) in each_step().iter().enumerate() {
-        let reply = match step {
-            Step::Plain(step) if is_asked => world.ask(step).reply(),
-            step => world.step(step),
+        let reply = if is_asked {
+            asked(&mut world, step)
+        } else {
+            world.step(step)
         };
         assert_eq!(rt; reply, want, "row {row}: {step}");
     }
