@@ -33,7 +33,7 @@ mod threads;
 pub mod told;
 
 /// A call, and what it is answered.
-pub type Row = (Call, &'static str);
+pub type Row<'a> = (Call, &'a str);
 
 /// One mutator, one worker, one queue, 8 cells, and a span of 10.
 pub const CONFIG: Config = Config {
@@ -101,7 +101,7 @@ pub fn new_batch<A: Allocator>(rt: &impl Abort, alloc: A) -> Batch<Notice, A>
 }
 
 /// A cycle finds object 1 dead. References 2 and 3 to it are in slots 1 and 2, and pending in this order.
-pub fn death() -> [Row; 12] {
+pub fn death() -> [Row<'static>; 12] {
     [
         (step(new(0)), "object 1"),
         (step(weak(1, 0)), "object 2"),
@@ -140,8 +140,8 @@ pub fn make_calls<R: Wait + Abort, A: Allocator + Copy>(
 #[derive(Drop)]
 struct Story<'a> {
     starts: Starts,
-    calls: &'a [Row],
-    then: &'a [Row],
+    calls: &'a [Row<'a>],
+    then: &'a [Row<'a>],
     /// The references that were ever put in, in order.
     put_in: &'a [u32],
     /// Those of them that stand in the end.
@@ -149,7 +149,7 @@ struct Story<'a> {
 }
 
 /// These calls, and nothing was put in.
-fn story_of<'a>(calls: &'a [Row]) -> Story<'a> {
+fn story_of<'a>(calls: &'a [Row<'a>]) -> Story<'a> {
     Story {
         starts: STARTS,
         calls,
@@ -161,7 +161,7 @@ fn story_of<'a>(calls: &'a [Row]) -> Story<'a> {
 
 impl<'a> Story<'a> {
     /// These calls behind those before.
-    fn then(self, then: &'a [Row]) -> Story<'a> {
+    fn then(self, then: &'a [Row<'a>]) -> Story<'a> {
         Story { then, ..self }
     }
 
@@ -172,18 +172,21 @@ impl<'a> Story<'a> {
 
     /// The heap's first ticket.
     fn heap_from(self, heap: u64) -> Story<'a> {
-        self.from(Starts { heap, ..STARTS })
+        let starts = Starts { heap, ..STARTS };
+        Story { starts, ..self }
     }
 
     /// The queue's first ticket.
     fn queue_from(self, queue: u64) -> Story<'a> {
-        self.from(Starts { queue, ..STARTS })
+        let starts = Starts { queue, ..STARTS };
+        Story { starts, ..self }
     }
 
     /// The queue has the number 1, and not that of the references.
     fn at_another_queue(self) -> Story<'a> {
         let number = QueueNo(1);
-        self.from(Starts { number, ..STARTS })
+        let starts = Starts { number, ..STARTS };
+        Story { starts, ..self }
     }
 
     /// What was put in, and what stands in the end.

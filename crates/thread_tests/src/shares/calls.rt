@@ -8,7 +8,7 @@ ghost use Rattle.std.specs.Mem.{FitsInMemory};
 ghost use Rattle.thread_tests.specs.QueueRows.{queue_row};
 
 use super::rows::{Call, OfHeap, OfQueue, Sending};
-use super::told::{Told, counted, delivery, either, not, outs_told, refused, replied, word};
+use super::told::{Told, Word, counted, delivery, either, not, outs_told, refused, replied, word};
 use super::{M, Q, Seats, W, new_batch};
 use ref_base::{Batch, Fault, HeapStep, MOST_IN_BATCH, Nos, Outs, Parcel, Reply, SlotNo, WorkerNo};
 use ref_clear::Notice;
@@ -31,20 +31,20 @@ pub fn stepped<A: Allocator>(answer: Result<HeapAnswer<A>, TurnFault<HeapCall<A>
         Ok(HeapReply::Told(reply)) => replied(reply.reply()),
         Ok(HeapReply::Notice(notice)) => {
             notice.into_hold().leak();
-            word("unknown")
+            word(Word::Unknown)
         }
         Ok(HeapReply::Held(hold)) => {
             hold.leak();
-            word("unknown")
+            word(Word::Unknown)
         }
         Ok(HeapReply::Back(fault, hold)) => held(hold, fault),
         Ok(HeapReply::Handed(_, batch)) => {
             end_batch(batch);
-            word("unknown")
+            word(Word::Unknown)
         }
         Err(TurnFault::Busy(step)) => {
             spend(step);
-            word("busy")
+            word(Word::Busy)
         }
         Err(TurnFault::Spent(step)) => {
             spend(step);
@@ -73,7 +73,7 @@ pub fn reply_or_fault(answer: Result<Reply, Fault>) -> Told {
 }
 
 fn held(hold: Hold, fault: Fault) -> Told {
-    let told = not("not released", hold.obj().0, fault);
+    let told = not(Word::NotReleased, hold.obj().0, fault);
     hold.leak();
     told
 }
@@ -82,11 +82,11 @@ fn held(hold: Hold, fault: Fault) -> Told {
 pub fn given_up(fault: ShareFault) -> Told {
     match fault {
         ShareFault::Refused(fault) => refused(fault),
-        ShareFault::Busy => word("busy"),
+        ShareFault::Busy => word(Word::Busy),
         ShareFault::Notice(notice, fault) => {
             let no = notice.obj().0;
             notice.into_hold().leak();
-            not("not put", no, fault)
+            not(Word::NotPut, no, fault)
         }
         ShareFault::Held(hold, fault) => held(hold, fault),
     }
@@ -121,7 +121,7 @@ pub fn refusal<R: Wait, A: Allocator + Copy>(
 {
     match fault {
         ShareFault::Notice(notice, fault) => {
-            let told = not("not put", notice.obj().0, fault);
+            let told = not(Word::NotPut, notice.obj().0, fault);
             released(rt, heap, seat, notice, told)
         }
         fault => given_up(fault),
@@ -134,7 +134,7 @@ pub fn of_poll(answer: Result<Polled, ShareFault>) -> (Told, Option<Notice>) {
         Ok(Polled::Took(notice)) => (replied(Reply::Took(notice.obj())), Some(notice)),
         Ok(Polled::Empty) => (replied(Reply::Empty), None),
         Ok(Polled::Closed) => (replied(Reply::Closed), None),
-        Ok(Polled::TimedOut) => (word("timed out"), None),
+        Ok(Polled::TimedOut) => (word(Word::TimedOut), None),
         Err(fault) => (given_up(fault), None),
     }
 }
@@ -169,7 +169,7 @@ pub fn of_heap<R: Wait, A: Allocator + Copy>(
         OfHeap::Try(step) => stepped(heap.try_call(seat, HeapStep::Plain(step))),
         OfHeap::Ask(step) => reply_or_fault(heap.ask(rt, seat, step)),
         OfHeap::Perform(step) => reply_or_fault(heap.perform(rt, seat, step)),
-        OfHeap::Served => counted("served", heap.served(seat)),
+        OfHeap::Served => counted(Word::Served, heap.served(seat)),
     }
 }
 
@@ -198,10 +198,10 @@ fn of_queue<R: Wait, A: Allocator + Copy>(
             polled(rt, heap, &mut seats.heap, answer)
         }
         OfQueue::Close => match queue.close(rt, &mut seats.queue) {
-            Ok(answer) => either(answer, "was open", "was closed"),
+            Ok(answer) => either(answer, Word::WasOpen, Word::WasClosed),
             Err(fault) => refusal(rt, heap, &mut seats.heap, fault),
         },
-        OfQueue::Served => counted("served", queue.served(&mut seats.queue)),
+        OfQueue::Served => counted(Word::Served, queue.served(&mut seats.queue)),
     }
 }
 
@@ -226,7 +226,7 @@ fn put<R: Wait, A: Allocator + Copy>(
         Ok(Put::Added(position)) => return replied(Reply::Added(position)),
         Ok(Put::Already(back)) => (back, replied(Reply::Already)),
         Ok(Put::Closed(back)) => (back, replied(Reply::Closed)),
-        Err((fault, back)) => (back, not("not put", no, fault)),
+        Err((fault, back)) => (back, not(Word::NotPut, no, fault)),
     };
     released(rt, heap, &mut seats.heap, back, told)
 }
@@ -279,7 +279,7 @@ pub fn sent<R: Wait, A: Allocator + Copy>(
     match sending {
         Sending::Enqueue(slot) => {
             let answer = enqueue(rt, shared.0, seat, shared.1, seats, M, SlotNo(slot));
-            let told = answer.map(|answer| either(answer, "enqueued", "not enqueued"));
+            let told = answer.map(|answer| either(answer, Word::Enqueued, Word::NotEnqueued));
             told_of(rt, shared.0, seat, told, batch)
         }
         Sending::One(worker) => {
@@ -399,7 +399,7 @@ fn handed_and_put<R: Wait, A: Allocator + Copy>(
                 Err(fault) => refused(fault).leaving(left),
             }
         }
-        Ok(Some(_)) => word("unknown").leaving(emptied(batch)),
+        Ok(Some(_)) => word(Word::Unknown).leaving(emptied(batch)),
         Ok(None) => replied(Reply::Nothing).leaving(emptied(batch)),
         Err(fault) => refused(fault).leaving(emptied(batch)),
     }
@@ -419,7 +419,7 @@ fn polled_batch<A: Allocator + Copy>(
     let left = emptied(batch);
     match answer {
         Ok(PolledBatch::Took(taken)) if taken == left => replied(Reply::TookSome(taken)),
-        Ok(PolledBatch::Took(_)) => word("unknown").leaving(left),
+        Ok(PolledBatch::Took(_)) => word(Word::Unknown).leaving(left),
         Ok(PolledBatch::Empty) => replied(Reply::Empty).leaving(left),
         Ok(PolledBatch::Closed) => replied(Reply::Closed).leaving(left),
         Err(fault) => given_up(fault).leaving(left),
@@ -454,6 +454,6 @@ pub fn answer<R: Wait + Abort, A: Allocator + Copy>(
             handed_and_put(rt, heap, queue, seats, max, new_batch(rt, alloc))
         }
         Call::PollBatch(max) => { polled_batch(queue, &mut seats.queue, max, new_batch(rt, alloc)) }
-        Call::Clean(_) => word("unknown"),
+        Call::Clean(_) => word(Word::Unknown),
     }
 }

@@ -35,14 +35,14 @@ struct Story<'a> {
     first: u64,
     /// The jobs, in the order in which they are registered.
     jobs: &'a [u32],
-    calls: &'a [Row],
+    calls: &'a [Row<'a>],
     /// What a third thread does while two run the jobs of what is gone. Where it is nothing, there are no such threads.
-    meanwhile: &'a [Row],
+    meanwhile: &'a [Row<'a>],
     /// What it does then, while job 1 waits for it.
-    held: &'a [Row],
+    held: &'a [Row<'a>],
     /// How many jobs the two run.
     count: u64,
-    then: &'a [Row],
+    then: &'a [Row<'a>],
     /// How often those who run the jobs of what is gone ran job 1, and job 2.
     heard: (u64, u64),
     /// How many actions were called in all.
@@ -52,7 +52,7 @@ struct Story<'a> {
 }
 
 /// These calls, without a job.
-fn story_of<'a>(calls: &'a [Row]) -> Story<'a> {
+fn story_of<'a>(calls: &'a [Row<'a>]) -> Story<'a> {
     Story {
         heap_first: 0,
         first: 0,

@@ -9,7 +9,7 @@ use super::rows::{
     BEGIN, CLEAR_NEXT, Call, DELIVER_ALL, END_MARK, SCAN, Sending, cycle, drop_slot, get,
     make_or_collect, new, perform, soft_alone, urgent, weak_alone,
 };
-use super::told::{Told, expect, word};
+use super::told::{Told, Word, expect, word};
 use super::{Row, new_batch};
 use ref_base::{Config, Urgency};
 use ref_share::{HeapSeat, SharedHeap};
@@ -27,13 +27,13 @@ struct Story<'a> {
     heap_first: u64,
     /// The first ticket of each queue.
     first: u64,
-    calls: &'a [Row],
+    calls: &'a [Row<'a>],
     /// Whether each queue was told of its reference.
     is_told: bool,
 }
 
 /// These calls, and then each queue is told.
-fn story_of<'a>(calls: &'a [Row]) -> Story<'a> {
+fn story_of<'a>(calls: &'a [Row<'a>]) -> Story<'a> {
     Story {
         cells: 32,
         heap_first: 0,
@@ -69,7 +69,7 @@ fn answer<R: Wait + Abort>(
             )
         }
         Call::SendNowhere(sending) => sent_nowhere(rt, heap, seat, sending, new_batch(rt, alloc)),
-        _ => word("unknown"),
+        _ => word(Word::Unknown),
     }
 }
 

@@ -236,9 +236,16 @@ fn enqueue_all<R: Wait + Abort>(rt: &R, alloc: Global, queues: u32) -> Result<()
     let mut lists = Lists::new(rt, alloc, queues, 0);
     make_references(rt, &heap, &mut seat, queues);
     for queue in 0..queues {
-        let sending = Sending::Enqueue(slot_of(queue, queues));
+        let slot = slot_of(queue, queues);
         for want in ["enqueued", "not enqueued"] {
-            send(rt, &heap, &mut seat, &mut lists, sending, want);
+            send(
+                rt,
+                &heap,
+                &mut seat,
+                &mut lists,
+                Sending::Enqueue(slot),
+                want,
+            );
         }
     }
     lists.end(rt, true);

@@ -10,7 +10,7 @@ use super::rows::{
     BEGIN, CLEAR_NEXT, Call, DELIVER, DELIVER_ALL, END_CLEAR, END_MARK, POLL, SCAN, deliver_batch,
     drop_slot, enqueue, new, step, weak,
 };
-use super::told::{Told, counted, expect};
+use super::told::{Told, Word, counted, expect};
 use super::{CONFIG, M, Q, Row, STARTS, Seats, death, make_calls, new_batch, start};
 use rationed::Rationed;
 use ref_base::{Fault, SlotNo};
@@ -112,7 +112,7 @@ type Answers = [&'static str; 3];
 #[derive(Drop)]
 struct Trial<'a> {
     name: &'static str,
-    death: &'a [Row],
+    death: &'a [Row<'a>],
     call: Call,
     next: Call,
     /// The answers where no request is refused.
@@ -273,7 +273,7 @@ fn notices_of_a_batch_that_find_no_memory_come_back(rt: HostRuntime) -> Result<(
 }
 
 /// A cycle finds object 1 dead. References 2 to 6 to it are in slots 1 to 5, and pending in this order.
-fn death_of_five() -> [Row; 21] {
+fn death_of_five() -> [Row<'static>; 21] {
     [
         (step(new(0)), "object 1"),
         (step(weak(1, 0)), "object 2"),
@@ -343,7 +343,7 @@ fn register_with<R: Wait>(
     };
     let was_refused = memory.lift();
     let told = match answer {
-        Ok(cleanable) => counted("registered", u64::from(cleanable.obj.0)),
+        Ok(cleanable) => counted(Word::Registered, u64::from(cleanable.obj.0)),
         Err((fault, job)) => refusal(rt, &heap, &mut heap_seat, fault).with_job(job.number()),
     };
     run_jobs_left(cleaner.finish(seat));

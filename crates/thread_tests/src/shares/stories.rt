@@ -9,7 +9,7 @@ use ref_base::{Fault, Reply};
 use std::test::Fail;
 
 /// Object 1, and references 2 and 3 to it in slots 1 and 2.
-pub fn two_references() -> [Row; 3] {
+pub fn two_references() -> [Row<'static>; 3] {
     [
         (step(new(0)), "object 1"),
         (step(weak(1, 0)), "object 2"),

@@ -6,13 +6,71 @@ use std::alloc::Allocator;
 use std::fmt;
 use std::process::Abort;
 
+/// What kind of answer it is.
+#[derive(Clone, Copy, PartialEq, Eq)]
+pub enum Word {
+    /// A reply has no other word.
+    Reply,
+    /// What stands behind the reply to a batch.
+    Behind,
+    Refused,
+    Unknown,
+    Busy,
+    NotReleased,
+    NotPut,
+    TimedOut,
+    Served,
+    WasOpen,
+    WasClosed,
+    Enqueued,
+    NotEnqueued,
+    Delivered,
+    Dropped,
+    Registered,
+    NotRegistered,
+    NoJob,
+    Ran,
+    RanUnheld,
+    CameOut,
+    RanJobs,
+}
+
+impl Word {
+    fn text(self) -> &'static str {
+        match self {
+            Word::Reply => "",
+            Word::Behind => " behind",
+            Word::Refused => "refused",
+            Word::Unknown => "unknown",
+            Word::Busy => "busy",
+            Word::NotReleased => "not released",
+            Word::NotPut => "not put",
+            Word::TimedOut => "timed out",
+            Word::Served => "served",
+            Word::WasOpen => "was open",
+            Word::WasClosed => "was closed",
+            Word::Enqueued => "enqueued",
+            Word::NotEnqueued => "not enqueued",
+            Word::Delivered => "delivered",
+            Word::Dropped => "dropped",
+            Word::Registered => "registered",
+            Word::NotRegistered => "not registered",
+            Word::NoJob => "no job",
+            Word::Ran => "ran",
+            Word::RanUnheld => "ran unheld",
+            Word::CameOut => "came out",
+            Word::RanJobs => "ran jobs",
+        }
+    }
+}
+
 /// What a call was answered. It prints as a reply does in a trace, or as a word with its numbers, as `served 4`. A
 /// fault of the call itself stands behind a colon, as `not put 2: BadQueue`. What came back stands last: `left 2 3` are
 /// notices in a batch, by their references, and `job 1` is a job.
 #[derive(Clone, Copy)]
 pub struct Told {
     reply: Option<Reply>,
-    word: &'static str,
+    word: Word,
     numbers: [Option<u64>; 3],
     fault: Option<Fault>,
     left: Nos,
@@ -48,7 +106,7 @@ impl Told {
     }
 
     /// The first number behind this word, if it is the word.
-    pub fn number_of(&self, word: &str) -> Option<u64> {
+    pub fn number_of(&self, word: Word) -> Option<u64> {
         let [number, _, _] = self.numbers;
         if self.word == word { number } else { None }
     }
@@ -59,7 +117,7 @@ impl fmt::Display for Told {
         if let Some(reply) = self.reply {
             write!(f, "{reply}")?;
         }
-        f.write_str(self.word)?;
+        f.write_str(self.word.text())?;
         for number in self.numbers {
             if let Some(number) = number {
                 write!(f, " {number}")?;
@@ -88,7 +146,7 @@ pub fn expect<A: Allocator>(rt: &impl Abort, alloc: A, row: usize, told: Told, w
 pub fn replied(reply: Reply) -> Told {
     Told {
         reply: Some(reply),
-        ..word("")
+        ..word(Word::Reply)
     }
 }
 
@@ -96,7 +154,7 @@ pub fn replied(reply: Reply) -> Told {
 pub fn outs_told(outs: Option<Outs>) -> Told {
     match outs {
         Some(outs) => Told {
-            word: " behind",
+            word: Word::Behind,
             numbers: [Some(outs.before()), None, None],
             ..replied(Reply::Outs(outs))
         },
@@ -104,7 +162,7 @@ pub fn outs_told(outs: Option<Outs>) -> Told {
     }
 }
 
-pub fn word(word: &'static str) -> Told {
+pub fn word(word: Word) -> Told {
     Told {
         reply: None,
         word,
@@ -115,11 +173,11 @@ pub fn word(word: &'static str) -> Told {
     }
 }
 
-pub fn counted(word: &'static str, number: u64) -> Told {
+pub fn counted(word: Word, number: u64) -> Told {
     numbered(word, [Some(number), None, None])
 }
 
-pub fn numbered(one: &'static str, numbers: [Option<u64>; 3]) -> Told {
+pub fn numbered(one: Word, numbers: [Option<u64>; 3]) -> Told {
     Told {
         numbers,
         ..word(one)
@@ -130,12 +188,12 @@ pub fn numbered(one: &'static str, numbers: [Option<u64>; 3]) -> Told {
 pub fn refused(fault: Fault) -> Told {
     Told {
         fault: Some(fault),
-        ..word("refused")
+        ..word(Word::Refused)
     }
 }
 
 /// What came back to whom, by its number, and why.
-pub fn not(word: &'static str, no: u32, fault: Fault) -> Told {
+pub fn not(word: Word, no: u32, fault: Fault) -> Told {
     Told {
         fault: Some(fault),
         ..counted(word, u64::from(no))
@@ -148,13 +206,13 @@ pub fn delivery(answer: Delivery) -> Told {
         Delivery::Nothing => replied(Reply::Nothing),
         Delivery::Added(object, queue, position) => {
             let (object, queue) = (u64::from(object.0), u64::from(queue.0));
-            numbered("delivered", [Some(object), Some(queue), Some(position)])
+            numbered(Word::Delivered, [Some(object), Some(queue), Some(position)])
         }
-        Delivery::Dropped(object) => counted("dropped", u64::from(object.0)),
+        Delivery::Dropped(object) => counted(Word::Dropped, u64::from(object.0)),
     }
 }
 
 /// The word where the answer is yes, or the other.
-pub fn either(answer: bool, yes: &'static str, no: &'static str) -> Told {
+pub fn either(answer: bool, yes: Word, no: Word) -> Told {
     word(if answer { yes } else { no })
 }

@@ -7,7 +7,7 @@ ghost use Rattle.ref_share.specs.QueueSeats.{IsQueueSeat};
 use super::hearing::Hearing;
 use crate::shares::calls::{answer, refusal};
 use crate::shares::rows::{Call, Cleaning};
-use crate::shares::told::{Told, counted, numbered, word};
+use crate::shares::told::{Told, Word, counted, numbered, word};
 use crate::shares::{M, Seats};
 use ref_base::{ObjNo, SlotNo};
 use ref_queue::Job;
@@ -53,7 +53,7 @@ fn register<R: Wait>(
     let own = &mut chair.cleaner;
     let seat = &mut chair.seats.heap;
     match cleaner.register(rt, own, heap, seat, M, SlotNo(source), SlotNo(slot), job) {
-        Ok(cleanable) => counted("registered", u64::from(cleanable.obj.0)),
+        Ok(cleanable) => counted(Word::Registered, u64::from(cleanable.obj.0)),
         Err((fault, job)) => refusal(rt, heap, seat, fault).with_job(job.number()),
     }
 }
@@ -61,13 +61,13 @@ fn register<R: Wait>(
 /// What a clean did. A hold that came back is given up.
 pub fn of_clean(cleaned: Cleaned) -> Told {
     match cleaned {
-        Cleaned::Gone => word("no job"),
-        Cleaned::Ran(job, None) => numbered("ran", [Some(job.number), Some(job.answer), None]),
+        Cleaned::Gone => word(Word::NoJob),
+        Cleaned::Ran(job, None) => numbered(Word::Ran, [Some(job.number), Some(job.answer), None]),
         Cleaned::Ran(job, Some(hold)) => {
             let unheld = u64::from(hold.obj().0);
             hold.leak();
             let numbers = [Some(job.number), Some(job.answer), Some(unheld)];
-            numbered("ran unheld", numbers)
+            numbered(Word::RanUnheld, numbers)
         }
     }
 }
@@ -125,7 +125,7 @@ pub fn run_jobs<R: Wait>(
         cleaner.clean_some(rt, own, heap, heap_seat, queue, queue_seat, hearing)
     };
     match answer {
-        Ok(count) => counted("ran jobs", count),
+        Ok(count) => counted(Word::RanJobs, count),
         Err(fault) => refusal(rt, heap, heap_seat, fault),
     }
 }
@@ -149,16 +149,16 @@ pub fn told_of_call<R: Wait + Abort>(
     match call {
         Call::Clean(Cleaning::Register(source, slot)) => match jobs.pop_front() {
             Some(job) => register(rt, shared, chair, job, source, slot),
-            None => word("no job"),
+            None => word(Word::NoJob),
         },
         Call::Clean(Cleaning::Clean(reference, slot)) => clean(rt, shared, chair, reference, slot),
         Call::Clean(Cleaning::Loop) => run_jobs(rt, shared, chair, hearing, true),
         Call::Clean(Cleaning::Some) => run_jobs(rt, shared, chair, hearing, false),
         Call::Clean(Cleaning::Served) => counted(
-            "served",
+            Word::Served,
             shared.cleaner.served(&mut chair.cleaner),
         ),
-        Call::Clean(_) => word("unknown"),
+        Call::Clean(_) => word(Word::Unknown),
         call => answer(rt, shared.heap, shared.queue, &mut chair.seats, call),
     }
 }

@@ -10,7 +10,7 @@ use crate::shares::rows::{
     CLEAN_SOME, Call, Cleaning, OfHeap, Sending, ask, clean, clear, cycle, drop_slot, get,
     make_or_collect, new, perform, refers_to, register, soft, urgent, weak,
 };
-use crate::shares::told::{Told, counted, either, expect, replied, word};
+use crate::shares::told::{Told, Word, counted, either, expect, replied, word};
 use crate::shares::{CONFIG, M, Row, new_batch};
 use ref_base::{Config, Fault, ObjNo, PlainStep, Reply, SlotNo};
 use ref_queue::Job;
@@ -48,7 +48,7 @@ fn of_heap<R: Wait>(rt: &R, heap: &mut CleanedHeap, call: OfHeap) -> Told
             },
         ) => reply_or_fault(heap.refers_to(rt, reference, other)),
         OfHeap::Perform(step) => reply_or_fault(heap.perform(rt, step)),
-        _ => word("unknown"),
+        _ => word(Word::Unknown),
     }
 }
 
@@ -74,7 +74,7 @@ fn sent<R: Wait + Abort>(rt: &R, alloc: Global, heap: &mut CleanedHeap, sending:
                 Err(fault) => given_up(fault),
             }
         }
-        _ => word("unknown"),
+        _ => word(Word::Unknown),
     }
 }
 
@@ -90,7 +90,7 @@ fn registered_with<R: Wait>(
     ensures { HasSeats heap.new }
 {
     match heap.register(rt, SlotNo(source), SlotNo(slot), job) {
-        Ok(cleanable) => counted("registered", u64::from(cleanable.obj.0)),
+        Ok(cleanable) => counted(Word::Registered, u64::from(cleanable.obj.0)),
         Err((fault, job)) => given_up(fault).with_job(job.number()),
     }
 }
@@ -101,12 +101,14 @@ fn unregistered<R: Wait>(rt: &R, heap: &mut CleanedHeap, cleanable: Cleanable) -
     ensures { HasSeats heap.new }
 {
     match heap.unregister(rt, cleanable) {
-        Ok(Some((job, None))) => counted("came out", job.number()),
-        Ok(Some((_job, Some(hold)))) => {
-            hold.leak();
-            word("unknown")
-        }
-        Ok(None) => word("no job"),
+        Ok(Some((job, back))) => match back {
+            None => counted(Word::CameOut, job.number()),
+            Some(hold) => {
+                hold.leak();
+                word(Word::Unknown)
+            }
+        },
+        Ok(None) => word(Word::NoJob),
         Err(fault) => given_up(fault),
     }
 }
@@ -125,7 +127,7 @@ fn cleaned<R: Wait>(
     match call {
         Cleaning::Register(source, slot) => match jobs.pop_front() {
             Some(job) => registered_with(rt, heap, job, source, slot),
-            None => word("no job"),
+            None => word(Word::NoJob),
         },
         Cleaning::Clean(no, slot) => {
             match heap.clean(rt, SlotNo(slot), Cleanable { obj: ObjNo(no) }) {
@@ -135,14 +137,14 @@ fn cleaned<R: Wait>(
         }
         Cleaning::Unregister(no) => unregistered(rt, heap, Cleanable { obj: ObjNo(no) }),
         Cleaning::IsRegistered(no) => match heap.is_registered(rt, Cleanable { obj: ObjNo(no) }) {
-            Ok(answer) => either(answer, "registered", "not registered"),
+            Ok(answer) => either(answer, Word::Registered, Word::NotRegistered),
             Err(fault) => given_up(fault),
         },
         Cleaning::Some => match heap.clean_some(rt, hearing) {
-            Ok(count) => counted("ran jobs", count),
+            Ok(count) => counted(Word::RanJobs, count),
             Err(fault) => given_up(fault),
         },
-        _ => word("unknown"),
+        _ => word(Word::Unknown),
     }
 }
 
@@ -162,7 +164,7 @@ fn answered<R: Wait + Abort>(
         Call::Heap(call) => of_heap(rt, heap, call),
         Call::Send(sending) => sent(rt, alloc, heap, sending),
         Call::Clean(call) => cleaned(rt, heap, jobs, hearing, call),
-        _ => word("unknown"),
+        _ => word(Word::Unknown),
     }
 }
 
@@ -171,7 +173,7 @@ fn answered<R: Wait + Abort>(
 struct Story<'a> {
     /// The jobs, in the order in which they are registered.
     jobs: &'a [u32],
-    calls: &'a [Row],
+    calls: &'a [Row<'a>],
     /// How often job 1 was run by a `clean_some`. No other job is.
     heard: u64,
     /// How many notices stand in the end.

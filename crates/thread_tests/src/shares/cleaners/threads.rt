@@ -7,7 +7,7 @@ ghost use Rattle.ref_share.specs.QueueSeats.{IsQueueSeat};
 use super::acts::{Chair, Shared, run_jobs};
 use super::hearing::Hearing;
 use super::{Story, do_all};
-use crate::shares::told::Told;
+use crate::shares::told::{Told, Word};
 use crate::shares::{Seats, make_calls};
 use ref_queue::Job;
 use ref_share::{CleanSeat, SharedCleaner, SharedHeap, SharedQueue};
@@ -226,7 +226,10 @@ pub fn clean_meanwhile<R: Threads + Wait + Abort + Sync>(
                 × IsCleanSeat shared.cleaner.now third.cleaner }
         { one_beside(rt, shared, right, third, jobs, hearing, story) },
     );
-    match (first.number_of("ran jobs"), second.number_of("ran jobs")) {
+    match (
+        first.number_of(Word::RanJobs),
+        second.number_of(Word::RanJobs),
+    ) {
         (Some(one), Some(other)) => {
             assert!(rt; one.checked_add(other) == Some(story.count), "jobs in all");
         }
