@@ -8,7 +8,7 @@ ghost use Rattle.std.specs.Mem.{FitsInMemory};
 ghost use Rattle.thread_tests.specs.QueueRows.{queue_row};
 
 use super::rows::{Call, OfHeap, OfQueue, Sending};
-use super::told::{Told, Word, counted, delivery, either, not, outs_told, refused, replied, word};
+use super::told::{Told, Word, bare, counted, delivery, either, not, outs_told, refused, replied};
 use super::{M, Q, Seats, W, new_batch};
 use ref_base::{Batch, Fault, HeapStep, MOST_IN_BATCH, Nos, Outs, Parcel, Reply, SlotNo, WorkerNo};
 use ref_clear::Notice;
@@ -31,20 +31,20 @@ pub fn stepped<A: Allocator>(answer: Result<HeapAnswer<A>, TurnFault<HeapCall<A>
         Ok(HeapReply::Told(reply)) => replied(reply.reply()),
         Ok(HeapReply::Notice(notice)) => {
             notice.into_hold().leak();
-            word(Word::Unknown)
+            bare(Word::Unknown)
         }
         Ok(HeapReply::Held(hold)) => {
             hold.leak();
-            word(Word::Unknown)
+            bare(Word::Unknown)
         }
         Ok(HeapReply::Back(fault, hold)) => held(hold, fault),
         Ok(HeapReply::Handed(_, batch)) => {
             end_batch(batch);
-            word(Word::Unknown)
+            bare(Word::Unknown)
         }
         Err(TurnFault::Busy(step)) => {
             spend(step);
-            word(Word::Busy)
+            bare(Word::Busy)
         }
         Err(TurnFault::Spent(step)) => {
             spend(step);
@@ -82,7 +82,7 @@ fn held(hold: Hold, fault: Fault) -> Told {
 pub fn given_up(fault: ShareFault) -> Told {
     match fault {
         ShareFault::Refused(fault) => refused(fault),
-        ShareFault::Busy => word(Word::Busy),
+        ShareFault::Busy => bare(Word::Busy),
         ShareFault::Notice(notice, fault) => {
             let no = notice.obj().0;
             notice.into_hold().leak();
@@ -134,7 +134,7 @@ pub fn of_poll(answer: Result<Polled, ShareFault>) -> (Told, Option<Notice>) {
         Ok(Polled::Took(notice)) => (replied(Reply::Took(notice.obj())), Some(notice)),
         Ok(Polled::Empty) => (replied(Reply::Empty), None),
         Ok(Polled::Closed) => (replied(Reply::Closed), None),
-        Ok(Polled::TimedOut) => (word(Word::TimedOut), None),
+        Ok(Polled::TimedOut) => (bare(Word::TimedOut), None),
         Err(fault) => (given_up(fault), None),
     }
 }
@@ -399,7 +399,7 @@ fn handed_and_put<R: Wait, A: Allocator + Copy>(
                 Err(fault) => refused(fault).leaving(left),
             }
         }
-        Ok(Some(_)) => word(Word::Unknown).leaving(emptied(batch)),
+        Ok(Some(_)) => bare(Word::Unknown).leaving(emptied(batch)),
         Ok(None) => replied(Reply::Nothing).leaving(emptied(batch)),
         Err(fault) => refused(fault).leaving(emptied(batch)),
     }
@@ -419,7 +419,7 @@ fn polled_batch<A: Allocator + Copy>(
     let left = emptied(batch);
     match answer {
         Ok(PolledBatch::Took(taken)) if taken == left => replied(Reply::TookSome(taken)),
-        Ok(PolledBatch::Took(_)) => word(Word::Unknown).leaving(left),
+        Ok(PolledBatch::Took(_)) => bare(Word::Unknown).leaving(left),
         Ok(PolledBatch::Empty) => replied(Reply::Empty).leaving(left),
         Ok(PolledBatch::Closed) => replied(Reply::Closed).leaving(left),
         Err(fault) => given_up(fault).leaving(left),
@@ -454,6 +454,6 @@ pub fn answer<R: Wait + Abort, A: Allocator + Copy>(
             handed_and_put(rt, heap, queue, seats, max, new_batch(rt, alloc))
         }
         Call::PollBatch(max) => { polled_batch(queue, &mut seats.queue, max, new_batch(rt, alloc)) }
-        Call::Clean(_) => word(Word::Unknown),
+        Call::Clean(_) => bare(Word::Unknown),
     }
 }

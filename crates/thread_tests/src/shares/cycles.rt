@@ -9,7 +9,7 @@ use super::rows::{
     BEGIN, CLEAR_NEXT, Call, DELIVER_ALL, END_MARK, SCAN, Sending, cycle, drop_slot, get,
     make_or_collect, new, perform, soft_alone, urgent, weak_alone,
 };
-use super::told::{Told, Word, expect, word};
+use super::told::{Told, Word, bare, expect};
 use super::{Row, new_batch};
 use ref_base::{Config, Urgency};
 use ref_share::{HeapSeat, SharedHeap};
@@ -69,7 +69,7 @@ fn answer<R: Wait + Abort>(
             )
         }
         Call::SendNowhere(sending) => sent_nowhere(rt, heap, seat, sending, new_batch(rt, alloc)),
-        _ => word(Word::Unknown),
+        _ => bare(Word::Unknown),
     }
 }
 

@@ -146,7 +146,7 @@ pub fn expect<A: Allocator>(rt: &impl Abort, alloc: A, row: usize, told: Told, w
 pub fn replied(reply: Reply) -> Told {
     Told {
         reply: Some(reply),
-        ..word(Word::Reply)
+        ..bare(Word::Reply)
     }
 }
 
@@ -162,7 +162,7 @@ pub fn outs_told(outs: Option<Outs>) -> Told {
     }
 }
 
-pub fn word(word: Word) -> Told {
+pub fn bare(word: Word) -> Told {
     Told {
         reply: None,
         word,
@@ -180,7 +180,7 @@ pub fn counted(word: Word, number: u64) -> Told {
 pub fn numbered(one: Word, numbers: [Option<u64>; 3]) -> Told {
     Told {
         numbers,
-        ..word(one)
+        ..bare(one)
     }
 }
 
@@ -188,7 +188,7 @@ pub fn numbered(one: Word, numbers: [Option<u64>; 3]) -> Told {
 pub fn refused(fault: Fault) -> Told {
     Told {
         fault: Some(fault),
-        ..word(Word::Refused)
+        ..bare(Word::Refused)
     }
 }
 
@@ -214,5 +214,5 @@ pub fn delivery(answer: Delivery) -> Told {
 
 /// The word where the answer is yes, or the other.
 pub fn either(answer: bool, yes: Word, no: Word) -> Told {
-    word(if answer { yes } else { no })
+    bare(if answer { yes } else { no })
 }

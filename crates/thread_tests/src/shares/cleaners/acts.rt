@@ -7,7 +7,7 @@ ghost use Rattle.ref_share.specs.QueueSeats.{IsQueueSeat};
 use super::hearing::Hearing;
 use crate::shares::calls::{answer, refusal};
 use crate::shares::rows::{Call, Cleaning};
-use crate::shares::told::{Told, Word, counted, numbered, word};
+use crate::shares::told::{Told, Word, bare, counted, numbered};
 use crate::shares::{M, Seats};
 use ref_base::{ObjNo, SlotNo};
 use ref_queue::Job;
@@ -61,7 +61,7 @@ fn register<R: Wait>(
 /// What a clean did. A hold that came back is given up.
 pub fn of_clean(cleaned: Cleaned) -> Told {
     match cleaned {
-        Cleaned::Gone => word(Word::NoJob),
+        Cleaned::Gone => bare(Word::NoJob),
         Cleaned::Ran(job, None) => numbered(Word::Ran, [Some(job.number), Some(job.answer), None]),
         Cleaned::Ran(job, Some(hold)) => {
             let unheld = u64::from(hold.obj().0);
@@ -149,7 +149,7 @@ pub fn told_of_call<R: Wait + Abort>(
     match call {
         Call::Clean(Cleaning::Register(source, slot)) => match jobs.pop_front() {
             Some(job) => register(rt, shared, chair, job, source, slot),
-            None => word(Word::NoJob),
+            None => bare(Word::NoJob),
         },
         Call::Clean(Cleaning::Clean(reference, slot)) => clean(rt, shared, chair, reference, slot),
         Call::Clean(Cleaning::Loop) => run_jobs(rt, shared, chair, hearing, true),
@@ -158,7 +158,7 @@ pub fn told_of_call<R: Wait + Abort>(
             Word::Served,
             shared.cleaner.served(&mut chair.cleaner),
         ),
-        Call::Clean(_) => word(Word::Unknown),
+        Call::Clean(_) => bare(Word::Unknown),
         call => answer(rt, shared.heap, shared.queue, &mut chair.seats, call),
     }
 }

@@ -10,7 +10,7 @@ use crate::shares::rows::{
     CLEAN_SOME, Call, Cleaning, OfHeap, Sending, ask, clean, clear, cycle, drop_slot, get,
     make_or_collect, new, perform, refers_to, register, soft, urgent, weak,
 };
-use crate::shares::told::{Told, Word, counted, either, expect, replied, word};
+use crate::shares::told::{Told, Word, bare, counted, either, expect, replied};
 use crate::shares::{CONFIG, M, Row, new_batch};
 use ref_base::{Config, Fault, ObjNo, PlainStep, Reply, SlotNo};
 use ref_queue::Job;
@@ -48,7 +48,7 @@ fn of_heap<R: Wait>(rt: &R, heap: &mut CleanedHeap, call: OfHeap) -> Told
             },
         ) => reply_or_fault(heap.refers_to(rt, reference, other)),
         OfHeap::Perform(step) => reply_or_fault(heap.perform(rt, step)),
-        _ => word(Word::Unknown),
+        _ => bare(Word::Unknown),
     }
 }
 
@@ -74,7 +74,7 @@ fn sent<R: Wait + Abort>(rt: &R, alloc: Global, heap: &mut CleanedHeap, sending:
                 Err(fault) => given_up(fault),
             }
         }
-        _ => word(Word::Unknown),
+        _ => bare(Word::Unknown),
     }
 }
 
@@ -105,10 +105,10 @@ fn unregistered<R: Wait>(rt: &R, heap: &mut CleanedHeap, cleanable: Cleanable) -
             None => counted(Word::CameOut, job.number()),
             Some(hold) => {
                 hold.leak();
-                word(Word::Unknown)
+                bare(Word::Unknown)
             }
         },
-        Ok(None) => word(Word::NoJob),
+        Ok(None) => bare(Word::NoJob),
         Err(fault) => given_up(fault),
     }
 }
@@ -127,7 +127,7 @@ fn cleaned<R: Wait>(
     match call {
         Cleaning::Register(source, slot) => match jobs.pop_front() {
             Some(job) => registered_with(rt, heap, job, source, slot),
-            None => word(Word::NoJob),
+            None => bare(Word::NoJob),
         },
         Cleaning::Clean(no, slot) => {
             match heap.clean(rt, SlotNo(slot), Cleanable { obj: ObjNo(no) }) {
@@ -144,7 +144,7 @@ fn cleaned<R: Wait>(
             Ok(count) => counted(Word::RanJobs, count),
             Err(fault) => given_up(fault),
         },
-        _ => word(Word::Unknown),
+        _ => bare(Word::Unknown),
     }
 }
 
@@ -164,7 +164,7 @@ fn answered<R: Wait + Abort>(
         Call::Heap(call) => of_heap(rt, heap, call),
         Call::Send(sending) => sent(rt, alloc, heap, sending),
         Call::Clean(call) => cleaned(rt, heap, jobs, hearing, call),
-        _ => word(Word::Unknown),
+        _ => bare(Word::Unknown),
     }
 }
 
