@@ -1,0 +1,17 @@
+use Rattle.std.proofs.Common.{arith}
+use Rattle.ref_share.proofs.SeatLists.{only_seat}
+use Rattle.thread_tests.proofs.shares.calls.delivered.Goals as goal
+
+pub returns-in-Ok : goal.returns-in-Ok
+returns-in-Ok g c = (
+  c.deliver_one.ensures.seats.0,
+  only_seat _ _ _ c.deliver_one.ensures.seats.1 c.from_ref-queues.ensures.value
+      (omega (arith, c.from_mut-own.ensures.len)),
+)
+
+pub returns-in-Err : goal.returns-in-Err
+returns-in-Err g c = (
+  c.refused.ensures,
+  only_seat _ _ _ c.deliver_one.ensures.seats.1 c.from_ref-queues.ensures.value
+      (omega (arith, c.from_mut-own.ensures.len)),
+)
