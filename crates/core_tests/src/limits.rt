@@ -83,6 +83,7 @@ fn a_scaled_span_is_rounded_down(rt: HostRuntime) {
 fn the_rule_settles_the_span_of_a_cycle(rt: HostRuntime) {
     for (rule, want) in [(SpanRule::Fixed, 10), (SpanRule::Scaled, 7)] {
         let config = Config {
+            cells: 8,
             span: 10,
             rule,
             ..sized(1, 1, 1, 8)
