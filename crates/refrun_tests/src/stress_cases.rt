@@ -45,7 +45,7 @@ fn the_lists_of_a_run_pass_each_check(rt: HostRuntime) -> Result<(), Fail> {
         let options = options(run);
         let tally = Tally::new();
         assert_eq!(rt; stress(&rt, rt.alloc(), options, &tally), Ok(None));
-        let rounds = u64::from(options.mutators) * options.rounds;
+        let rounds = u64::from(options.mutators).saturating_mul(options.rounds);
         let counts = tally.counts();
         assert_eq!(rt; counts.rounds, rounds);
         // The last cycle is urgent.
