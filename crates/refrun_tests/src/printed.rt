@@ -87,14 +87,19 @@ const FAULTS: [(Fault, u32, &str); 25] = [
     (Fault::TurnsSpent, 25, "TurnsSpent"),
 ];
 
-#[test]
-fn each_fault_has_its_number_and_prints_as_its_name(rt: HostRuntime) -> Result<(), Fail> {
-    for (fault, number, name) in FAULTS {
+/// Each fault has this number and this name, and prints as the name.
+fn faults_agree(rt: &impl Abort, alloc: Global, table: &[(Fault, u32, &str)]) -> Result<(), Fail> {
+    for &(fault, number, name) in table {
         assert_eq!(rt; fault.number(), number, "the number of {name}");
         assert_eq!(rt; fault.name(), name);
-        agree(&rt, rt.alloc(), &[(fault, name)])?;
+        agree(rt, alloc, &[(fault, name)])?;
     }
     Ok(())
+}
+
+#[test]
+fn each_fault_has_its_number_and_prints_as_its_name(rt: HostRuntime) -> Result<(), Fail> {
+    faults_agree(&rt, rt.alloc(), &FAULTS)
 }
 
 /// What became of five notices, where nine were put in before.
