@@ -5,15 +5,14 @@ ghost use Rattle.ref_share.specs.HeapSeats.{IsHeapSeat};
 ghost use Rattle.ref_share.specs.QueueSeats.{IsQueueSeat};
 ghost use Rattle.std.specs.Prelude.{◌≡◌, ◌+◌, ◌<◌, ◌^◌};
 
-use super::calls::{Ask, Call, Do, Seats, Told};
-use super::{CONFIG, Q, new};
-use acts::{Act, Answer, Chair, Shared, done};
+use super::told::expect;
+use super::{Q, Row, STARTS, Starts, start};
+use acts::{Chair, Shared, told_of_call};
 use hearing::Hearing;
-use ref_base::{Fault, Reply};
 use ref_objects::Hold;
 use ref_queue::{Action, CleanTable, Job};
-use ref_share::{Delivery, SharedCleaner, SharedHeap, SharedQueue, end_queue};
-use std::alloc::Global;
+use ref_share::{SharedCleaner, end_queue};
+use std::alloc::{AllocError, Global};
 use std::collections::VecDeque;
 use std::process::Abort;
 use std::sync::atomic::{AtomicU64, Ordering};
@@ -27,7 +26,7 @@ mod one_thread;
 mod stories;
 mod threads;
 
-/// A story on a new heap, queue and cleaner.
+/// What is told of a new heap, queue and cleaner.
 #[derive(Drop)]
 struct Story<'a> {
     /// The heap's first ticket.
@@ -36,14 +35,14 @@ struct Story<'a> {
     first: u64,
     /// The jobs, in the order in which they are registered.
     jobs: &'a [u32],
-    calls: &'a [(Act, Answer)],
+    calls: &'a [Row<'a>],
     /// What a third thread does while two run the jobs of what is gone. Where it is nothing, there are no such threads.
-    meanwhile: &'a [(Call, Told)],
+    meanwhile: &'a [Row<'a>],
     /// What it does then, while job 1 waits for it.
-    held: &'a [(Act, Answer)],
+    held: &'a [Row<'a>],
     /// How many jobs the two run.
     count: u64,
-    then: &'a [(Act, Answer)],
+    then: &'a [Row<'a>],
     /// How often those who run the jobs of what is gone ran job 1, and job 2.
     heard: (u64, u64),
     /// How many actions were called in all.
@@ -52,13 +51,13 @@ struct Story<'a> {
     left: u64,
 }
 
-/// No job is registered, and nobody calls anything.
-fn quiet<'a>() -> Story<'a> {
+/// These calls, without a job.
+fn story_of<'a>(calls: &'a [Row<'a>]) -> Story<'a> {
     Story {
         heap_first: 0,
         first: 0,
         jobs: &[],
-        calls: &[],
+        calls,
         meanwhile: &[],
         held: &[],
         count: 0,
@@ -69,14 +68,14 @@ fn quiet<'a>() -> Story<'a> {
     }
 }
 
-/// Does what a story tells in turn, with its answers.
+/// Makes calls in turn, each of which has its answer.
 fn do_all<R: Wait + Abort>(
     rt: &R,
     shared: Shared,
     chair: &mut Chair,
     jobs: &mut VecDeque<Job>,
     hearing: &Hearing,
-    acts: &[(Act, Answer)],
+    calls: &[Row],
 )
     requires { IsHeapSeat shared.heap.now chair.old.seats.heap
         × IsQueueSeat shared.queue.now chair.old.seats.queue
@@ -85,9 +84,54 @@ fn do_all<R: Wait + Abort>(
         × IsQueueSeat shared.entry.queue.now chair.new.seats.queue
         × IsCleanSeat shared.entry.cleaner.now chair.new.cleaner }
 {
-    for (row, &(act, want)) in acts.iter().enumerate() {
-        let told = done(rt, shared, chair, jobs, hearing, act);
-        assert!(rt; told.is(&want), "row {row}: {told:?}, and not {want:?}");
+    for (row, &(call, want)) in calls.iter().enumerate() {
+        let told = told_of_call(rt, shared, chair, jobs, hearing, call);
+        expect(rt, chair.seats.alloc, row, told, want);
+    }
+}
+
+impl<'a> Story<'a> {
+    /// The heap's first ticket.
+    fn heap_from(self, heap_first: u64) -> Story<'a> {
+        Story { heap_first, ..self }
+    }
+
+    /// The cleaner's first ticket.
+    fn cleaner_from(self, first: u64) -> Story<'a> {
+        Story { first, ..self }
+    }
+
+    /// The jobs, in the order in which they are registered.
+    fn with_jobs(self, jobs: &'a [u32]) -> Story<'a> {
+        Story { jobs, ..self }
+    }
+
+    /// How often those who run the jobs of what is gone ran job 1, and job 2.
+    fn hears(self, first: u64, second: u64) -> Story<'a> {
+        let heard = (first, second);
+        Story { heard, ..self }
+    }
+
+    /// How many actions were called in all, and how many jobs are registered in the end.
+    fn ends(self, called: u64, left: u64) -> Story<'a> {
+        Story {
+            called,
+            left,
+            ..self
+        }
+    }
+
+    /// Tells the story, whose jobs count how often their actions are called, and looks what is left then.
+    fn agree<R: Threads + Wait + Abort + Sync>(&self, rt: &R, alloc: Global) -> Result<(), Fail> {
+        let called = Arc::new(alloc, AtomicU64::new(0))?;
+        let jobs = counting_jobs(alloc, self.jobs, &called)?;
+        let left = left_behind(rt, alloc, jobs, self)?;
+        assert!(rt;
+            called.load(Ordering::SeqCst) == self.called,
+            "actions called"
+        );
+        assert!(rt; left == self.left, "jobs registered in the end");
+        Ok(())
     }
 }
 
@@ -119,21 +163,18 @@ fn tell<R: Threads + Wait + Abort + Sync>(
     chair
 }
 
-/// The story, whose jobs count how often their actions are called, and what is left then.
-fn agree<R: Threads + Wait + Abort + Sync>(
-    rt: &R,
-    alloc: Global,
-    story: &Story,
-) -> Result<(), Fail> {
-    let called = Arc::new(alloc, AtomicU64::new(0))?;
-    let jobs = counting_jobs(alloc, story.jobs, &called)?;
-    let left = left_behind(rt, alloc, jobs, story)?;
-    assert!(rt;
-        called.load(Ordering::SeqCst) == story.called,
-        "actions called"
-    );
-    assert!(rt; left == story.left, "jobs registered in the end");
-    Ok(())
+/// A job of this number, which adds 1000 to it.
+pub fn adding(alloc: Global, number: u64) -> Result<Job, AllocError>
+    requires { number < 2 ^ 32 }
+{
+    let action: Action = Box::new(
+        alloc,
+        |number: u64| -> u64
+            requires { number < 2 ^ 32 }
+            ensures { result ≡ number + 1000 }
+        { number + 1000 },
+    )?;
+    Ok(Job::new(number, number + 1000, action))
 }
 
 /// Jobs of these numbers, in order, which count how often their actions are called.
@@ -168,9 +209,12 @@ fn left_behind<R: Threads + Wait + Abort + Sync>(
     jobs: VecDeque<Job>,
     story: &Story,
 ) -> Result<u64, Fail> {
-    let (heap, heap_seat) = SharedHeap::starting(alloc, CONFIG, 0, story.heap_first)?;
     let (cleaner, seat) = SharedCleaner::starting(alloc, Q, story.first)?;
-    let (queue, queue_seat) = match SharedQueue::new(alloc, Q) {
+    let starts = Starts {
+        heap: story.heap_first,
+        ..STARTS
+    };
+    let (heap, queue, seats) = match start(alloc, starts) {
         Ok(made) => made,
         Err(fault) => {
             left_in(cleaner.finish(seat));
@@ -181,10 +225,6 @@ fn left_behind<R: Threads + Wait + Abort + Sync>(
         heap: &heap,
         queue: &queue,
         cleaner: &cleaner,
-    };
-    let seats = Seats {
-        heap: heap_seat,
-        queue: queue_seat,
     };
     let chair = Chair {
         seats,

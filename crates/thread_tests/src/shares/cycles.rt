@@ -1,43 +1,24 @@
 //! Whole cycles and deliveries of all that is pending, on a heap with two queues, each call with its answer.
 
-ghost use Rattle.std.specs.Prelude.{◌≤◌};
 ghost use Rattle.ref_share.specs.HeapSeats.{IsHeapSeat};
 ghost use Rattle.thread_tests.specs.QueueLists.{AreSeated};
 
-use super::calls::{Do, step_of};
+use super::calls::{of_heap, sent, sent_nowhere};
 use super::many_queues::{Lists, make_references, with};
-use super::new_batch;
-use ref_base::{Batch, Config, Fault, Urgency, WorkerNo};
-use ref_clear::Notice;
-use ref_share::{
-    HeapSeat, QueueSeat, ShareFault, SharedHeap, SharedQueue, cycle, deliver_all, end_batch,
-    make_or_collect,
+use super::rows::{
+    BEGIN, CLEAR_NEXT, Call, DELIVER_ALL, END_MARK, SCAN, Sending, cycle, drop_slot, get,
+    make_or_collect, new, perform, soft_alone, urgent, weak_alone,
 };
+use super::told::{Told, Word, bare, expect};
+use super::{Row, new_batch};
+use ref_base::{Config, Urgency};
+use ref_share::{HeapSeat, SharedHeap};
 use std::alloc::Global;
 use std::process::Abort;
 use std::sync::Wait;
 use std::test::Fail;
 
-/// What a worker calls.
-#[derive(Clone, Copy)]
-enum Call {
-    /// A whole cycle at this clock, by this worker.
-    Cycle(u64, u32),
-    /// An urgent cycle at this clock, by this worker.
-    Urgent(u64, u32),
-    /// A whole cycle with no queue in the lists.
-    CycleNowhere(u64, u32),
-    /// A delivery of all that is pending of this worker.
-    DeliverAll(u32),
-    /// A delivery of all that is pending, with no queue in the lists.
-    DeliverNowhere(u32),
-    /// A step alone.
-    Step(Do),
-    /// A step that makes something, behind cycles of worker 0 at this clock where the heap is full.
-    MakeOrCollect(Do, u64),
-}
-
-/// A story on a heap with two queues, an object, and a weak reference to it for each of the queues.
+/// What is told of a heap with two queues, an object, and a weak reference to it for each of the queues.
 #[derive(Drop)]
 struct Story<'a> {
     /// How many cells the heap has.
@@ -46,288 +27,207 @@ struct Story<'a> {
     heap_first: u64,
     /// The first ticket of each queue.
     first: u64,
-    /// Each call, and why it is refused.
-    calls: &'a [(Call, Option<Fault>)],
+    calls: &'a [Row<'a>],
     /// Whether each queue was told of its reference.
     is_told: bool,
 }
 
-/// Nobody calls anything, and then each queue is told.
-fn quiet<'a>() -> Story<'a> {
+/// These calls, and then each queue is told.
+fn story_of<'a>(calls: &'a [Row<'a>]) -> Story<'a> {
     Story {
         cells: 32,
         heap_first: 0,
         first: 0,
-        calls: &[],
+        calls,
         is_told: true,
     }
 }
 
-/// Makes a call, and tells why it is refused.
-fn refusal<R: Wait + Abort>(
+/// Makes a call, and tells what was answered.
+fn answer<R: Wait + Abort>(
     rt: &R,
-    alloc: Global,
     heap: &SharedHeap,
     seat: &mut HeapSeat,
     lists: &mut Lists,
     call: Call,
-) -> Option<Fault>
+) -> Told
     requires { IsHeapSeat heap.now seat.old × AreSeated lists.old.queues.items lists.old.seats.items }
     ensures { IsHeapSeat heap.now seat.new × AreSeated lists.new.queues.items lists.new.seats.items }
 {
-    let no_queues: [SharedQueue; 0] = [];
-    let mut no_seats: [QueueSeat; 0] = [];
-    let (normal, urgent) = (Urgency::Normal, Urgency::Urgent);
-    let Lists { queues, seats } = lists;
-    let batch = new_batch(rt, alloc);
+    let alloc = lists.alloc;
     match call {
-        Call::Cycle(now, w) => told(cycle(
-            rt,
-            heap,
-            seat,
-            queues,
-            seats,
-            WorkerNo(w),
-            now,
-            normal,
-            batch,
-        )),
-        Call::Urgent(now, w) => told(cycle(
-            rt,
-            heap,
-            seat,
-            queues,
-            seats,
-            WorkerNo(w),
-            now,
-            urgent,
-            batch,
-        )),
-        Call::CycleNowhere(now, w) => told(cycle(
-            rt,
-            heap,
-            seat,
-            &no_queues,
-            &mut no_seats,
-            WorkerNo(w),
-            now,
-            normal,
-            batch,
-        )),
-        Call::DeliverAll(w) => told(deliver_all(rt, heap, seat, queues, seats, WorkerNo(w), batch)),
-        Call::DeliverNowhere(w) => told(deliver_all(
-            rt,
-            heap,
-            seat,
-            &no_queues,
-            &mut no_seats,
-            WorkerNo(w),
-            batch,
-        )),
-        Call::Step(step) => {
-            batch.end();
-            heap.perform(rt, seat, step_of(step)).err()
+        Call::Heap(call) => of_heap(rt, heap, seat, call),
+        Call::Send(sending) => {
+            let Lists { queues, seats, .. } = lists;
+            sent(
+                rt,
+                (heap, queues),
+                seat,
+                seats,
+                sending,
+                new_batch(rt, alloc),
+            )
         }
-        Call::MakeOrCollect(step, now) => told(make_or_collect(
-            rt,
-            heap,
-            seat,
-            queues,
-            seats,
-            WorkerNo(0),
-            now,
-            step_of(step),
-            batch,
-        )),
+        Call::SendNowhere(sending) => sent_nowhere(rt, heap, seat, sending, new_batch(rt, alloc)),
+        _ => bare(Word::Unknown),
     }
 }
 
-/// Why the answer is a refusal. What is left in the batch is given up.
-fn told<T: Drop>(answer: (Result<T, ShareFault>, Batch<Notice>)) -> Option<Fault> {
-    let (answer, left) = answer;
-    end_batch(left);
-    match answer {
-        Ok(_) => None,
-        Err(fault) => Some(fault.into_fault()),
+impl<'a> Story<'a> {
+    fn with_cells(self, cells: u32) -> Story<'a> {
+        Story { cells, ..self }
+    }
+
+    /// No queue is told, with these first tickets of the heap and of each queue.
+    fn in_vain(self, heap_first: u64, first: u64) -> Story<'a> {
+        Story {
+            heap_first,
+            first,
+            is_told: false,
+            ..self
+        }
+    }
+
+    /// Makes the calls in turn, and looks what is in the queues then.
+    fn agree<R: Wait + Abort>(&self, rt: &R, alloc: Global) -> Result<(), Fail> {
+        let config = Config {
+            cells: self.cells,
+            ..with(2)
+        };
+        let (heap, mut seat) = SharedHeap::starting(alloc, config, 0, self.heap_first)?;
+        let mut lists = Lists::new(rt, alloc, 2, self.first);
+        make_references(rt, &heap, &mut seat, 2);
+        for (row, &(call, want)) in self.calls.iter().enumerate() {
+            let told = answer(rt, &heap, &mut seat, &mut lists, call);
+            expect(rt, alloc, row, told, want);
+        }
+        lists.end(rt, self.is_told);
+        Ok(())
     }
 }
 
-/// The story's calls in turn, and what is in the queues then.
-fn agree<R: Wait + Abort>(rt: &R, alloc: Global, story: &Story) -> Result<(), Fail> {
-    let config = Config {
-        cells: story.cells,
-        ..with(2)
-    };
-    let (heap, mut seat) = SharedHeap::starting(alloc, config, 0, story.heap_first)?;
-    let mut lists = Lists::new(rt, alloc, 2, story.first);
-    make_references(rt, &heap, &mut seat, 2);
-    for (row, &(call, want)) in story.calls.iter().enumerate() {
-        assert!(rt;
-            refusal(rt, alloc, &heap, &mut seat, &mut lists, call) == want,
-            "row {row}"
-        );
-    }
-    lists.end(rt, alloc, story.is_told);
-    Ok(())
+/// A call of another worker than 0.
+const fn by_worker_1(now: u64) -> Call {
+    Call::Send(Sending::Cycle(1, now, Urgency::Normal))
 }
 
 #[test]
-fn a_cycle_tells_each_queue_what_it_cleared(rt: HostRuntime) -> Result<(), Fail> {
-    let story = Story {
-        calls: &[
-            (Call::Cycle(5, 0), None),
-            (Call::Cycle(5, 0), None),
-            (Call::DeliverAll(0), None),
-        ],
-        ..quiet()
-    };
-    agree(&rt, rt.alloc(), &story)
-}
-
-#[test]
-fn all_that_is_pending_is_handed_on(rt: HostRuntime) -> Result<(), Fail> {
-    let story = Story {
-        calls: &[
-            (Call::Step(Do::Begin), None),
-            (Call::Step(Do::Scan), None),
-            (Call::Step(Do::Scan), None),
-            (Call::Step(Do::EndMark), None),
-            (Call::Step(Do::ClearNext), None),
-            (Call::Step(Do::ClearNext), None),
-            (Call::DeliverAll(1), Some(Fault::NoSuchActor)),
-            (Call::DeliverAll(0), None),
-            (Call::DeliverAll(0), None),
-        ],
-        ..quiet()
-    };
-    agree(&rt, rt.alloc(), &story)
+fn all_that_was_cleared_is_told_to_its_queue(rt: HostRuntime) -> Result<(), Fail> {
+    // By whole cycles.
+    story_of(&[(cycle(5), "ok"), (cycle(5), "ok"), (DELIVER_ALL, "ok")]).agree(&rt, rt.alloc())?;
+    // By deliveries of all that is pending.
+    story_of(&[
+        (perform(BEGIN), "cycle 1"),
+        (perform(SCAN), "scanned 3"),
+        (perform(SCAN), "scanned 2"),
+        (perform(END_MARK), "doomed 1"),
+        (perform(CLEAR_NEXT), "cleared 3"),
+        (perform(CLEAR_NEXT), "cleared 2"),
+        (Call::Send(Sending::All(1)), "refused: NoSuchActor"),
+        (DELIVER_ALL, "ok"),
+        (DELIVER_ALL, "ok"),
+    ])
+    .agree(&rt, rt.alloc())
 }
 
 #[test]
 fn what_the_heap_refuses_in_a_cycle_is_told(rt: HostRuntime) -> Result<(), Fail> {
-    let story = Story {
-        calls: &[
-            (Call::Cycle(5, 0), None),
-            (Call::Cycle(4, 0), Some(Fault::ClockBack)),
-            (Call::Cycle(5, 1), Some(Fault::NoSuchActor)),
-            (Call::Cycle(5, 0), Some(Fault::WrongPhase)),
-            (Call::Step(Do::Begin), Some(Fault::WrongPhase)),
-        ],
-        ..quiet()
-    };
-    agree(&rt, rt.alloc(), &story)
+    story_of(&[
+        (cycle(5), "ok"),
+        (cycle(4), "refused: ClockBack"),
+        (by_worker_1(5), "refused: NoSuchActor"),
+        (cycle(5), "refused: WrongPhase"),
+        (perform(BEGIN), "refused: WrongPhase"),
+    ])
+    .agree(&rt, rt.alloc())?;
+    // No turn is left behind a begin and a scan.
+    story_of(&[
+        (cycle(5), "refused: TurnsSpent"),
+        (DELIVER_ALL, "refused: TurnsSpent"),
+    ])
+    .in_vain(u64::MAX - 5, 0)
+    .agree(&rt, rt.alloc())
 }
+
+/// A cycle with no queue in the lists.
+const CYCLE_NOWHERE: Call = Call::SendNowhere(Sending::Cycle(0, 5, Urgency::Normal));
+
+/// A delivery of all that is pending, with no queue in the lists.
+const DELIVER_NOWHERE: Call = Call::SendNowhere(Sending::All(0));
 
 #[test]
 fn a_cycle_stops_where_a_notice_comes_back(rt: HostRuntime) -> Result<(), Fail> {
-    let nowhere = Story {
-        calls: &[
-            (Call::CycleNowhere(5, 0), Some(Fault::BadQueue)),
-            (Call::DeliverNowhere(0), Some(Fault::BadQueue)),
-            (Call::DeliverNowhere(0), None),
-            (Call::Cycle(5, 0), Some(Fault::WrongPhase)),
-        ],
-        is_told: false,
-        ..quiet()
-    };
-    agree(&rt, rt.alloc(), &nowhere)?;
-    let spent = Story {
-        first: u64::MAX,
-        calls: &[
-            (Call::Cycle(5, 0), Some(Fault::TurnsSpent)),
-            (Call::DeliverAll(0), Some(Fault::TurnsSpent)),
-            (Call::DeliverAll(0), None),
-        ],
-        is_told: false,
-        ..quiet()
-    };
-    agree(&rt, rt.alloc(), &spent)
-}
-
-#[test]
-fn a_cycle_stops_where_the_heap_has_no_turn_left(rt: HostRuntime) -> Result<(), Fail> {
-    let story = Story {
-        heap_first: u64::MAX - 5,
-        calls: &[
-            (Call::Cycle(5, 0), Some(Fault::TurnsSpent)),
-            (Call::DeliverAll(0), Some(Fault::TurnsSpent)),
-        ],
-        is_told: false,
-        ..quiet()
-    };
-    agree(&rt, rt.alloc(), &story)
+    story_of(&[
+        // The notice of the last queue's reference comes first.
+        (CYCLE_NOWHERE, "refused: BadQueue left 3"),
+        (DELIVER_NOWHERE, "refused: BadQueue left 2"),
+        (DELIVER_NOWHERE, "ok"),
+        (cycle(5), "refused: WrongPhase"),
+    ])
+    .in_vain(0, 0)
+    .agree(&rt, rt.alloc())?;
+    story_of(&[
+        (cycle(5), "refused: TurnsSpent left 3"),
+        (DELIVER_ALL, "refused: TurnsSpent left 2"),
+        (DELIVER_ALL, "ok"),
+    ])
+    .in_vain(0, u64::MAX)
+    .agree(&rt, rt.alloc())
 }
 
 /// Slot 7 gets the referent of the reference in slot 5.
-const GET: (Call, Option<Fault>) = (Call::Step(Do::Get(7, 5)), None);
-
-/// That referent is there, or it was null: then there is nothing to refer to.
-const fn refer(refusal: Option<Fault>) -> (Call, Option<Fault>) {
-    (Call::Step(Do::Alone(6, 7)), refusal)
+const fn get_referent() -> Call {
+    perform(get(7, 5))
 }
 
-const LET_GO: (Call, Option<Fault>) = (Call::Step(Do::Drop(7)), None);
-
-const fn step(step: Do) -> (Call, Option<Fault>) {
-    (Call::Step(step), None)
-}
-
-const fn make_or_collect_in(slot: u32, refusal: Option<Fault>) -> (Call, Option<Fault>) {
-    (Call::MakeOrCollect(Do::New(slot), 6), refusal)
+/// A weak reference in this slot to what slot 7 holds.
+const fn refer(slot: u32) -> Call {
+    perform(weak_alone(slot, 7))
 }
 
 #[test]
 fn an_urgent_cycle_keeps_no_soft_reference(rt: HostRuntime) -> Result<(), Fail> {
-    let story = Story {
-        calls: &[
-            step(Do::New(4)),
-            step(Do::Soft(5, 4)),
-            step(Do::Drop(4)),
-            (Call::Cycle(6, 0), None),
-            GET,
-            refer(None),
-            LET_GO,
-            (Call::Urgent(6, 0), None),
-            GET,
-            refer(Some(Fault::EmptySlot)),
-            (Call::Urgent(5, 0), Some(Fault::ClockBack)),
-        ],
-        ..quiet()
-    };
-    agree(&rt, rt.alloc(), &story)
+    story_of(&[
+        (perform(new(4)), "object 4"),
+        (perform(soft_alone(5, 4)), "object 5"),
+        (perform(drop_slot(4)), "ok"),
+        (cycle(6), "ok"),
+        (get_referent(), "object 4"),
+        (refer(6), "object 6"),
+        (perform(drop_slot(7)), "ok"),
+        (urgent(6), "ok"),
+        (get_referent(), "null"),
+        (refer(6), "refused: EmptySlot"),
+        (urgent(5), "refused: ClockBack"),
+    ])
+    .agree(&rt, rt.alloc())
 }
 
 #[test]
 fn where_a_heap_is_full_a_cycle_comes_first_and_then_an_urgent_one(
     rt: HostRuntime,
 ) -> Result<(), Fail> {
-    let story = Story {
-        cells: 8,
-        calls: &[
-            step(Do::New(4)),
-            step(Do::Soft(5, 4)),
-            step(Do::New(4)),
-            step(Do::Soft(6, 4)),
-            step(Do::New(4)),
-            // All eight cells are taken, and nothing but weak references keeps object 1.
-            (Call::Step(Do::New(8)), Some(Fault::NoCell)),
-            make_or_collect_in(8, None),
-            GET,
-            LET_GO,
-            // Only an urgent cycle frees what soft references kept.
-            make_or_collect_in(9, None),
-            GET,
-            (Call::Step(Do::Alone(10, 7)), Some(Fault::EmptySlot)),
-            make_or_collect_in(10, None),
-            make_or_collect_in(11, Some(Fault::NoCell)),
-            (Call::Step(Do::Drop(10)), None),
-            make_or_collect_in(11, None),
-            (
-                Call::MakeOrCollect(Do::New(16), 6),
-                Some(Fault::NoSuchActor),
-            ),
-        ],
-        ..quiet()
-    };
-    agree(&rt, rt.alloc(), &story)
+    story_of(&[
+        (perform(new(4)), "object 4"),
+        (perform(soft_alone(5, 4)), "object 5"),
+        (perform(new(4)), "object 6"),
+        (perform(soft_alone(6, 4)), "object 7"),
+        (perform(new(4)), "object 8"),
+        // All eight cells are taken, and nothing but weak references keeps object 1.
+        (perform(new(8)), "refused: NoCell"),
+        (make_or_collect(8), "object 9"),
+        (get_referent(), "object 4"),
+        (perform(drop_slot(7)), "ok"),
+        // Only an urgent cycle frees what soft references kept.
+        (make_or_collect(9), "object 10"),
+        (get_referent(), "null"),
+        (refer(10), "refused: EmptySlot"),
+        (make_or_collect(10), "object 11"),
+        (make_or_collect(11), "refused: NoCell"),
+        (perform(drop_slot(10)), "ok"),
+        (make_or_collect(11), "object 12"),
+        (make_or_collect(16), "refused: NoSuchActor"),
+    ])
+    .with_cells(8)
+    .agree(&rt, rt.alloc())
 }

@@ -4,10 +4,12 @@
 ghost use Rattle.ref_share.specs.HeapSeats.{IsHeapSeat};
 ghost use Rattle.ref_share.specs.QueueSeats.{IsQueueSeat};
 
-use super::calls::{Do, Told, replied, step_of};
+use super::calls::{of_poll, stepped};
+use super::rows::new;
+use super::told::Told;
 use super::{CONFIG, Q};
-use ref_base::{Fault, HeapStep, ObjNo, Reply};
-use ref_share::{HeapSeat, Polled, QueueSeat, ShareFault, SharedHeap, SharedQueue, end_queue};
+use ref_base::{HeapStep, Parcel};
+use ref_share::{HeapSeat, QueueSeat, SharedHeap, SharedQueue, end_queue};
 use std::alloc::Global;
 use std::process::Abort;
 use std::sync::Wait;
@@ -18,49 +20,26 @@ use std::thread::Threads;
 /// How often two threads meet there.
 const ROUNDS: u32 = 100;
 
-/// What came of a try.
-#[derive(Clone, Copy, Debug, PartialEq, Eq)]
-enum Outcome {
-    Made,
-    Spent,
-    Busy,
-    Else,
-}
-
 /// A try to make an object.
-fn tried(heap: &SharedHeap, mut seat: HeapSeat) -> Outcome
+fn tried(heap: &SharedHeap, mut seat: HeapSeat) -> Told
     requires { IsHeapSeat heap.now seat }
 {
-    match replied(heap.try_call(&mut seat, HeapStep::Plain(step_of(Do::New(0))))) {
-        Told::Reply(Reply::Object(ObjNo(1))) => Outcome::Made,
-        Told::Refused(Fault::TurnsSpent) => Outcome::Spent,
-        Told::Busy => Outcome::Busy,
-        _ => Outcome::Else,
-    }
+    stepped(heap.try_call(&mut seat, HeapStep::Plain(new(0))))
 }
 
 /// A poll.
-fn polled(queue: &SharedQueue, mut seat: QueueSeat) -> Outcome
+fn polled(queue: &SharedQueue, mut seat: QueueSeat) -> Told
     requires { IsQueueSeat queue.now seat }
 {
-    match queue.poll_now(&mut seat) {
-        Ok(Polled::Empty) => Outcome::Made,
-        Ok(Polled::Took(notice)) => {
-            notice.into_hold().leak();
-            Outcome::Else
-        }
-        Ok(Polled::Closed | Polled::TimedOut) => Outcome::Else,
-        Err(ShareFault::Refused(Fault::TurnsSpent)) => Outcome::Spent,
-        Err(ShareFault::Busy) => Outcome::Busy,
-        Err(fault) => {
-            let _ = fault.give_up();
-            Outcome::Else
-        }
+    let (told, taken) = of_poll(queue.poll_now(&mut seat));
+    if let Some(notice) = taken {
+        notice.into_hold().leak();
     }
+    told
 }
 
 /// What two threads are told that try the heap at its last turn.
-fn both_try<R: Threads + Wait + Sync>(rt: &R, alloc: Global) -> Result<(Outcome, Outcome), Fail> {
+fn both_try<R: Threads + Wait + Sync>(rt: &R, alloc: Global) -> Result<(Told, Told), Fail> {
     let (heap, mut left) = SharedHeap::starting(alloc, CONFIG, 0, u64::MAX - 1)?;
     let right = heap.split(&mut left);
     Ok(tried_by_both(rt, &heap, left, right))
@@ -71,7 +50,7 @@ fn tried_by_both<R: Threads + Wait + Sync>(
     heap: &SharedHeap,
     left: HeapSeat,
     right: HeapSeat,
-) -> (Outcome, Outcome)
+) -> (Told, Told)
     requires left { IsHeapSeat heap.now left }
     requires right { IsHeapSeat heap.now right }
 {
@@ -87,7 +66,7 @@ fn tried_by_both<R: Threads + Wait + Sync>(
 }
 
 /// What two threads are told that poll the queue at its last turn.
-fn both_poll<R: Threads + Wait + Sync>(rt: &R, alloc: Global) -> Result<(Outcome, Outcome), Fail> {
+fn both_poll<R: Threads + Wait + Sync>(rt: &R, alloc: Global) -> Result<(Told, Told), Fail> {
     let (queue, mut seat) = SharedQueue::starting(alloc, Q, u64::MAX - 1)?;
     let left = queue.split(&mut seat);
     let right = queue.split(&mut seat);
@@ -101,7 +80,7 @@ fn polled_by_both<R: Threads + Wait + Sync>(
     queue: &SharedQueue,
     left: QueueSeat,
     right: QueueSeat,
-) -> (Outcome, Outcome)
+) -> (Told, Told)
     requires left { IsQueueSeat queue.now left }
     requires right { IsQueueSeat queue.now right }
 {
@@ -116,26 +95,29 @@ fn polled_by_both<R: Threads + Wait + Sync>(
     )
 }
 
-/// The one was made, and the other told that no turn is left.
-fn one_came_second(rt: &impl Abort, told: (Outcome, Outcome)) {
+/// The one was answered this, and the other told that no turn is left.
+fn one_came_second(rt: &impl Abort, alloc: Global, left: Told, right: Told, want: &str) {
+    let none = "refused: TurnsSpent";
     assert!(rt;
-        told == (Outcome::Made, Outcome::Spent) || told == (Outcome::Spent, Outcome::Made),
-        "{told:?}"
+        left.is(alloc, want) && right.is(alloc, none)
+            || left.is(alloc, none) && right.is(alloc, want),
+        "{left}, {right}"
     );
 }
 
-#[test]
-fn at_the_last_turn_of_a_heap_one_comes_second(rt: HostRuntime) -> Result<(), Fail> {
-    for _ in 0..ROUNDS {
-        one_came_second(&rt, both_try(&rt, rt.alloc())?);
-    }
+/// Two threads meet at the last turn of a heap, and of a queue.
+fn meet<R: Threads + Wait + Sync + Abort>(rt: &R, alloc: Global) -> Result<(), Fail> {
+    let (left, right) = both_try(rt, alloc)?;
+    one_came_second(rt, alloc, left, right, "object 1");
+    let (left, right) = both_poll(rt, alloc)?;
+    one_came_second(rt, alloc, left, right, "empty");
     Ok(())
 }
 
 #[test]
-fn at_the_last_turn_of_a_queue_one_comes_second(rt: HostRuntime) -> Result<(), Fail> {
+fn at_the_last_turn_of_a_heap_or_a_queue_one_comes_second(rt: HostRuntime) -> Result<(), Fail> {
     for _ in 0..ROUNDS {
-        one_came_second(&rt, both_poll(&rt, rt.alloc())?);
+        meet(&rt, rt.alloc())?;
     }
     Ok(())
 }

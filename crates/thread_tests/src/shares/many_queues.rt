@@ -5,12 +5,12 @@ ghost use Rattle.ref_share.specs.HeapSeats.{IsHeapSeat};
 ghost use Rattle.ref_share.specs.QueueSeats.{IsQueueSeat};
 ghost use Rattle.thread_tests.specs.QueueLists.{AreSeated};
 
-use super::calls::{Do, Told, expect, replied, step_of, weak};
-use super::{CONFIG, M, W};
-use ref_base::{Config, HeapStep, ObjNo, PlainStep, QueueNo, Reply, SlotNo};
-use ref_share::{
-    Delivery, HeapSeat, QueueSeat, SharedHeap, SharedQueue, deliver_one, end_queue, enqueue,
-};
+use super::calls::{sent, stepped};
+use super::rows::{BEGIN, CLEAR_NEXT, END_CLEAR, END_MARK, SCAN, Sending, new, weak_for};
+use super::told::expect;
+use super::{CONFIG, new_batch};
+use ref_base::{Config, HeapStep, ObjNo, PlainStep, QueueNo, Reply};
+use ref_share::{HeapSeat, QueueSeat, SharedHeap, SharedQueue, end_queue};
 use std::alloc::{AllocFailed, Global};
 use std::process::Abort;
 use std::sync::Wait;
@@ -20,6 +20,7 @@ use std::test::Fail;
 pub struct Lists {
     pub queues: Vec<SharedQueue>,
     pub seats: Vec<QueueSeat>,
+    pub alloc: Global,
 }
 
 impl Lists {
@@ -30,19 +31,20 @@ impl Lists {
         let mut lists = Lists {
             queues: Vec::new(alloc),
             seats: Vec::new(alloc),
+            alloc,
         };
         for number in 0..count {
-            lists.add(rt, alloc, QueueNo(number), first);
+            lists.add(rt, QueueNo(number), first);
         }
         lists
     }
 
     /// One queue more.
-    fn add<R: Abort>(&mut self, rt: &R, alloc: Global, number: QueueNo, first: u64)
+    fn add<R: Abort>(&mut self, rt: &R, number: QueueNo, first: u64)
         requires { AreSeated self.old.queues.items self.old.seats.items }
         ensures { AreSeated self.new.queues.items self.new.seats.items }
     {
-        let (queue, seat) = match SharedQueue::starting(alloc, number, first) {
+        let (queue, seat) = match SharedQueue::starting(self.alloc, number, first) {
             Ok(made) => made,
             Err(fault) => panic!(rt; "{fault}"),
         };
@@ -55,12 +57,13 @@ impl Lists {
     }
 
     /// Ends all queues, the last first. Each was told of the reference for it, or nothing.
-    pub fn end<R: Abort>(self, rt: &R, alloc: Global, is_told: bool)
+    pub fn end<R: Abort>(self, rt: &R, is_told: bool)
         requires { AreSeated self.queues.items self.seats.items }
     {
         let Lists {
             mut queues,
             mut seats,
+            alloc,
         } = self;
         while let Some(queue) = queues.pop() {
             match seats.pop() {
@@ -102,9 +105,9 @@ pub fn make_references<R: Abort>(rt: &R, heap: &SharedHeap, seat: &mut HeapSeat,
     requires queues { queues ≤ 16 }
     ensures { IsHeapSeat heap.now seat.new }
 {
-    tell(rt, heap, seat, step_of(Do::New(0)), Reply::Object(ObjNo(1)));
+    tell(rt, heap, seat, new(0), Reply::Object(ObjNo(1)));
     for queue in 0..queues {
-        let step = weak(slot_of(queue, queues), 0, Some(QueueNo(queue)));
+        let step = weak_for(slot_of(queue, queues), 0, queue);
         tell(rt, heap, seat, step, Reply::Object(ObjNo(queue + 2)));
     }
 }
@@ -114,8 +117,8 @@ fn tell<R: Abort>(rt: &R, heap: &SharedHeap, seat: &mut HeapSeat, step: PlainSte
     requires { IsHeapSeat heap.now seat.old }
     ensures { IsHeapSeat heap.now seat.new }
 {
-    let told = replied(heap.try_call(seat, HeapStep::Plain(step)));
-    expect(rt, 0, told, Told::Reply(want));
+    let told = stepped(heap.try_call(seat, HeapStep::Plain(step)));
+    assert!(rt; told.reply() == Some(want), "{told}, and not {want}");
 }
 
 /// The slot of the reference for this queue.
@@ -132,18 +135,28 @@ pub fn find_dead<R: Abort>(rt: &R, heap: &SharedHeap, seat: &mut HeapSeat, queue
     requires queues { 0 < queues × queues ≤ 16 }
     ensures { IsHeapSeat heap.now seat.new }
 {
-    tell(rt, heap, seat, step_of(Do::Begin), Reply::Cycle(1));
+    tell(rt, heap, seat, BEGIN, Reply::Cycle(1));
     for place in 0..queues {
-        let no = ObjNo(queue_at(place, queues) + 2);
-        tell(rt, heap, seat, step_of(Do::Scan), Reply::Scanned(no));
+        tell(
+            rt,
+            heap,
+            seat,
+            SCAN,
+            Reply::Scanned(ObjNo(queue_at(place, queues) + 2)),
+        );
     }
-    tell(rt, heap, seat, step_of(Do::Scan), Reply::Nothing);
-    tell(rt, heap, seat, step_of(Do::EndMark), Reply::Doomed(1));
+    tell(rt, heap, seat, SCAN, Reply::Nothing);
+    tell(rt, heap, seat, END_MARK, Reply::Doomed(1));
     for place in 0..queues {
-        let no = ObjNo(queue_at(place, queues) + 2);
-        tell(rt, heap, seat, step_of(Do::ClearNext), Reply::Cleared(no));
+        tell(
+            rt,
+            heap,
+            seat,
+            CLEAR_NEXT,
+            Reply::Cleared(ObjNo(queue_at(place, queues) + 2)),
+        );
     }
-    tell(rt, heap, seat, step_of(Do::EndClear), Reply::Done);
+    tell(rt, heap, seat, END_CLEAR, Reply::Done);
 }
 
 /// The queue whose reference is the one at this place in the order of slots.
@@ -154,51 +167,28 @@ fn queue_at(place: u32, queues: u32) -> u32
     if place == 0 { queues - 1 } else { place - 1 }
 }
 
-/// A delivery: what became of the notice.
-fn delivered<R: Wait>(
+/// A call for which the queues stand in lists is answered so.
+fn send<R: Wait + Abort>(
     rt: &R,
     heap: &SharedHeap,
     seat: &mut HeapSeat,
     lists: &mut Lists,
-) -> Option<Delivery>
+    sending: Sending,
+    want: &str,
+)
     requires { IsHeapSeat heap.now seat.old × AreSeated lists.old.queues.items lists.old.seats.items }
     ensures { IsHeapSeat heap.now seat.new × AreSeated lists.new.queues.items lists.new.seats.items }
 {
-    match deliver_one(rt, heap, seat, &lists.queues, &mut lists.seats, W) {
-        Ok(delivery) => Some(delivery),
-        Err(fault) => {
-            let _ = fault.give_up();
-            None
-        }
-    }
-}
-
-/// Whether the notice of the reference in the slot was added.
-fn is_enqueued<R: Wait>(
-    rt: &R,
-    heap: &SharedHeap,
-    seat: &mut HeapSeat,
-    lists: &mut Lists,
-    slot: u32,
-) -> Option<bool>
-    requires { IsHeapSeat heap.now seat.old × AreSeated lists.old.queues.items lists.old.seats.items }
-    ensures { IsHeapSeat heap.now seat.new × AreSeated lists.new.queues.items lists.new.seats.items }
-{
-    match enqueue(
+    let batch = new_batch(rt, lists.alloc);
+    let told = sent(
         rt,
-        heap,
+        (heap, &lists.queues),
         seat,
-        &lists.queues,
         &mut lists.seats,
-        M,
-        SlotNo(slot),
-    ) {
-        Ok(is_added) => Some(is_added),
-        Err(fault) => {
-            let _ = fault.give_up();
-            None
-        }
-    }
+        sending,
+        batch,
+    );
+    expect(rt, lists.alloc, 0, told, want);
 }
 
 /// A configuration with this many queues.
@@ -220,14 +210,21 @@ fn deliver_all<R: Wait + Abort>(rt: &R, alloc: Global, queues: u32) -> Result<()
     find_dead(rt, &heap, &mut seat, queues);
     for place in 0..queues {
         let queue = queue_at(place, queues);
-        let want = Delivery::Added(ObjNo(queue + 2), QueueNo(queue), 0);
-        assert!(rt;
-            delivered(rt, &heap, &mut seat, &mut lists) == Some(want),
-            "place {place}"
+        let no = queue + 2;
+        let Ok(want) = format!(in alloc; "delivered {no} {queue} 0") else {
+            panic!(rt; "no memory for a text");
+        };
+        send(
+            rt,
+            &heap,
+            &mut seat,
+            &mut lists,
+            Sending::One(0),
+            want.as_str(),
         );
     }
-    assert!(rt; delivered(rt, &heap, &mut seat, &mut lists) == Some(Delivery::Nothing));
-    lists.end(rt, alloc, true);
+    send(rt, &heap, &mut seat, &mut lists, Sending::One(0), "none");
+    lists.end(rt, true);
     Ok(())
 }
 
@@ -240,23 +237,25 @@ fn enqueue_all<R: Wait + Abort>(rt: &R, alloc: Global, queues: u32) -> Result<()
     make_references(rt, &heap, &mut seat, queues);
     for queue in 0..queues {
         let slot = slot_of(queue, queues);
-        for want in [true, false] {
-            let is_added = is_enqueued(rt, &heap, &mut seat, &mut lists, slot);
-            assert!(rt; is_added == Some(want), "queue {queue}");
+        for want in ["enqueued", "not enqueued"] {
+            send(
+                rt,
+                &heap,
+                &mut seat,
+                &mut lists,
+                Sending::Enqueue(slot),
+                want,
+            );
         }
     }
-    lists.end(rt, alloc, true);
+    lists.end(rt, true);
     Ok(())
 }
 
 #[test]
-fn each_of_two_and_of_sixteen_queues_gets_its_own_deaths(rt: HostRuntime) -> Result<(), Fail> {
+fn each_of_two_and_of_sixteen_queues_gets_its_own(rt: HostRuntime) -> Result<(), Fail> {
     deliver_all(&rt, rt.alloc(), 2)?;
-    deliver_all(&rt, rt.alloc(), 16)
-}
-
-#[test]
-fn each_of_two_and_of_sixteen_queues_gets_its_own_enqueued(rt: HostRuntime) -> Result<(), Fail> {
+    deliver_all(&rt, rt.alloc(), 16)?;
     enqueue_all(&rt, rt.alloc(), 2)?;
     enqueue_all(&rt, rt.alloc(), 16)
 }

@@ -3,17 +3,20 @@
 
 ghost use Rattle.ref_share.specs.HeapSeats.{IsHeapSeat};
 ghost use Rattle.ref_share.specs.QueueSeats.{IsQueueSeat};
-ghost use Rattle.std.specs.Prelude.{◌≡◌, ◌<◌, ◌^◌};
 
-use super::calls::{Ask, Call, Do, Seats, Told, all_delivered, answer, refused, step_of};
-use super::{CONFIG, M, Q, death, heap, make_calls, new, new_batch, weak};
-use rationed::Rationed;
-use ref_base::{Fault, ObjNo, Reply, SlotNo};
-use ref_queue::{Action, Job};
-use ref_share::{
-    Delivery, SharedCleaner, SharedHeap, SharedQueue, end_batch, end_queue, run_jobs_left,
+use super::calls::{answer, refusal, sent_to};
+use super::cleaners::adding;
+use super::rows::{
+    BEGIN, CLEAR_NEXT, Call, DELIVER, DELIVER_ALL, END_CLEAR, END_MARK, POLL, SCAN, deliver_batch,
+    drop_slot, enqueue, new, step, weak,
 };
-use std::alloc::{AllocError, Allocator, Global};
+use super::told::{Told, Word, counted, expect};
+use super::{CONFIG, M, Q, Row, STARTS, Seats, death, make_calls, new_batch, start};
+use rationed::Rationed;
+use ref_base::{Fault, SlotNo};
+use ref_queue::Job;
+use ref_share::{SharedCleaner, SharedHeap, SharedQueue, end_queue, run_jobs_left};
+use std::alloc::{Allocator, Global};
 use std::process::Abort;
 use std::sync::Wait;
 use std::test::Fail;
@@ -21,7 +24,7 @@ use std::test::Fail;
 /// More requests than any call makes.
 const MOST: u64 = 1_000;
 
-/// What is made whole or not at all.
+/// What is made whole or not at all, and ended again.
 #[derive(Clone, Copy)]
 enum Made {
     Heap,
@@ -42,37 +45,27 @@ const EACH: [(&str, Made); 6] = [
     ("SharedCleaner::starting", Made::CleanerLater),
 ];
 
-fn make_queue<A: Allocator + Copy>(alloc: A, first: u64) -> Result<(), Fault> {
-    let (queue, seat) = SharedQueue::starting(alloc, Q, first)?;
-    end_queue(queue.finish(seat));
-    Ok(())
-}
-
-fn make_cleaner<A: Allocator + Copy>(alloc: A, first: u64) -> Result<(), Fault> {
-    let (cleaner, seat) = SharedCleaner::starting(alloc, Q, first)?;
-    run_jobs_left(cleaner.finish(seat));
-    Ok(())
-}
-
 /// Makes it, and ends it again.
 fn make<A: Allocator + Copy>(alloc: A, made: Made) -> Result<(), Fault> {
     match made {
-        Made::Heap => {
-            let _made = SharedHeap::new(alloc, CONFIG, 0)?;
-        }
-        Made::HeapLater => {
-            let _made = SharedHeap::starting(alloc, CONFIG, 0, 7)?;
-        }
+        Made::Heap => drop(SharedHeap::new(alloc, CONFIG, 0)?),
+        Made::HeapLater => drop(SharedHeap::starting(alloc, CONFIG, 0, 7)?),
         Made::Queue => {
             let (queue, seat) = SharedQueue::new(alloc, Q)?;
             end_queue(queue.finish(seat));
         }
-        Made::QueueLater => make_queue(alloc, 7)?,
+        Made::QueueLater => {
+            let (queue, seat) = SharedQueue::starting(alloc, Q, 7)?;
+            end_queue(queue.finish(seat));
+        }
         Made::Cleaner => {
             let (cleaner, seat) = SharedCleaner::new(alloc, Q)?;
             run_jobs_left(cleaner.finish(seat));
         }
-        Made::CleanerLater => make_cleaner(alloc, 7)?,
+        Made::CleanerLater => {
+            let (cleaner, seat) = SharedCleaner::starting(alloc, Q, 7)?;
+            run_jobs_left(cleaner.finish(seat));
+        }
     }
     Ok(())
 }
@@ -82,185 +75,265 @@ fn make_each(rt: &impl Abort, memory: &Rationed<Global>, name: &str, made: Made)
     for met in 0..MOST {
         memory.ration(met);
         let answer = make(memory, made);
-        if !memory.lift() {
-            assert!(rt; answer == Ok(()), "{name} with {met} requests met");
+        let was_refused = memory.lift();
+        let want = if was_refused {
+            Err(Fault::NoMemory)
+        } else {
+            Ok(())
+        };
+        assert!(rt; answer == want, "{name} with {met} requests met");
+        if !was_refused {
             return met;
         }
-        assert!(rt;
-            answer == Err(Fault::NoMemory),
-            "{name} with {met} requests met"
-        );
     }
     MOST
+}
+
+/// A call makes more than one request, and not too many to refuse each.
+fn are_few(rt: &impl Abort, name: &str, requests: u64) {
+    assert!(rt;
+        1 < requests && requests < MOST,
+        "{name} makes {requests} requests"
+    );
 }
 
 #[test]
 fn what_finds_no_memory_is_not_made(rt: HostRuntime) -> Result<(), Fail> {
     let memory = Rationed::new(rt.alloc());
     for (name, made) in EACH {
-        let requests = make_each(&rt, &memory, name, made);
-        assert!(rt;
-            1 < requests && requests < MOST,
-            "{name} makes {requests} requests"
-        );
+        are_few(&rt, name, make_each(&rt, &memory, name, made));
     }
     Ok(())
 }
 
-/// A call behind a cycle in which references 2 and 3 were cleared, what it is told, and what the same call is told
-/// where it was refused at first.
-#[derive(Clone, Copy)]
-struct Trial {
+/// What a call behind a death is told, a second call that shows what stands then, and the first once more.
+type Answers = [&'static str; 3];
+
+#[derive(Drop)]
+struct Trial<'a> {
     name: &'static str,
+    death: &'a [Row<'a>],
     call: Call,
-    added: Told,
-    then: Told,
+    next: Call,
+    /// The answers where no request is refused.
+    done: Answers,
+    /// Those that there may be where the first call has one refused: in each more stands than in those before.
+    refusals: &'a [Answers],
 }
 
-/// A poll, and then the call once more where it was refused at first, and there is memory now.
-fn told_next<'a, R: Wait + Abort>(
+/// What a call is told with so many requests met.
+fn told_first<'a, R: Wait + Abort>(
     rt: &R,
     heap: &SharedHeap<&'a Rationed<Global>>,
     queue: &SharedQueue<&'a Rationed<Global>>,
     seats: &mut Seats<&'a Rationed<Global>>,
-    again: Option<Call>,
-) -> (Told, Option<Told>)
+    call: Call,
+    met: u64,
+) -> Told
     requires { IsHeapSeat heap.now seats.old.heap × IsQueueSeat queue.now seats.old.queue }
     ensures { IsHeapSeat heap.now seats.new.heap × IsQueueSeat queue.now seats.new.queue }
 {
-    let next = answer(rt, heap, queue, seats, Call::Queue(Ask::PollNow));
-    match again {
-        Some(call) => (next, Some(answer(rt, heap, queue, seats, call))),
-        None => (next, None),
+    let memory = seats.alloc;
+    let batch = new_batch(rt, memory);
+    memory.ration(met);
+    match call {
+        Call::Send(sending) => sent_to(rt, heap, queue, seats, sending, batch),
+        call => {
+            batch.end();
+            answer(rt, heap, queue, seats, call)
+        }
     }
 }
 
-/// What a call is told with so many requests for memory met, on a new heap and queue, and what is told next.
-fn told_with<R: Wait + Abort>(
-    rt: &R,
-    memory: &Rationed<Global>,
-    met: u64,
-    call: Call,
-) -> Result<(Told, Told, Option<Told>), Fail> {
-    let (heap, heap_seat) = SharedHeap::new(memory, CONFIG, 0)?;
-    let (queue, queue_seat) = SharedQueue::new(memory, Q)?;
-    let mut seats = Seats {
-        heap: heap_seat,
-        queue: queue_seat,
-    };
-    let told = told_on(rt, memory, met, call, &heap, &queue, &mut seats);
-    end_queue(queue.finish(seats.queue));
-    Ok(told)
-}
-
-/// What a call is told on this heap and this queue, which are new, and what is told next.
+/// What the calls of a trial are told on this heap and this queue, which are new, and whether a request was refused.
 fn told_on<'a, R: Wait + Abort>(
     rt: &R,
-    memory: &Rationed<Global>,
-    met: u64,
-    call: Call,
     heap: &SharedHeap<&'a Rationed<Global>>,
     queue: &SharedQueue<&'a Rationed<Global>>,
     seats: &mut Seats<&'a Rationed<Global>>,
-) -> (Told, Told, Option<Told>)
+    trial: &Trial,
+    met: u64,
+) -> ([Told; 3], bool)
     requires { IsHeapSeat heap.now seats.old.heap × IsQueueSeat queue.now seats.old.queue }
     ensures { IsHeapSeat heap.now seats.new.heap × IsQueueSeat queue.now seats.new.queue }
 {
-    make_calls(rt, heap, queue, seats, &death());
-    memory.ration(met);
-    let told = answer(rt, heap, queue, seats, call);
-    let again = if memory.lift() { Some(call) } else { None };
-    let (next, then) = told_next(rt, heap, queue, seats, again);
-    (told, next, then)
+    make_calls(rt, heap, queue, seats, trial.death);
+    let first = told_first(rt, heap, queue, seats, trial.call, met);
+    let was_refused = seats.alloc.lift();
+    let next = answer(rt, heap, queue, seats, trial.next);
+    let then = answer(rt, heap, queue, seats, trial.call);
+    ([first, next, then], was_refused)
 }
 
-/// A call with so many requests met was told this, and a poll behind it that.
-fn expect(rt: &impl Abort, name: &str, met: u64, told: (Told, Told), want: (Told, Told)) {
-    let is_so = told.0.is(&want.0) && told.1.is(&want.1);
-    assert!(rt;
-        is_so,
-        "{name} with {met} requests met: {told:?}, and not {want:?}"
-    );
+/// Whether the calls were told this.
+fn are_so(alloc: &Rationed<Global>, told: &[Told; 3], want: &Answers) -> bool {
+    told[0].is(alloc, want[0]) && told[1].is(alloc, want[1]) && told[2].is(alloc, want[2])
 }
 
-/// Makes the call with each request refused in turn: each time the notice of reference 2 comes back, and nothing
-/// stands. Answers how many requests it makes.
+/// The place of what the calls were told among what they may be told where a request is refused.
+fn place_of(rt: &impl Abort, alloc: &Rationed<Global>, trial: &Trial, told: &[Told; 3]) -> usize {
+    for (place, want) in trial.refusals.iter().enumerate() {
+        if are_so(alloc, told, want) {
+            return place;
+        }
+    }
+    let (name, first, next, then) = (trial.name, told[0], told[1], told[2]);
+    panic!(rt; "{name} is told {first}, the next {next}, and then {then}")
+}
+
+/// Makes the calls with each request refused in turn. Answers the place of what they were told at the last refusal.
 fn refuse_each<R: Wait + Abort>(
     rt: &R,
     memory: &Rationed<Global>,
     trial: &Trial,
-) -> Result<u64, Fail> {
+) -> Result<usize, Fail> {
+    let mut place = 0;
     for met in 0..MOST {
-        let (told, next, then) = told_with(rt, memory, met, trial.call)?;
-        let Some(then) = then else {
-            expect(
-                rt,
-                trial.name,
-                met,
-                (told, next),
-                (trial.added, Told::Took(2)),
+        let (heap, queue, mut seats) = start(memory, STARTS)?;
+        let (told, was_refused) = told_on(rt, &heap, &queue, &mut seats, trial, met);
+        end_queue(queue.finish(seats.queue));
+        if !was_refused {
+            let name = trial.name;
+            assert!(rt;
+                are_so(memory, &told, &trial.done),
+                "{name} with {met} requests met"
             );
-            return Ok(met);
-        };
-        expect(
-            rt,
-            trial.name,
-            met,
-            (told, next),
-            (Told::NotPut(2, Fault::NoMemory), Told::Empty),
-        );
-        assert!(rt; then.is(&trial.then), "there is memory then: {then:?}");
+            are_few(rt, name, met);
+            return Ok(place);
+        }
+        place = place_of(rt, memory, trial, &told);
     }
-    Ok(MOST)
+    panic!(rt; "a call makes too many requests")
+}
+
+/// A call that puts in the notice of reference 2 has it come back with each request refused in turn. What it is told
+/// once more, behind a poll, where it was not refused, and where it was.
+fn comes_back<R: Wait + Abort>(
+    rt: &R,
+    memory: &Rationed<Global>,
+    name: &'static str,
+    call: Call,
+    done: &'static str,
+    (once_more, then): (&'static str, &'static str),
+) -> Result<(), Fail> {
+    let trial = Trial {
+        name,
+        death: &death(),
+        call,
+        next: POLL,
+        done: [done, "took 2", once_more],
+        refusals: &[["not put 2: NoMemory", "empty", then]],
+    };
+    refuse_each(rt, memory, &trial)?;
+    Ok(())
 }
 
 #[test]
 fn a_notice_that_finds_no_memory_comes_back(rt: HostRuntime) -> Result<(), Fail> {
-    let trials = [
-        Trial {
-            name: "SharedQueue::put",
-            call: Call::Put(1),
-            added: Told::Added(0),
-            then: Told::Added(0),
-        },
-        Trial {
-            name: "enqueue",
-            call: Call::Enqueue(1),
-            added: Told::Enqueued(true),
-            then: Told::Enqueued(true),
-        },
-        // What came back is handed on no more.
-        Trial {
-            name: "deliver_one",
-            call: Call::Deliver(0),
-            added: Told::Delivered(Delivery::Added(ObjNo(2), Q, 0)),
-            then: Told::Delivered(Delivery::Added(ObjNo(3), Q, 0)),
-        },
-    ];
-    let memory = Rationed::new(rt.alloc());
-    for trial in &trials {
-        let requests = refuse_each(&rt, &memory, trial)?;
-        let name = trial.name;
-        assert!(rt;
-            1 < requests && requests < MOST,
-            "{name} makes {requests} requests"
-        );
-    }
+    let memory = &Rationed::new(rt.alloc());
+    let put = Call::Put(1);
+    comes_back(
+        &rt,
+        memory,
+        "SharedQueue::put",
+        put,
+        "added 0",
+        ("already", "added 0"),
+    )?;
+    let twice = ("not enqueued", "enqueued");
+    comes_back(&rt, memory, "enqueue", enqueue(1), "enqueued", twice)?;
+    // What came back is handed on no more.
+    let twice = ("delivered 3 0 1", "delivered 3 0 0");
+    comes_back(
+        &rt,
+        memory,
+        "deliver_one",
+        DELIVER,
+        "delivered 2 0 0",
+        twice,
+    )
+}
+
+/// Nothing of what comes back is handed on once more.
+#[test]
+fn notices_of_a_batch_that_find_no_memory_come_back(rt: HostRuntime) -> Result<(), Fail> {
+    let trial = Trial {
+        name: "deliver_batch",
+        death: &death(),
+        call: deliver_batch(32),
+        next: Call::PollBatch(32),
+        done: ["added 0, added 1 behind 0", "took 2 3", "none"],
+        refusals: &[
+            ["refused: NoMemory left 2 3", "empty", "none"],
+            ["refused: NoMemory left 3", "took 2", "none"],
+        ],
+    };
+    refuse_each(&rt, &Rationed::new(rt.alloc()), &trial)?;
+    Ok(())
+}
+
+/// A cycle finds object 1 dead. References 2 to 6 to it are in slots 1 to 5, and pending in this order.
+fn death_of_five() -> [Row<'static>; 21] {
+    [
+        (step(new(0)), "object 1"),
+        (step(weak(1, 0)), "object 2"),
+        (step(weak(2, 0)), "object 3"),
+        (step(weak(3, 0)), "object 4"),
+        (step(weak(4, 0)), "object 5"),
+        (step(weak(5, 0)), "object 6"),
+        (step(drop_slot(0)), "ok"),
+        (step(BEGIN), "cycle 1"),
+        (step(SCAN), "scanned 2"),
+        (step(SCAN), "scanned 3"),
+        (step(SCAN), "scanned 4"),
+        (step(SCAN), "scanned 5"),
+        (step(SCAN), "scanned 6"),
+        (step(SCAN), "none"),
+        (step(END_MARK), "doomed 1"),
+        (step(CLEAR_NEXT), "cleared 2"),
+        (step(CLEAR_NEXT), "cleared 3"),
+        (step(CLEAR_NEXT), "cleared 4"),
+        (step(CLEAR_NEXT), "cleared 5"),
+        (step(CLEAR_NEXT), "cleared 6"),
+        (step(END_CLEAR), "ok"),
+    ]
+}
+
+#[test]
+fn where_memory_ends_in_the_middle_what_came_before_stands(rt: HostRuntime) -> Result<(), Fail> {
+    let trial = Trial {
+        name: "deliver_all",
+        death: &death_of_five(),
+        call: DELIVER_ALL,
+        next: Call::PollBatch(32),
+        done: ["ok", "took 2 3 4 5 6", "ok"],
+        refusals: &[
+            ["refused: NoMemory left 2 3 4 5 6", "empty", "ok"],
+            ["refused: NoMemory left 3 4 5 6", "took 2", "ok"],
+            ["refused: NoMemory left 4 5 6", "took 2 3", "ok"],
+            ["refused: NoMemory left 5 6", "took 2 3 4", "ok"],
+            ["refused: NoMemory left 6", "took 2 3 4 5", "ok"],
+        ],
+    };
+    assert!(rt;
+        refuse_each(&rt, &Rationed::new(rt.alloc()), &trial)? > 0,
+        "none is in the middle"
+    );
     Ok(())
 }
 
 /// What a register, or a register apart, is told on a new heap with object 1 in slot 0 and a new cleaner, with `met`
-/// requests for memory met. Beside that stands whether a request was refused, and the job where it came back.
+/// requests for memory met, and whether a request was refused.
 fn register_with<R: Wait>(
     rt: &R,
     memory: &Rationed<Global>,
     is_apart: bool,
     met: u64,
     job: Job,
-) -> Result<(Told, bool, Option<Job>), Fail> {
+) -> Result<(Told, bool), Fail> {
     let (heap, mut heap_seat) = SharedHeap::new(memory, CONFIG, 0)?;
     let (cleaner, mut seat) = SharedCleaner::new(memory, Q)?;
-    let _object = heap.ask(rt, &mut heap_seat, step_of(Do::New(0)));
+    let _object = heap.ask(rt, &mut heap_seat, new(0));
     let (from, to) = (SlotNo(0), SlotNo(1));
     memory.ration(met);
     let answer = if is_apart {
@@ -269,28 +342,15 @@ fn register_with<R: Wait>(
         cleaner.register(rt, &mut seat, &heap, &mut heap_seat, M, from, to, job)
     };
     let was_refused = memory.lift();
-    let (told, back) = match answer {
-        Ok(_cleanable) => (Told::Added(0), None),
-        Err((fault, job)) => (refused(rt, &heap, &mut heap_seat, fault), Some(job)),
+    let told = match answer {
+        Ok(cleanable) => counted(Word::Registered, u64::from(cleanable.obj.0)),
+        Err((fault, job)) => refusal(rt, &heap, &mut heap_seat, fault).with_job(job.number()),
     };
     run_jobs_left(cleaner.finish(seat));
-    Ok((told, was_refused, back))
+    Ok((told, was_refused))
 }
 
-/// A job of this number, which it answers.
-fn job(alloc: Global, number: u32) -> Result<Job, AllocError> {
-    let action: Action = Box::new(
-        alloc,
-        move |number: u64| -> u64
-            requires { number < 2 ^ 32 }
-            ensures { result ≡ number }
-        { number },
-    )?;
-    let number = u64::from(number);
-    Ok(Job::new(number, number, action))
-}
-
-/// Registers a job with each request refused in turn: each time it comes back. Then it is registered. Answers how many
+/// Registers job 1 with each request refused in turn: each time it comes back. Then it is registered. Answers how many
 /// requests this makes.
 fn register_each<R: Wait + Abort>(
     rt: &R,
@@ -299,15 +359,16 @@ fn register_each<R: Wait + Abort>(
     is_apart: bool,
 ) -> Result<u64, Fail> {
     for met in 0..MOST {
-        let given = job(alloc, 1)?;
-        let (told, was_refused, back) = register_with(rt, memory, is_apart, met, given)?;
-        let Some(back) = back else {
-            assert!(rt; !was_refused, "it is registered with {met} requests met");
-            return Ok(met);
+        let (told, was_refused) = register_with(rt, memory, is_apart, met, adding(alloc, 1)?)?;
+        let want = if was_refused {
+            "refused: NoMemory job 1"
+        } else {
+            "registered 2"
         };
-        assert!(rt; was_refused, "there was memory, with {met} requests met");
-        assert!(rt; told.is(&Told::Refused(Fault::NoMemory)), "{told:?}");
-        assert!(rt; back.number() == 1, "the job comes back");
+        expect(rt, alloc, 0, told, want);
+        if !was_refused {
+            return Ok(met);
+        }
     }
     Ok(MOST)
 }
@@ -317,98 +378,7 @@ fn a_job_that_finds_no_memory_comes_back(rt: HostRuntime) -> Result<(), Fail> {
     let memory = Rationed::new(rt.alloc());
     for is_apart in [false, true] {
         let requests = register_each(&rt, rt.alloc(), &memory, is_apart)?;
-        assert!(rt;
-            1 < requests && requests < MOST,
-            "register makes {requests} requests"
-        );
+        are_few(&rt, "register", requests);
     }
-    Ok(())
-}
-
-/// A cycle finds object 1 dead. References 2 to 6 to it are in slots 1 to 5, and pending in this order.
-fn death_of_five() -> [(Call, Told); 21] {
-    let scanned = |no: u32| heap(Do::Scan, Reply::Scanned(ObjNo(no)));
-    let cleared = |no: u32| heap(Do::ClearNext, Reply::Cleared(ObjNo(no)));
-    [
-        new(0, 1),
-        weak(1, 0, 2),
-        weak(2, 0, 3),
-        weak(3, 0, 4),
-        weak(4, 0, 5),
-        weak(5, 0, 6),
-        heap(Do::Drop(0), Reply::Done),
-        heap(Do::Begin, Reply::Cycle(1)),
-        scanned(2),
-        scanned(3),
-        scanned(4),
-        scanned(5),
-        scanned(6),
-        heap(Do::Scan, Reply::Nothing),
-        heap(Do::EndMark, Reply::Doomed(1)),
-        cleared(2),
-        cleared(3),
-        cleared(4),
-        cleared(5),
-        cleared(6),
-        heap(Do::EndClear, Reply::Done),
-    ]
-}
-
-/// Hands on the notices of the five with so many requests for memory met, on a new heap and queue. Why that is refused,
-/// how many of them are left in the batch, and how many stand then.
-fn handed_on_with<R: Wait + Abort>(
-    rt: &R,
-    memory: &Rationed<Global>,
-    met: u64,
-) -> Result<(Option<Told>, usize, usize), Fail> {
-    let (heap, heap_seat) = SharedHeap::new(memory, CONFIG, 0)?;
-    let (queue, queue_seat) = SharedQueue::new(memory, Q)?;
-    let mut seats = Seats {
-        heap: heap_seat,
-        queue: queue_seat,
-    };
-    make_calls(rt, &heap, &queue, &mut seats, &death_of_five());
-    let batch = new_batch(rt, memory);
-    memory.ration(met);
-    let (refusal, left) = all_delivered(rt, &heap, &queue, &mut seats, batch);
-    memory.lift();
-    let left = end_batch(left);
-    Ok((refusal, left, end_queue(queue.finish(seats.queue))))
-}
-
-/// Hands on the notices of the five with so many requests for memory met. How many stand where that is refused: the
-/// others are left in the batch.
-fn refused_behind<R: Wait + Abort>(
-    rt: &R,
-    memory: &Rationed<Global>,
-    met: u64,
-) -> Result<Option<usize>, Fail> {
-    let (refusal, left, standing) = handed_on_with(rt, memory, met)?;
-    match refusal {
-        Some(told) => {
-            let want = Told::Refused(Fault::NoMemory);
-            assert!(rt; told.is(&want), "{told:?} with {met} requests met");
-            let all = left.checked_add(standing);
-            assert!(rt; all == Some(5), "{left} are left, {standing} stand");
-            Ok(Some(standing))
-        }
-        None => {
-            assert!(rt; standing == 5, "{standing} stand");
-            Ok(None)
-        }
-    }
-}
-
-#[test]
-fn where_memory_ends_in_the_middle_what_came_before_stands(rt: HostRuntime) -> Result<(), Fail> {
-    let memory = Rationed::new(rt.alloc());
-    let mut is_in_the_middle = false;
-    for met in 0..MOST {
-        match refused_behind(&rt, &memory, met)? {
-            Some(standing) => is_in_the_middle = is_in_the_middle || standing > 0,
-            None => break,
-        }
-    }
-    assert!(rt; is_in_the_middle);
     Ok(())
 }

@@ -47,13 +47,8 @@ fn each_fault_prints_what_comes_back_and_is_given_up(rt: HostRuntime) -> Result<
     let alloc = rt.alloc();
     let spent = Fault::TurnsSpent;
     gives_up(&rt, alloc, ShareFault::Busy, "another turn is open", Ok(()))?;
-    gives_up(
-        &rt,
-        alloc,
-        Fault::NoCell.into(),
-        "refused: NoCell",
-        Err(Fault::NoCell),
-    )?;
+    let no_cell = Err(Fault::NoCell);
+    gives_up(&rt, alloc, Fault::NoCell.into(), "refused: NoCell", no_cell)?;
     if let Some(notice) = notice(alloc)? {
         let fault = ShareFault::Notice(notice, Fault::NoMemory);
         let text = "the notice of 2 comes back: NoMemory";
@@ -61,13 +56,8 @@ fn each_fault_prints_what_comes_back_and_is_given_up(rt: HostRuntime) -> Result<
     }
     if let Some(notice) = notice(alloc)? {
         let fault = ShareFault::Held(notice.into_hold(), spent);
-        gives_up(
-            &rt,
-            alloc,
-            fault,
-            "the hold of 2 comes back: TurnsSpent",
-            Err(spent),
-        )?;
+        let text = "the hold of 2 comes back: TurnsSpent";
+        gives_up(&rt, alloc, fault, text, Err(spent))?;
     }
     Ok(())
 }
@@ -101,12 +91,8 @@ fn cleaned_prints(
 fn each_answer_prints_as_one_line(rt: HostRuntime) -> Result<(), Fail> {
     let alloc = rt.alloc();
     prints(&rt, alloc, &Delivery::Nothing, "nothing")?;
-    prints(
-        &rt,
-        alloc,
-        &Delivery::Added(ObjNo(2), Q, 7),
-        "2 added to q0 at 7",
-    )?;
+    let added = Delivery::Added(ObjNo(2), Q, 7);
+    prints(&rt, alloc, &added, "2 added to q0 at 7")?;
     prints(&rt, alloc, &Delivery::Dropped(ObjNo(2)), "2 dropped")?;
     if let Some(notice) = notice(alloc)? {
         polled_prints(&rt, alloc, Polled::Took(notice), "took 2")?;
@@ -118,11 +104,7 @@ fn each_answer_prints_as_one_line(rt: HostRuntime) -> Result<(), Fail> {
         number: 3,
         answer: 1003,
     };
-    cleaned_prints(
-        &rt,
-        alloc,
-        Cleaned::Ran(ran, None),
-        "ran 3, which answered 1003",
-    )?;
+    let cleaned = Cleaned::Ran(ran, None);
+    cleaned_prints(&rt, alloc, cleaned, "ran 3, which answered 1003")?;
     cleaned_prints(&rt, alloc, Cleaned::Gone, "gone")
 }

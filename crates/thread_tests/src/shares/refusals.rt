@@ -1,180 +1,118 @@
 //! Why calls of a shared heap and queue are refused.
 
-use super::calls::{Ask, Call, Do, Told};
-use super::{CONFIG, Q, Story, agree, death, heap, new, quiet, weak};
-use ref_base::{Config, Fault, ObjNo, QueueNo, Reply};
-use ref_share::{Delivery, SharedHeap};
+use super::rows::{
+    CLOSE, Call, DELIVER, HEAP_SERVED, POLL, SERVED, Sending, WAIT, ask, drop_slot, enqueue, new,
+    step, weak, weak_alone, within,
+};
+use super::{CONFIG, death, story_of};
+use ref_base::{Config, Fault};
+use ref_share::SharedHeap;
 use std::alloc::Global;
 use std::test::Fail;
 
-const DELIVER: Call = Call::Deliver(0);
-
-const CLOSE: Call = Call::Queue(Ask::Close);
-
-const fn refused(call: Call, fault: Fault) -> (Call, Told) {
-    (call, Told::Refused(fault))
-}
-
-/// No turn is left for the call.
-const fn spent(call: Call) -> (Call, Told) {
-    refused(call, Fault::TurnsSpent)
-}
-
-/// The notice of reference 2 comes back from the call.
-const fn not_put(call: Call, fault: Fault) -> (Call, Told) {
-    (call, Told::NotPut(2, fault))
+#[test]
+fn what_is_not_there_is_refused(rt: HostRuntime) -> Result<(), Fail> {
+    // A limit of polls is from 1 to a million.
+    story_of(&[
+        (within(0), "refused: BadConfig"),
+        (within(1_000_001), "refused: BadConfig"),
+        (within(1), "timed out"),
+        (within(1_000_000), "timed out"),
+        (SERVED, "served 1000001"),
+    ])
+    .agree(&rt, rt.alloc())?;
+    // What the heap refuses is told.
+    story_of(&[
+        (step(new(0)), "object 1"),
+        (step(weak_alone(1, 0)), "object 2"),
+        (enqueue(1), "not enqueued"),
+        (enqueue(16), "refused: NoSuchActor"),
+        (enqueue(5), "refused: EmptySlot"),
+        (enqueue(0), "refused: NotAReference"),
+        (Call::Send(Sending::One(1)), "refused: NoSuchActor"),
+        (DELIVER, "none"),
+        (SERVED, "served 0"),
+    ])
+    .agree(&rt, rt.alloc())
 }
 
 #[test]
-fn a_limit_of_polls_is_from_1_to_a_million(rt: HostRuntime) -> Result<(), Fail> {
-    let story = Story {
-        calls: &[
-            refused(Call::Queue(Ask::Within(0)), Fault::BadConfig),
-            refused(Call::Queue(Ask::Within(1_000_001)), Fault::BadConfig),
-        ],
-        then: &[
-            (Call::Queue(Ask::Within(1)), Told::TimedOut),
-            (Call::Queue(Ask::Within(1_000_000)), Told::TimedOut),
-            (Call::Queue(Ask::Served), Told::Served(1_000_001)),
-        ],
-        ..quiet()
-    };
-    agree(&rt, rt.alloc(), &story)
+fn what_no_queue_takes_comes_back(rt: HostRuntime) -> Result<(), Fail> {
+    let alloc = rt.alloc();
+    let bad_queue = "not put 2: BadQueue";
+    story_of(&death())
+        .then(&[
+            (Call::SendNowhere(Sending::Enqueue(1)), bad_queue),
+            (Call::SendNowhere(Sending::One(0)), bad_queue),
+        ])
+        .agree(&rt, alloc)?;
+    let wrong_queue = "not put 2: WrongQueue";
+    story_of(&death())
+        .then(&[
+            (Call::Put(1), wrong_queue),
+            (enqueue(1), wrong_queue),
+            (DELIVER, wrong_queue),
+        ])
+        .at_another_queue()
+        .agree(&rt, alloc)?;
+    let no_turn = "not put 2: TurnsSpent";
+    story_of(&death())
+        .then(&[
+            (Call::Put(1), no_turn),
+            (enqueue(1), no_turn),
+            (DELIVER, no_turn),
+        ])
+        .queue_from(u64::MAX)
+        .agree(&rt, alloc)
 }
 
 #[test]
-fn what_the_heap_refuses_is_told(rt: HostRuntime) -> Result<(), Fail> {
-    let story = Story {
-        calls: &[
-            new(0, 1),
-            heap(Do::Alone(1, 0), Reply::Object(ObjNo(2))),
-            (Call::Enqueue(1), Told::Enqueued(false)),
-        ],
-        then: &[
-            refused(Call::Enqueue(16), Fault::NoSuchActor),
-            refused(Call::Enqueue(5), Fault::EmptySlot),
-            refused(Call::Enqueue(0), Fault::NotAReference),
-            refused(Call::Deliver(1), Fault::NoSuchActor),
-            (DELIVER, Told::Delivered(Delivery::Nothing)),
-            (Call::Queue(Ask::Served), Told::Served(0)),
-        ],
-        ..quiet()
-    };
-    agree(&rt, rt.alloc(), &story)
+fn the_last_turn_is_made_once(rt: HostRuntime) -> Result<(), Fail> {
+    story_of(&[
+        (CLOSE, "was open"),
+        (CLOSE, "refused: TurnsSpent"),
+        (POLL, "refused: TurnsSpent"),
+        (within(3), "refused: TurnsSpent"),
+        (WAIT, "refused: TurnsSpent"),
+        (within(0), "refused: BadConfig"),
+        (SERVED, "served 18446744073709551615"),
+    ])
+    .queue_from(u64::MAX - 1)
+    .agree(&rt, rt.alloc())?;
+    story_of(&[
+        (step(new(0)), "object 1"),
+        (step(drop_slot(0)), "refused: TurnsSpent"),
+        (ask(drop_slot(0)), "refused: TurnsSpent"),
+        (enqueue(1), "refused: TurnsSpent"),
+        (DELIVER, "refused: TurnsSpent"),
+        (HEAP_SERVED, "served 18446744073709551615"),
+        (SERVED, "served 0"),
+    ])
+    .heap_from(u64::MAX - 1)
+    .agree(&rt, rt.alloc())
 }
 
 #[test]
-fn a_queue_that_is_not_there_takes_nothing(rt: HostRuntime) -> Result<(), Fail> {
-    let story = Story {
-        calls: &death(),
-        then: &[
-            not_put(Call::EnqueueNowhere(1), Fault::BadQueue),
-            not_put(Call::DeliverNowhere, Fault::BadQueue),
-        ],
-        ..quiet()
-    };
-    agree(&rt, rt.alloc(), &story)
-}
-
-#[test]
-fn another_queue_takes_nothing(rt: HostRuntime) -> Result<(), Fail> {
-    let story = Story {
-        queue: QueueNo(1),
-        calls: &death(),
-        then: &[
-            not_put(Call::Put(1), Fault::WrongQueue),
-            not_put(Call::Enqueue(1), Fault::WrongQueue),
-            not_put(DELIVER, Fault::WrongQueue),
-        ],
-        ..quiet()
-    };
-    agree(&rt, rt.alloc(), &story)
-}
-
-#[test]
-fn the_last_turn_of_a_queue_is_made_once(rt: HostRuntime) -> Result<(), Fail> {
-    let story = Story {
-        first: u64::MAX - 1,
-        calls: &[(CLOSE, Told::WasOpen(true)), spent(CLOSE)],
-        then: &[
-            spent(Call::Queue(Ask::PollNow)),
-            spent(Call::Queue(Ask::Within(3))),
-            spent(Call::Queue(Ask::Wait)),
-            refused(Call::Queue(Ask::Within(0)), Fault::BadConfig),
-            (Call::Queue(Ask::Served), Told::Served(u64::MAX)),
-        ],
-        ..quiet()
-    };
-    agree(&rt, rt.alloc(), &story)
-}
-
-#[test]
-fn without_a_turn_of_the_queue_the_notice_comes_back(rt: HostRuntime) -> Result<(), Fail> {
-    let story = Story {
-        first: u64::MAX,
-        calls: &death(),
-        then: &[
-            not_put(Call::Put(1), Fault::TurnsSpent),
-            not_put(Call::Enqueue(1), Fault::TurnsSpent),
-            not_put(DELIVER, Fault::TurnsSpent),
-        ],
-        ..quiet()
-    };
-    agree(&rt, rt.alloc(), &story)
-}
-
-#[test]
-fn without_a_turn_of_the_heap_nothing_is_done(rt: HostRuntime) -> Result<(), Fail> {
-    let story = Story {
-        heap_first: u64::MAX - 1,
-        calls: &[new(0, 1), spent(Call::Try(Do::Drop(0)))],
-        then: &[
-            spent(Call::Step(Do::Drop(0))),
-            spent(Call::Enqueue(1)),
-            spent(DELIVER),
-            (Call::HeapServed, Told::Served(u64::MAX)),
-            (Call::Queue(Ask::Served), Told::Served(0)),
-        ],
-        ..quiet()
-    };
-    agree(&rt, rt.alloc(), &story)
-}
-
-/// No turn of the heap is left to take the hold of reference 2.
-const NOT_RELEASED: Told = Told::NotReleased(2, Fault::TurnsSpent);
-
-#[test]
-fn without_a_turn_for_the_release_an_enqueue_gives_the_hold(rt: HostRuntime) -> Result<(), Fail> {
-    let story = Story {
-        // Two objects are made, and two unhooks.
-        heap_first: u64::MAX - 4,
-        calls: &[new(0, 1), weak(1, 0, 2)],
-        then: &[
-            (Call::Enqueue(1), Told::Enqueued(true)),
-            (Call::Enqueue(1), NOT_RELEASED),
-        ],
-        put_in: &[2],
-        standing: &[2],
-        ..quiet()
-    };
-    agree(&rt, rt.alloc(), &story)
-}
-
-#[test]
-fn without_a_turn_for_the_release_a_delivery_gives_the_hold(rt: HostRuntime) -> Result<(), Fail> {
-    let story = Story {
-        // Twelve turns of the cycle, an unhook and a hand.
-        heap_first: u64::MAX - 14,
-        calls: &death(),
-        then: &[
-            (Call::Enqueue(1), Told::Enqueued(true)),
-            (DELIVER, NOT_RELEASED),
-        ],
-        put_in: &[2],
-        standing: &[2],
-        ..quiet()
-    };
-    agree(&rt, rt.alloc(), &story)
+fn without_a_turn_for_the_release_the_hold_comes_back(rt: HostRuntime) -> Result<(), Fail> {
+    // Two objects are made, and two unhooks.
+    story_of(&[
+        (step(new(0)), "object 1"),
+        (step(weak(1, 0)), "object 2"),
+        (enqueue(1), "enqueued"),
+        (enqueue(1), "not released 2: TurnsSpent"),
+    ])
+    .heap_from(u64::MAX - 4)
+    .leaves(&[2], &[2])
+    .agree(&rt, rt.alloc())?;
+    // Twelve turns of the cycle, an unhook and a hand.
+    story_of(&death())
+        .then(&[
+            (enqueue(1), "enqueued"),
+            (DELIVER, "not released 2: TurnsSpent"),
+        ])
+        .heap_from(u64::MAX - 14)
+        .leaves(&[2], &[2])
+        .agree(&rt, rt.alloc())
 }
 
 /// Why a heap of this configuration is not made.
@@ -185,38 +123,28 @@ fn fault_of(alloc: Global, config: Config) -> Option<Fault> {
     }
 }
 
+/// With these numbers of mutators, workers, queues and cells.
+const fn of(mutators: u32, workers: u32, queues: u32, cells: u32) -> Config {
+    Config {
+        mutators,
+        workers,
+        queues,
+        cells,
+        ..CONFIG
+    }
+}
+
 #[test]
 fn a_heap_outside_the_limits_is_not_made(rt: HostRuntime) {
     let outside = [
-        Config {
-            mutators: 0,
-            ..CONFIG
-        },
-        Config {
-            mutators: 9,
-            ..CONFIG
-        },
-        Config {
-            workers: 0,
-            ..CONFIG
-        },
-        Config {
-            workers: 9,
-            ..CONFIG
-        },
-        Config {
-            queues: 0,
-            ..CONFIG
-        },
-        Config {
-            queues: 17,
-            ..CONFIG
-        },
-        Config { cells: 0, ..CONFIG },
-        Config {
-            cells: 65_537,
-            ..CONFIG
-        },
+        of(0, 1, 1, 8),
+        of(9, 1, 1, 8),
+        of(1, 0, 1, 8),
+        of(1, 9, 1, 8),
+        of(1, 1, 0, 8),
+        of(1, 1, 17, 8),
+        of(1, 1, 1, 0),
+        of(1, 1, 1, 65_537),
     ];
     for config in outside {
         assert!(rt;

@@ -3,10 +3,12 @@
 ghost use Rattle.ref_share.specs.HeapSeats.{IsHeapSeat};
 ghost use Rattle.ref_share.specs.QueueSeats.{IsQueueSeat};
 
-use super::calls::{Ask, Call, Seats, Told, answer};
-use super::{CONFIG, Q, Story, death, end_finished, make_calls, two_references};
-use ref_base::ObjNo;
-use ref_share::{Delivery, QueueSeat, SharedHeap, SharedQueue};
+use super::calls::answer;
+use super::rows::{CLOSE, Call, DELIVER, WAIT, enqueue};
+use super::stories::two_references;
+use super::told::Told;
+use super::{Seats, Story, death, make_calls, start, story_of};
+use ref_share::{QueueSeat, SharedHeap, SharedQueue};
 use std::alloc::Global;
 use std::process::Abort;
 use std::sync::Wait;
@@ -14,10 +16,8 @@ use std::test::Fail;
 use std::thread;
 use std::thread::Threads;
 
-const WAIT: Call = Call::Queue(Ask::Wait);
-
 /// One call, by a thread of its own.
-fn told<R: Wait>(
+fn told<R: Wait + Abort>(
     rt: &R,
     heap: &SharedHeap,
     queue: &SharedQueue,
@@ -61,7 +61,7 @@ fn make_calls_later<R: Wait + Abort>(
 }
 
 /// Two threads that wait for the queue; and what they are told.
-fn both_told<R: Threads + Wait + Sync>(
+fn both_told<R: Threads + Wait + Abort + Sync>(
     rt: &R,
     heap: &SharedHeap,
     queue: &SharedQueue,
@@ -96,6 +96,7 @@ fn split(heap: &SharedHeap, queue: &SharedQueue, seats: &mut Seats) -> Seats
     Seats {
         heap: heap.split(&mut seats.heap),
         queue: queue.split(&mut seats.queue),
+        alloc: seats.alloc,
     }
 }
 
@@ -141,76 +142,36 @@ fn agree_while_two_wait<R: Threads + Wait + Abort + Sync>(
     rt: &R,
     alloc: Global,
     story: &Story,
-    want: (Told, Told),
+    (one, other): (&str, &str),
 ) -> Result<(), Fail> {
-    let (heap, heap_seat) = SharedHeap::starting(alloc, CONFIG, 0, story.heap_first)?;
-    let (queue, queue_seat) = SharedQueue::starting(alloc, story.queue, story.first)?;
-    let seats = Seats {
-        heap: heap_seat,
-        queue: queue_seat,
-    };
+    let (heap, queue, seats) = start(alloc, story.starts)?;
     let (first, second, seats) = told_meanwhile(rt, &heap, &queue, seats, story);
-    let (one, other) = want;
     assert!(rt;
-        first.is(&one) && second.is(&other) || second.is(&one) && first.is(&other),
-        "{first:?}, {second:?}"
+        first.is(alloc, one) && second.is(alloc, other)
+            || second.is(alloc, one) && first.is(alloc, other),
+        "{first}, {second}"
     );
     assert!(rt;
         heap.finish(seats.heap).is_ok(),
         "no turn of the heap is open"
     );
-    end_finished(rt, alloc, queue.finish(seats.queue), story)
-}
-
-const CLOSE: (Call, Told) = (Call::Queue(Ask::Close), Told::WasOpen(true));
-
-#[test]
-fn a_close_wakes_all_that_wait(rt: HostRuntime) -> Result<(), Fail> {
-    let story = Story {
-        heap_first: 0,
-        first: 0,
-        queue: Q,
-        calls: &[],
-        then: &[CLOSE],
-        put_in: &[],
-        standing: &[],
-    };
-    agree_while_two_wait(&rt, rt.alloc(), &story, (Told::Closed, Told::Closed))
+    story.end(rt, alloc, queue.finish(seats.queue))
 }
 
 #[test]
-fn what_is_put_later_goes_to_those_that_wait(rt: HostRuntime) -> Result<(), Fail> {
-    let story = Story {
-        heap_first: 0,
-        first: 0,
-        queue: Q,
-        calls: &death(),
-        then: &[
-            (
-                Call::Deliver(0),
-                Told::Delivered(Delivery::Added(ObjNo(2), Q, 0)),
-            ),
-            (
-                Call::Deliver(0),
-                Told::Delivered(Delivery::Added(ObjNo(3), Q, 1)),
-            ),
-        ],
-        put_in: &[2, 3],
-        standing: &[],
-    };
-    agree_while_two_wait(&rt, rt.alloc(), &story, (Told::Took(2), Told::Took(3)))
-}
-
-#[test]
-fn who_waits_for_more_than_comes_is_told_of_the_close(rt: HostRuntime) -> Result<(), Fail> {
-    let story = Story {
-        heap_first: 0,
-        first: 0,
-        queue: Q,
-        calls: &two_references(),
-        then: &[(Call::Enqueue(1), Told::Enqueued(true)), CLOSE],
-        put_in: &[2],
-        standing: &[],
-    };
-    agree_while_two_wait(&rt, rt.alloc(), &story, (Told::Took(2), Told::Closed))
+fn who_waits_is_told_what_comes_or_of_the_close(rt: HostRuntime) -> Result<(), Fail> {
+    let alloc = rt.alloc();
+    // A close wakes all that wait.
+    let none = [(CLOSE, "was open")];
+    agree_while_two_wait(&rt, alloc, &story_of(&none), ("closed", "closed"))?;
+    // What is put later goes to those that wait.
+    let death = death();
+    let deliveries = [(DELIVER, "delivered 2 0 0"), (DELIVER, "delivered 3 0 1")];
+    let both = story_of(&death).then(&deliveries).leaves(&[2, 3], &[]);
+    agree_while_two_wait(&rt, alloc, &both, ("took 2", "took 3"))?;
+    // Who waits for more than comes is told of the close.
+    let two = two_references();
+    let calls = [(enqueue(1), "enqueued"), (CLOSE, "was open")];
+    let one = story_of(&two).then(&calls).leaves(&[2], &[]);
+    agree_while_two_wait(&rt, alloc, &one, ("took 2", "closed"))
 }

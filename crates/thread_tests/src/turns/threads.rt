@@ -110,13 +110,8 @@ fn tried_meanwhile<R: Threads + Wait + Abort + Sync>(
 }
 
 #[test]
-fn a_try_is_busy_while_another_step_is_at_the_gate(rt: HostRuntime) -> Result<(), Fail> {
+fn a_try_is_busy_or_spent_while_another_step_is_at_the_gate(rt: HostRuntime) -> Result<(), Fail> {
     assert!(rt; tried_meanwhile(&rt, rt.alloc(), 0)? == Err(TurnFault::Busy(9)));
-    Ok(())
-}
-
-#[test]
-fn a_try_is_spent_while_the_last_step_is_at_the_gate(rt: HostRuntime) -> Result<(), Fail> {
     assert!(rt; tried_meanwhile(&rt, rt.alloc(), u64::MAX - 1)? == Err(TurnFault::Spent(9)));
     Ok(())
 }

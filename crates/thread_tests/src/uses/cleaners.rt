@@ -11,10 +11,10 @@ ghost use Rattle.ref_share.specs.Cleanings.{makes_phantom};
 ghost use Rattle.ref_share.specs.HeapSeats.{heap_view, IsHeapSeat};
 ghost use Rattle.ref_share.specs.QueueSeats.{IsQueueSeat};
 
-use crate::shares::calls::{Ask, Call, Seats, Told};
 use crate::shares::cleaners::hearing::Hearing;
-use crate::shares::cleaners::left_in;
-use crate::shares::{CONFIG, M, Q, make_calls, new, weak};
+use crate::shares::cleaners::{adding, left_in};
+use crate::shares::rows::{CLOSE, enqueue, new, step, weak};
+use crate::shares::{M, Q, STARTS, Seats, make_calls, start};
 use ref_base::{Fault, ObjNo, SlotNo};
 use ref_queue::{Action, Job, Ran};
 use ref_share::{
@@ -127,22 +127,23 @@ fn cleaned_twice<R: Wait + Abort>(
     ensures { IsQueueSeat shared.entry.1.now seats.new.queue × IsCleanSeat shared.entry.2.now seat.new }
 {
     let (heap, queue, cleaner) = shared;
-    make_calls(rt, heap, queue, seats, &[new(0, 1)]);
+    make_calls(rt, heap, queue, seats, &[(step(new(0)), "object 1")]);
     let first = holds_the_reference(rt, cleaner, seat, heap, &mut seats.heap, jobs.0);
     let cleanable = Cleanable { obj: ObjNo(2) };
     let retired = retires_what_it_cleans(rt, cleaner, seat, heap, &mut seats.heap, cleanable);
     let second = holds_the_reference(rt, cleaner, seat, heap, &mut seats.heap, jobs.1);
     let calls = [
-        weak(2, 0, 4),
-        (Call::Enqueue(2), Told::Enqueued(true)),
-        (Call::Enqueue(1), Told::Enqueued(true)),
-        (Call::Queue(Ask::Close), Told::WasOpen(true)),
+        (step(weak(2, 0)), "object 4"),
+        (enqueue(2), "enqueued"),
+        (enqueue(1), "enqueued"),
+        (CLOSE, "was open"),
     ];
     make_calls(rt, heap, queue, seats, &calls);
     let hearing = Hearing::new(false);
     let Seats {
         heap: heap_seat,
         queue: queue_seat,
+        ..
     } = seats;
     let enough = releases_twice_for_each_job(
         rt, cleaner, seat, heap, heap_seat, queue, queue_seat, &hearing,
@@ -164,18 +165,13 @@ fn cleaned_anew<R: Wait + Abort>(
     ),
     Fault,
 > {
-    let (heap, heap_seat) = SharedHeap::new(alloc, CONFIG, 0)?;
     let (cleaner, mut seat) = SharedCleaner::new(alloc, Q)?;
-    let (queue, queue_seat) = match SharedQueue::new(alloc, Q) {
+    let (heap, queue, mut seats) = match start(alloc, STARTS) {
         Ok(made) => made,
         Err(fault) => {
             left_in(cleaner.finish(seat));
             return Err(fault);
         }
-    };
-    let mut seats = Seats {
-        heap: heap_seat,
-        queue: queue_seat,
     };
     let (held, retired, enough) = cleaned_twice(
         rt,
@@ -190,21 +186,7 @@ fn cleaned_anew<R: Wait + Abort>(
 
 #[test]
 fn a_cleaner_makes_its_calls_of_the_heap(rt: HostRuntime) -> Result<(), Fail> {
-    let first: Action = Box::new(
-        rt.alloc(),
-        |number: u64| -> u64
-            requires { number < 2 ^ 32 }
-            ensures { result ≡ number + 1000 }
-        { number + 1000 },
-    )?;
-    let second: Action = Box::new(
-        rt.alloc(),
-        |number: u64| -> u64
-            requires { number < 2 ^ 32 }
-            ensures { result ≡ number + 1000 }
-        { number + 1000 },
-    )?;
-    let jobs = (Job::new(1, 1001, first), Job::new(2, 1002, second));
+    let jobs = (adding(rt.alloc(), 1)?, adding(rt.alloc(), 2)?);
     let want = [
         Some(Cleanable { obj: ObjNo(2) }),
         Some(Cleanable { obj: ObjNo(3) }),

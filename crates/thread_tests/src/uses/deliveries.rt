@@ -13,9 +13,9 @@ ghost use Rattle.ref_turn.specs.Seats.{entry};
 ghost use Rattle.thread_tests.specs.QueueLists.{AreSeated};
 ghost use Rattle.thread_tests.specs.QueueRows.{queue_row};
 
-use crate::shares::calls::{Ask, Call, Seats, Told};
 use crate::shares::many_queues::{Lists, find_dead, make_references, with};
-use crate::shares::{CONFIG, M, Q, W, death, make_calls};
+use crate::shares::rows::CLOSE;
+use crate::shares::{M, STARTS, Seats, W, death, make_calls, start};
 use rationed::Rationed;
 use ref_base::{Batch, Fault, Parcel, SlotNo};
 use ref_clear::Notice;
@@ -157,8 +157,7 @@ fn sent_without_memory<'a, R: Wait + Abort>(
     let first = is_in_vain(rt, heap, queue, seats);
     let left = keeps_what_found_no_memory(rt, heap, queue, seats, batch);
     memory.lift();
-    let close = (Call::Queue(Ask::Close), Told::WasOpen(true));
-    make_calls(rt, heap, queue, seats, &[close]);
+    make_calls(rt, heap, queue, seats, &[(CLOSE, "was open")]);
     let last = is_in_vain(rt, heap, queue, seats);
     Ok((first, left, last))
 }
@@ -166,12 +165,7 @@ fn sent_without_memory<'a, R: Wait + Abort>(
 #[test]
 fn what_finds_no_memory_is_not_given_up(rt: HostRuntime) -> Result<(), Fail> {
     let memory = &Rationed::new(rt.alloc());
-    let (heap, heap_seat) = SharedHeap::new(memory, CONFIG, 0)?;
-    let (queue, queue_seat) = SharedQueue::new(memory, Q)?;
-    let mut seats = Seats {
-        heap: heap_seat,
-        queue: queue_seat,
-    };
+    let (heap, queue, mut seats) = start(memory, STARTS)?;
     let sent = sent_without_memory(&rt, memory, &heap, &queue, &mut seats);
     end_queue(queue.finish(seats.queue));
     assert!(rt; sent == Ok((false, Some(true), true)));
@@ -211,21 +205,16 @@ fn sent_to<R: Wait + Abort>(
     let mut lists = Lists::new(rt, alloc, count, 0);
     make_references(rt, &heap, &mut seat, 2);
     let told = both_sent(rt, &heap, &mut seat, &mut lists, is_dead);
-    lists.end(rt, alloc, true);
+    lists.end(rt, true);
     Ok(told)
 }
 
 #[test]
 fn a_queue_that_stands_in_the_lists_is_found(rt: HostRuntime) -> Result<(), Fail> {
     for is_dead in [false, true] {
-        assert!(rt;
-            sent_to(&rt, rt.alloc(), 2, is_dead)? == [None, None],
-            "both stand"
-        );
-        assert!(rt;
-            sent_to(&rt, rt.alloc(), 1, is_dead)? == [Some(true), None],
-            "the first stands"
-        );
+        // Both stand in the lists, or the first.
+        assert!(rt; sent_to(&rt, rt.alloc(), 2, is_dead)? == [None, None]);
+        assert!(rt; sent_to(&rt, rt.alloc(), 1, is_dead)? == [Some(true), None]);
     }
     Ok(())
 }

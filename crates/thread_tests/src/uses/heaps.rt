@@ -8,8 +8,8 @@ ghost use Rattle.ref_share.specs.QueueSeats.{IsQueueSeat};
 ghost use Rattle.ref_turn.specs.Seats.{entry};
 ghost use Rattle.ref_world.specs.declared.heap_machine.HeapReply.TheVariants as replies;
 
-use crate::shares::calls::{Seats, replied};
-use crate::shares::{CONFIG, M, Q, W, death, make_calls};
+use crate::shares::calls::stepped;
+use crate::shares::{CONFIG, M, STARTS, Seats, Starts, W, death, make_calls, start};
 use ref_base::{Config, HeapStep, PlainStep, SlotNo};
 use ref_share::{Delivery, HeapSeat, SharedHeap, SharedQueue, deliver_one, end_queue, enqueue};
 use ref_turn::TurnFault;
@@ -28,7 +28,7 @@ fn serves_each_step<R: Wait>(rt: &R, heap: &SharedHeap, seat: &mut HeapSeat) -> 
     let before = heap.served(seat);
     let answer = heap.call(rt, seat, HeapStep::Plain(PlainStep::EndSweep));
     let is_made = answer.is_ok();
-    replied(answer);
+    stepped(answer);
     let after = heap.served(seat);
     if is_made { Some(before < after) } else { None }
 }
@@ -43,7 +43,7 @@ pub fn is_busy_at_the_last_turn(heap: &SharedHeap, seat: &mut HeapSeat) -> bool
 {
     let answer = heap.try_call(seat, HeapStep::Plain(PlainStep::EndSweep));
     let is_busy = matches!(&answer, Err(TurnFault::Busy(_)));
-    replied(answer);
+    stepped(answer);
     is_busy
 }
 
@@ -114,18 +114,8 @@ fn releases_what_it_drops<R: Wait>(
 #[test]
 fn a_heap_does_what_it_is_asked(rt: HostRuntime) -> Result<(), Fail> {
     let (heap, mut seat) = SharedHeap::new(rt.alloc(), CONFIG, 0)?;
-    for (fact, holds) in [
-        (
-            "each step takes a turn",
-            serves_each_step(&rt, &heap, &mut seat) == Some(true),
-        ),
-        (
-            "it has its configuration",
-            has_its_configuration(rt.alloc(), CONFIG) == Some(CONFIG),
-        ),
-    ] {
-        assert!(rt; holds, "{fact}");
-    }
+    assert!(rt; serves_each_step(&rt, &heap, &mut seat) == Some(true));
+    assert!(rt; has_its_configuration(rt.alloc(), CONFIG) == Some(CONFIG));
     Ok(())
 }
 
@@ -136,12 +126,8 @@ fn sent_twice<R: Wait + Abort>(
     alloc: Global,
     heap_first: u64,
 ) -> Result<(bool, Option<bool>, bool), Fail> {
-    let (heap, heap_seat) = SharedHeap::starting(alloc, CONFIG, 0, heap_first)?;
-    let (queue, queue_seat) = SharedQueue::new(alloc, Q)?;
-    let mut seats = Seats {
-        heap: heap_seat,
-        queue: queue_seat,
-    };
+    let heap = heap_first;
+    let (heap, queue, mut seats) = start(alloc, Starts { heap, ..STARTS })?;
     make_calls(rt, &heap, &queue, &mut seats, &death());
     let is_added = adds_by_one_call(rt, &heap, &queue, &mut seats);
     let is_released = releases_what_it_drops(rt, &heap, &queue, &mut seats);
@@ -152,12 +138,8 @@ fn sent_twice<R: Wait + Abort>(
 
 #[test]
 fn a_notice_goes_out_once(rt: HostRuntime) -> Result<(), Fail> {
-    for (fact, heap_first, want) in [
-        ("what is dropped is released", 0, (true, Some(true), false)),
-        // Twelve turns of the cycle, an unhook and a hand.
-        ("or it is not dropped", u64::MAX - 14, (true, None, false)),
-    ] {
-        assert!(rt; sent_twice(&rt, rt.alloc(), heap_first)? == want, "{fact}");
-    }
+    assert!(rt; sent_twice(&rt, rt.alloc(), 0)? == (true, Some(true), false));
+    // Without a turn for the release: twelve turns of the cycle, an unhook and a hand.
+    assert!(rt; sent_twice(&rt, rt.alloc(), u64::MAX - 14)? == (true, None, false));
     Ok(())
 }

@@ -15,17 +15,17 @@ ghost use Rattle.ref_share.specs.QueueSeats.{queue_view, IsQueueSeat};
 ghost use Rattle.ref_share.specs.declared.clean_machine.CleanReply.TheVariants.{Taken};
 ghost use Rattle.ref_share.specs.declared.clean_machine.CleanStep.TheVariants.{Take};
 
-use crate::shares::calls::{Call, Do, Seats, Told, step_of};
 use crate::shares::cleaners::hearing::Hearing;
-use crate::shares::cleaners::left_in;
-use crate::shares::{CONFIG, M, Q, make_calls, new, new_batch};
+use crate::shares::cleaners::{adding, left_in};
+use crate::shares::rows::{enqueue, new, step};
+use crate::shares::{CONFIG, M, Q, STARTS, Seats, Starts, make_calls, new_batch, start};
 use ref_base::{Fault, ObjNo, PlainStep, Reply, SlotNo, Urgency};
-use ref_queue::{Action, Job};
+use ref_queue::Job;
 use ref_share::{
     CleanSeat, Cleanable, CleanedHeap, Gate, HeapSeat, ShareFault, SharedCleaner, SharedHeap,
     SharedQueue, end_batch, end_queue,
 };
-use std::alloc::{AllocError, Global};
+use std::alloc::Global;
 use std::process::Abort;
 use std::sync::Wait;
 use std::test::Fail;
@@ -130,20 +130,6 @@ fn leaves_the_queue<R: Wait>(rt: &R, heap: &mut CleanedHeap) -> bool
     heap.perform(rt, PlainStep::Drop { mutator, slot }).is_ok()
 }
 
-/// A job of this number, which adds 1000 to it.
-fn adding(alloc: Global, number: u64) -> Result<Job, AllocError>
-    requires { number < 2 ^ 32 }
-{
-    let action: Action = Box::new(
-        alloc,
-        |number: u64| -> u64
-            requires { number < 2 ^ 32 }
-            ensures { result ≡ number + 1000 }
-        { number + 1000 },
-    )?;
-    Ok(Job::new(number, number + 1000, action))
-}
-
 /// What a job is asked for that isn't there, where a job was registered apart, and whether its slot is empty then.
 fn asked_and_apart<R: Wait>(
     rt: &R,
@@ -156,14 +142,8 @@ fn asked_and_apart<R: Wait>(
     requires { IsCleanSeat cleaner.now seat.old × IsHeapSeat heap.now heap_seat.old }
     ensures { IsCleanSeat cleaner.now seat.new × IsHeapSeat heap.now heap_seat.new }
 {
-    let asked = asks_for_the_job(
-        rt,
-        cleaner,
-        seat,
-        heap,
-        heap_seat,
-        Cleanable { obj: ObjNo(1) },
-    );
+    let other = Cleanable { obj: ObjNo(1) };
+    let asked = asks_for_the_job(rt, cleaner, seat, heap, heap_seat, other);
     let apart = drops_the_reference(rt, cleaner, seat, heap, heap_seat, job);
     let is_empty = match heap.hold(rt, heap_seat, M, SlotNo(7)) {
         Ok(hold) => {
@@ -179,7 +159,7 @@ fn asked_and_apart<R: Wait>(
 fn a_table_is_asked_and_a_slot_is_emptied(rt: HostRuntime) -> Result<(), Fail> {
     let (heap, mut heap_seat) = SharedHeap::new(rt.alloc(), CONFIG, 0)?;
     let (cleaner, mut seat) = SharedCleaner::new(rt.alloc(), Q)?;
-    let made = heap.ask(&rt, &mut heap_seat, step_of(Do::New(0)));
+    let made = heap.ask(&rt, &mut heap_seat, new(0));
     let told = match adding(rt.alloc(), 1) {
         Ok(job) => asked_and_apart(&rt, &cleaner, &mut seat, &heap, &mut heap_seat, job),
         Err(_) => (None, None, false),
@@ -205,22 +185,13 @@ fn looped<R: Wait + Abort>(
     ensures { IsQueueSeat shared.entry.1.now seats.new.queue × IsCleanSeat cleaner.now seat.new }
 {
     let (heap, queue) = shared;
-    make_calls(rt, heap, queue, seats, &[new(0, 1)]);
+    make_calls(rt, heap, queue, seats, &[(step(new(0)), "object 1")]);
     let (from, to) = (SlotNo(0), SlotNo(1));
-    if let Err((fault, _job)) = cleaner.register(
-        rt,
-        seat,
-        heap,
-        &mut seats.heap,
-        M,
-        from,
-        to,
-        job,
-    ) {
+    let own = &mut seats.heap;
+    if let Err((fault, _job)) = cleaner.register(rt, seat, heap, own, M, from, to, job) {
         return (Some(fault.into_fault()), 0);
     }
-    let enqueue = (Call::Enqueue(1), Told::Enqueued(true));
-    make_calls(rt, heap, queue, seats, &[enqueue]);
+    make_calls(rt, heap, queue, seats, &[(enqueue(1), "enqueued")]);
     let hearing = Hearing::new(false);
     let ended = match takes_no_more_than_it_polls(rt, cleaner, seat, shared, seats, &hearing) {
         Ok(_) => None,
@@ -233,18 +204,17 @@ fn looped<R: Wait + Abort>(
 #[test]
 fn a_loop_without_a_turn_of_its_queue_takes_no_job(rt: HostRuntime) -> Result<(), Fail> {
     let job = adding(rt.alloc(), 1)?;
-    let (heap, heap_seat) = SharedHeap::new(rt.alloc(), CONFIG, 0)?;
-    let (queue, queue_seat) = SharedQueue::starting(rt.alloc(), Q, u64::MAX - 2)?;
+    let starts = Starts {
+        queue: u64::MAX - 2,
+        ..STARTS
+    };
+    let (heap, queue, mut seats) = start(rt.alloc(), starts)?;
     let (cleaner, mut seat) = match SharedCleaner::new(rt.alloc(), Q) {
         Ok(made) => made,
         Err(fault) => {
-            end_queue(queue.finish(queue_seat));
+            end_queue(queue.finish(seats.queue));
             return Err(fault.into());
         }
-    };
-    let mut seats = Seats {
-        heap: heap_seat,
-        queue: queue_seat,
     };
     let told = looped(&rt, &cleaner, &mut seat, (&heap, &queue), &mut seats, job);
     end_queue(queue.finish(seats.queue));

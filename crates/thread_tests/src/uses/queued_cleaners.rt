@@ -1,13 +1,15 @@
 //! What the callers of a cleaner with its own queue can prove.
 
-ghost use Rattle.std.specs.Prelude.{◌≡◌, ◌+◌, ◌<◌, ◌^◌, true, IfSome};
+ghost use Rattle.std.specs.Prelude.{◌≡◌, true, IfSome};
 ghost use Rattle.ref_share.specs.HeapSeats.{IsHeapSeat};
 ghost use Rattle.ref_share.specs.QueuedCleaners.{IsQueuedSeat};
 
+use crate::shares::cleaners::adding;
 use crate::shares::cleaners::hearing::Hearing;
+use crate::shares::rows::{drop_slot, new};
 use crate::shares::{CONFIG, M, W, new_batch};
-use ref_base::{Fault, PlainStep, SlotNo, Urgency};
-use ref_queue::{Action, Job};
+use ref_base::{Fault, SlotNo, Urgency};
+use ref_queue::Job;
 use ref_share::{HeapSeat, QueuedCleaner, QueuedSeat, ShareFault, SharedHeap, end_batch};
 use std::alloc::Global;
 use std::process::Abort;
@@ -72,20 +74,11 @@ fn lives_and_dies<R: Wait + Abort>(
     requires { IsQueuedSeat cleaner.now seat.old × IsHeapSeat heap.now heap_seat.old }
     ensures { IsQueuedSeat cleaner.now seat.new × IsHeapSeat heap.now heap_seat.new }
 {
-    let make = PlainStep::New {
-        mutator: M,
-        slot: SlotNo(0),
-        fields: 0,
-    };
-    heap.perform(rt, heap_seat, make)?;
+    heap.perform(rt, heap_seat, new(0))?;
     let three = registers_in_three_turns(rt, cleaner, seat, heap, heap_seat, job);
     cycled(rt, alloc, cleaner, seat, heap, heap_seat)?;
     let living = cleaner.clean_some(rt, seat, heap, heap_seat, hearing)?;
-    let drop = PlainStep::Drop {
-        mutator: M,
-        slot: SlotNo(0),
-    };
-    heap.perform(rt, heap_seat, drop)?;
+    heap.perform(rt, heap_seat, drop_slot(0))?;
     cycled(rt, alloc, cleaner, seat, heap, heap_seat)?;
     let dead = cleaner.clean_some(rt, seat, heap, heap_seat, hearing)?;
     let (delivered, left) = cleaner.deliver_all(rt, seat, heap, heap_seat, W, new_batch(rt, alloc));
@@ -125,15 +118,8 @@ fn anew<R: Wait + Abort>(
 
 #[test]
 fn a_cleaner_with_its_queue_runs_the_job_of_what_died(rt: HostRuntime) -> Result<(), Fail> {
-    let action: Action = Box::new(
-        rt.alloc(),
-        |number: u64| -> u64
-            requires { number < 2 ^ 32 }
-            ensures { result ≡ number + 1000 }
-        { number + 1000 },
-    )?;
     let hearing = Hearing::new(false);
-    let told = anew(&rt, rt.alloc(), Job::new(1, 1001, action), &hearing)?;
+    let told = anew(&rt, rt.alloc(), adding(rt.alloc(), 1)?, &hearing)?;
     assert!(rt; told == (Some(true), 0, 1, true, 0));
     assert!(rt; hearing.heard() == (1, 0, 0));
     Ok(())

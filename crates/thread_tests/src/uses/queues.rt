@@ -6,7 +6,8 @@ ghost use Rattle.ref_share.specs.QueueCalls.{polled};
 ghost use Rattle.ref_share.specs.HeapSeats.{IsHeapSeat};
 ghost use Rattle.ref_share.specs.QueueSeats.{queue_view, IsQueueSeat};
 
-use crate::shares::calls::{Do, replied, step_of};
+use crate::shares::calls::stepped;
+use crate::shares::rows::{new, weak};
 use crate::shares::{CONFIG, M, Q};
 use ref_base::{Fault, HeapStep, Parcel, QueueNo, SlotNo};
 use ref_clear::Notice;
@@ -196,7 +197,7 @@ fn is_open_without_a_turn(queue: SharedQueue, seat: QueueSeat) -> Option<bool>
 #[test]
 fn a_queue_that_was_closed_stays_so(rt: HostRuntime) -> Result<(), Fail> {
     let (queue, mut seat) = SharedQueue::new(rt.alloc(), Q)?;
-    let is_in_vain = polls_twice(&rt, &queue, &mut seat);
+    assert!(rt; polls_twice(&rt, &queue, &mut seat));
     let was_open = match closes_once(&rt, &queue, &mut seat) {
         Ok(was_open) => Some(was_open),
         Err(fault) => {
@@ -206,19 +207,8 @@ fn a_queue_that_was_closed_stays_so(rt: HostRuntime) -> Result<(), Fail> {
     };
     let is_refused = refuses_a_million_polls(&rt, &queue, &mut seat);
     let is_open = is_open_once_closed(&rt, queue, seat);
-    for (fact, holds) in [
-        ("it has nothing", is_in_vain),
-        ("it is closed once", was_open == Some(false)),
-        ("it may be polled a million times", !is_refused),
-        ("it is closed in the end", is_open == Some(false)),
-    ] {
-        assert!(rt; holds, "{fact}");
-    }
-    Ok(())
-}
-
-#[test]
-fn a_queue_that_was_not_closed_is_open(rt: HostRuntime) -> Result<(), Fail> {
+    assert!(rt; was_open == Some(false) && !is_refused && is_open == Some(false));
+    // And one that was not closed is open.
     let (queue, seat) = SharedQueue::starting(rt.alloc(), Q, u64::MAX)?;
     assert!(rt; is_open_without_a_turn(queue, seat) == Some(true));
     Ok(())
@@ -228,8 +218,8 @@ fn a_queue_that_was_not_closed_is_open(rt: HostRuntime) -> Result<(), Fail> {
 fn notice_of<R: Wait>(rt: &R, heap: &SharedHeap, seat: &mut HeapSeat) -> Option<Notice>
     requires { IsHeapSeat heap.now seat.old }
 {
-    replied(heap.call(rt, seat, HeapStep::Plain(step_of(Do::New(0)))));
-    replied(heap.call(rt, seat, HeapStep::Plain(step_of(Do::Weak(1, 0)))));
+    stepped(heap.call(rt, seat, HeapStep::Plain(new(0))));
+    stepped(heap.call(rt, seat, HeapStep::Plain(weak(1, 0))));
     let step = HeapStep::Unhook {
         mutator: M,
         reference: SlotNo(1),
@@ -237,7 +227,7 @@ fn notice_of<R: Wait>(rt: &R, heap: &SharedHeap, seat: &mut HeapSeat) -> Option<
     match heap.call(rt, seat, step) {
         Ok(HeapReply::Notice(notice)) => Some(notice),
         other => {
-            replied(other);
+            stepped(other);
             None
         }
     }
@@ -281,17 +271,7 @@ fn is_told<R: Wait>(rt: &R, alloc: Global) -> Result<bool, Fault> {
 
 #[test]
 fn a_put_tells_why_it_adds_nothing(rt: HostRuntime) {
-    for (fact, holds) in [
-        (
-            "its own is added",
-            own_in(&rt, rt.alloc(), Q) == Ok(Some(true)),
-        ),
-        (
-            "what is another queue's is not",
-            own_in(&rt, rt.alloc(), QueueNo(1)) == Ok(None),
-        ),
-        ("turns are spent", is_told(&rt, rt.alloc()) == Ok(true)),
-    ] {
-        assert!(rt; holds, "{fact}");
-    }
+    assert!(rt; own_in(&rt, rt.alloc(), Q) == Ok(Some(true)));
+    assert!(rt; own_in(&rt, rt.alloc(), QueueNo(1)) == Ok(None));
+    assert!(rt; is_told(&rt, rt.alloc()) == Ok(true));
 }

@@ -130,30 +130,11 @@ fn takes_in_the_one_call(turn: &Turn<Counter>, seat: &mut TurnSeat<Counter>) -> 
 fn a_turn_counts_what_is_called(rt: HostRuntime) -> Result<(), Fail> {
     let alloc = rt.alloc();
     let (turn, mut seat) = count_from(alloc, 5)?;
-    for (fact, holds) in [
-        (
-            "it has served what it began with",
-            serves_what_it_began_with(alloc, 5) == Ok(true),
-        ),
-        (
-            "and nothing beside what was called",
-            serves_what_was_seen(&turn, &mut seat) == 5,
-        ),
-        (
-            "it has served what was called",
-            serves_what_was_called(&turn, &mut seat) == Ok(true),
-        ),
-        (
-            "a call that waits is made",
-            calls_in_time(&rt, &turn, &mut seat),
-        ),
-        (
-            "it makes the call of a seat that comes and goes",
-            takes_in_the_one_call(&turn, &mut seat),
-        ),
-    ] {
-        assert!(rt; holds, "{fact}");
-    }
+    assert!(rt; serves_what_it_began_with(alloc, 5) == Ok(true));
+    assert!(rt; serves_what_was_seen(&turn, &mut seat) == 5);
+    assert!(rt; serves_what_was_called(&turn, &mut seat) == Ok(true));
+    assert!(rt; calls_in_time(&rt, &turn, &mut seat));
+    assert!(rt; takes_in_the_one_call(&turn, &mut seat));
     Ok(())
 }
 
@@ -163,22 +144,10 @@ fn a_turn_is_spent_behind_the_last_ticket(rt: HostRuntime) -> Result<(), Fail> {
     let (turn, mut seat) = count_from(alloc, u64::MAX - 1)?;
     let other = turn.split(&mut seat);
     joins_another_number(&turn, &mut seat, other);
-    for (fact, holds) in [
-        (
-            "with one ticket left a try is not busy",
-            !is_busy_at_the_last_ticket(&turn, &mut seat),
-        ),
-        (
-            "nor once it is drawn",
-            !is_busy_at_the_last_ticket(&turn, &mut seat),
-        ),
-        ("then none is left", tries_in_vain(&turn, &mut seat)),
-        (
-            "and where none was there no call is made",
-            makes_no_call_behind_the_last_ticket(alloc) == Ok(false),
-        ),
-    ] {
-        assert!(rt; holds, "{fact}");
-    }
+    assert!(rt; !is_busy_at_the_last_ticket(&turn, &mut seat));
+    // The last ticket is drawn now.
+    assert!(rt; !is_busy_at_the_last_ticket(&turn, &mut seat));
+    assert!(rt; tries_in_vain(&turn, &mut seat));
+    assert!(rt; makes_no_call_behind_the_last_ticket(alloc) == Ok(false));
     Ok(())
 }

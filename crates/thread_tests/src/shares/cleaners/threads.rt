@@ -4,11 +4,11 @@ ghost use Rattle.ref_share.specs.CleanSeats.{IsCleanSeat};
 ghost use Rattle.ref_share.specs.HeapSeats.{IsHeapSeat};
 ghost use Rattle.ref_share.specs.QueueSeats.{IsQueueSeat};
 
-use super::acts::{Answer, Chair, Shared, looped};
+use super::acts::{Chair, Shared, run_jobs};
 use super::hearing::Hearing;
 use super::{Story, do_all};
-use crate::shares::calls::Seats;
-use crate::shares::make_calls;
+use crate::shares::told::{Told, Word};
+use crate::shares::{Seats, make_calls};
 use ref_queue::Job;
 use ref_share::{CleanSeat, SharedCleaner, SharedHeap, SharedQueue};
 use std::collections::VecDeque;
@@ -27,7 +27,7 @@ struct Beside<'a> {
 }
 
 /// Runs the jobs of what is gone, until the queue is closed.
-fn ended<R: Wait>(rt: &R, cleaner: &SharedCleaner, seat: CleanSeat, beside: Beside) -> Answer
+fn ended<R: Wait>(rt: &R, cleaner: &SharedCleaner, seat: CleanSeat, beside: Beside) -> Told
     requires cleaner { IsCleanSeat cleaner.now seat }
     requires beside { IsHeapSeat beside.heap.now beside.seats.heap
         × IsQueueSeat beside.queue.now beside.seats.queue }
@@ -47,7 +47,7 @@ fn ended<R: Wait>(rt: &R, cleaner: &SharedCleaner, seat: CleanSeat, beside: Besi
         queue,
         cleaner,
     };
-    looped(rt, shared, &mut chair, hearing)
+    run_jobs(rt, shared, &mut chair, hearing, true)
 }
 
 /// Seats for one thread more.
@@ -65,6 +65,7 @@ fn split(shared: Shared, chair: &mut Chair) -> Chair
     let seats = Seats {
         heap: shared.heap.split(&mut chair.seats.heap),
         queue: shared.queue.split(&mut chair.seats.queue),
+        alloc: chair.seats.alloc,
     };
     Chair {
         seats,
@@ -102,7 +103,7 @@ fn beside_loop<R: Threads + Wait + Sync, U: Drop, G: FnOnce() -> U>(
     seat: CleanSeat,
     beside: Beside,
     other: G,
-) -> (Answer, U)
+) -> (Told, U)
     requires seat { IsCleanSeat cleaner.now seat }
     requires beside { IsHeapSeat beside.heap.now beside.seats.heap
         × IsQueueSeat beside.queue.now beside.seats.queue }
@@ -113,7 +114,7 @@ fn beside_loop<R: Threads + Wait + Sync, U: Drop, G: FnOnce() -> U>(
         cleaner,
         seat,
         beside,
-        |cleaner: &SharedCleaner, seat: CleanSeat, beside: Beside| -> Answer
+        |cleaner: &SharedCleaner, seat: CleanSeat, beside: Beside| -> Told
             requires cleaner { IsCleanSeat cleaner.now seat }
             requires beside { IsHeapSeat beside.heap.now beside.seats.heap
                 × IsQueueSeat beside.queue.now beside.seats.queue }
@@ -158,7 +159,7 @@ fn one_beside<R: Threads + Wait + Abort + Sync>(
     jobs: &mut VecDeque<Job>,
     hearing: &Hearing,
     story: &Story,
-) -> Answer
+) -> Told
     requires loops { IsHeapSeat shared.heap.now loops.seats.heap
         × IsQueueSeat shared.queue.now loops.seats.queue
         × IsCleanSeat shared.cleaner.now loops.cleaner }
@@ -211,12 +212,12 @@ pub fn clean_meanwhile<R: Threads + Wait + Abort + Sync>(
         seats: left.seats,
         hearing,
     };
-    let told = beside_loop(
+    let (first, second) = beside_loop(
         rt,
         shared.cleaner,
         left.cleaner,
         beside,
-        || -> Answer
+        || -> Told
             requires right { IsHeapSeat shared.heap.now right.seats.heap
                 × IsQueueSeat shared.queue.now right.seats.queue
                 × IsCleanSeat shared.cleaner.now right.cleaner }
@@ -225,13 +226,13 @@ pub fn clean_meanwhile<R: Threads + Wait + Abort + Sync>(
                 × IsCleanSeat shared.cleaner.now third.cleaner }
         { one_beside(rt, shared, right, third, jobs, hearing, story) },
     );
-    match told {
-        (Answer::Ended(first), Answer::Ended(second)) => {
-            assert!(rt;
-                first.checked_add(second) == Some(story.count),
-                "jobs in all"
-            );
+    match (
+        first.number_of(Word::RanJobs),
+        second.number_of(Word::RanJobs),
+    ) {
+        (Some(one), Some(other)) => {
+            assert!(rt; one.checked_add(other) == Some(story.count), "jobs in all");
         }
-        _ => assert!(rt; false, "{told:?}"),
+        _ => assert!(rt; false, "{first}, {second}"),
     }
 }

@@ -3,8 +3,8 @@ use Rattle.std.proofs.Crossing.{crosses}
 use Rattle.std.specs.contracts.alloc.Global.{the_row}
 use Rattle.std.specs.contracts.impls.GlobalAllocator.TheImpl.{ghosts}
 use Rattle.ref_share.proofs.Crossing.{shared}
-use Rattle.thread_tests.proofs.shares.calls.Told.TheSendSync.{the_send as told_send}
-use Rattle.thread_tests.specs.contracts.shares.calls.Seats.{the_row as seats_row}
+use Rattle.thread_tests.proofs.shares.told.Told.TheSendSync.{the_send as told_send}
+use Rattle.thread_tests.specs.contracts.shares.Seats.{the_row as seats_row}
 use Rattle.thread_tests.proofs.shares.threads.both_told.Goals as goal
 
 -- seats may go to another thread: a search at the goal need not look into them

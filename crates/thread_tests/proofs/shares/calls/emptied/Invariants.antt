@@ -1,5 +1,5 @@
 use Rattle.std.proofs.Common.{length}
-use Rattle.thread_tests.proofs.shares.batches.emptied.Given as goal
+use Rattle.thread_tests.proofs.shares.calls.emptied.Given as goal
 
 abbrev pub invariant-loop-notice : goal.invariant-loop-notice
 invariant-loop-notice g l = Unit {0}
