@@ -4,12 +4,8 @@ ghost use Rattle.std.specs.Prelude.{◌<◌};
 
 use crate::clearing::Bench;
 use crate::objects::config;
-use crate::rows::{
-    END_CLEAR, END_MARK, RELEASE, begin, clear_next, cleared, copy, drop_slot, hand, new, object,
-    of_cycle, scan, scanned, store, weak_with_field,
-};
-use crate::steps::{Steps, agree};
-use ref_base::{Config, ObjNo, Reply};
+use crate::steps::{Steps, agree, agree_with};
+use ref_base::{Config, ObjNo};
 use ref_clear::Heap;
 use ref_mark::Marker;
 use std::process::Abort;
@@ -29,25 +25,23 @@ fn find_all<S: Steps>(rt: &impl Abort, subject: &mut S)
     requires { S.is_ready subject.old }
     ensures { S.is_ready subject.new }
 {
-    agree(rt, subject, &[(new(0, 0), object(1))]);
+    agree(rt, subject, "m0 new s0 0 : object 1");
     for no in 2..4_097_u32 {
-        let story = [
-            (weak_with_field(2, 0), object(no)),
-            (store(2, 0, 1), Reply::Done),
-            (copy(1, 2), object(no)),
-        ];
-        agree(rt, subject, &story);
+        let story =
+            "m0 weak s2 s0 q0 1 : object $; m0 store s2 0 s1 : ok; m0 copy s1 s2 : object $";
+        agree_with(rt, subject, story, &[no, no]);
     }
-    let story = [
-        (drop_slot(0), Reply::Done),
-        (drop_slot(2), Reply::Done),
-        (begin(1), Reply::Cycle(1)),
-    ];
-    agree(rt, subject, &story);
+    let story = "m0 drop s0 : ok; m0 drop s2 : ok; begin 1 normal : cycle 1";
+    agree(rt, subject, story);
     for turn in 0..4_095_u32 {
-        agree(rt, subject, &[(scan(turn % 8), scanned(4_096 - turn))]);
+        agree_with(
+            rt,
+            subject,
+            "w$ scan : scanned $",
+            &[turn % 8, 4_096 - turn],
+        );
     }
-    agree(rt, subject, &[(END_MARK, Reply::Doomed(1))]);
+    agree(rt, subject, "endmark : doomed 1");
 }
 
 #[test]
@@ -69,10 +63,15 @@ fn clear_all(rt: &impl Abort, bench: &mut Bench, worker: u32)
     for place in 0..512_u32 {
         let turn = 8 * place + worker;
         if turn < 4_095 {
-            agree(rt, bench, &[(clear_next(worker), cleared(4_096 - turn))]);
+            agree_with(
+                rt,
+                bench,
+                "w$ clearnext : cleared $",
+                &[worker, 4_096 - turn],
+            );
         }
     }
-    agree(rt, bench, &[(clear_next(worker), Reply::Nothing)]);
+    agree_with(rt, bench, "w$ clearnext : none", &[worker]);
 }
 
 /// The worker hands on what it cleared, in the same order.
@@ -82,21 +81,22 @@ fn hand_all(rt: &impl Abort, bench: &mut Bench, worker: u32)
     for place in 0..512_u32 {
         let turn = 8 * place + worker;
         if turn < 4_095 {
-            let notice = of_cycle(4_096 - turn, 1, worker);
-            agree(rt, bench, &[(hand(worker), notice), (RELEASE, Reply::Done)]);
+            let story = "w$ hand : notice $ q0 cycle 1 w$; m0 release : ok";
+            agree_with(rt, bench, story, &[worker, 4_096 - turn, worker]);
         }
     }
-    agree(rt, bench, &[(hand(worker), Reply::Nothing)]);
+    agree_with(rt, bench, "w$ hand : none", &[worker]);
 }
 
 #[test]
 fn eight_workers_hand_on_in_the_order_of_their_scans(rt: HostRuntime) -> Result<(), Fail> {
-    let mut bench = Bench::new(Heap::new(rt.alloc(), eight_workers(), 1)?);
+    let heap = Heap::new(rt.alloc(), eight_workers(), 1)?;
+    let mut bench = Bench::new(rt.alloc(), heap);
     find_all(&rt, &mut bench);
     for worker in 0..8_u32 {
         clear_all(&rt, &mut bench, worker);
     }
-    agree(&rt, &mut bench, &[(END_CLEAR, Reply::Done)]);
+    agree(&rt, &mut bench, "endclear : ok");
     for worker in 0..8_u32 {
         hand_all(&rt, &mut bench, worker);
     }

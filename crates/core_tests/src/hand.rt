@@ -1,10 +1,9 @@
 //! The hand of a story, which has one hold at most, and what becomes of holds that are tried.
 
 use crate::objects::config;
-use ref_base::{Batch, Fault, MutNo, ObjNo, SlotNo};
-use ref_clear::Notice;
+use ref_base::{Fault, MutNo, ObjNo, SlotNo};
 use ref_objects::{Hold, Objects};
-use std::alloc::{Allocator, Global};
+use std::alloc::Global;
 
 /// A hold of object 1 of a heap of number 2, where the heaps of stories have number 1.
 pub fn foreign(alloc: Global) -> Result<Hold, Fault> {
@@ -24,17 +23,6 @@ pub fn leak(hand: Option<Hold>) {
 /// Puts a hold into the hand; what it had before is given up.
 pub fn keep(hand: &mut Option<Hold>, hold: Hold) {
     leak(hand.replace(hold));
-}
-
-/// The fault of a hold that wasn't given: one that was is given up.
-pub fn fault_of(answer: Result<Hold, Fault>) -> Option<Fault> {
-    match answer {
-        Ok(hold) => {
-            hold.leak();
-            None
-        }
-        Err(fault) => Some(fault),
-    }
 }
 
 /// What a heap answers that took a hold back into a slot: one that it refuses is given up.
@@ -57,25 +45,4 @@ pub fn released(answer: Result<(), (Fault, Hold)>) -> Result<(), Fault> {
             Err(fault)
         }
     }
-}
-
-/// The fault, and the object and the heap of the hold that comes back, which is given up.
-pub fn refused_with<T: Drop>(answer: Result<T, (Fault, Hold)>) -> Option<(Fault, u32, u64)> {
-    match answer {
-        Ok(_) => None,
-        Err((fault, back)) => {
-            let told = (fault, back.obj().0, back.heap_no());
-            back.leak();
-            Some(told)
-        }
-    }
-}
-
-/// Gives up the notices of a batch.
-pub fn give_up<A: Allocator>(batch: Batch<Notice, A>) {
-    let mut batch = batch;
-    while let Some(notice) = batch.take_first() {
-        notice.into_hold().leak();
-    }
-    batch.end();
 }

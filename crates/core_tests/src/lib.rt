@@ -2,10 +2,10 @@
 //! strengths, limits and the soft policy, words, pages and lists, the objects of a heap, its marking and the whole
 //! heap. Others are of queues, the table of a cleaner, and the world of them.
 //!
-//! A story is a table, whose rows are calls, each with its answer, and each subject has one runner, which makes a
-//! story's calls in turn. A failure prints the row, counted from 0. What a script can say stands in the program
-//! `refrun_cases`. Where memory runs out, a call is made with each of its requests refused in turn (`scarce`). Callers
-//! whose contracts say what they see, each proved and run once, stand in `uses`.
+//! A story of steps is a text, spelled as a trace (`steps`); of other calls it is a table, whose rows are calls with
+//! their answers. One runner makes a story's calls in turn, and a failure prints the row. What a script can say stands
+//! in the program `refrun_cases`. Where memory runs out, a call is made with each of its requests refused in turn
+//! (`scarce`). Callers whose contracts say what they see, each proved and run once, stand in `uses`.
 #![tactic(auto)]
 
 #[cfg(test)]

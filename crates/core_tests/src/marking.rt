@@ -1,32 +1,81 @@
 //! A heap in its cycles: the steps that it knows, and what the layer above calls.
 
+ghost use Rattle.std.specs.Prelude.{IfOk};
 ghost use Rattle.core_tests.specs.Healing.{IsHealing};
 
 mod cycles;
 mod moves;
+mod own;
 mod refusals;
 
 use crate::closed::{is_closed, known};
-use crate::hand::adopted;
-use crate::rows::M;
-use crate::steps::{NO_STEP, Steps, done, looked, made, value};
+use crate::hand::{adopted, leak};
+use crate::objects::config;
+use crate::steps::{M, Steps, Told, done, looked, made, value};
 use ref_base::{Fault, ObjNo, Phase, PlainStep, Reply, SlotNo, Step, WorkerNo};
 use ref_mark::Marker;
-use ref_objects::{Entry, Hold, Worklist};
+use ref_objects::{Entry, Hold, Start, Worklist};
+use std::alloc::Global;
+use std::test::Fail;
 
 impl Steps for Marker {
     ghost is_ready = { λ m. IsHealing m };
 
-    fn step(&mut self, step: Step) -> Reply {
+    fn step(&mut self, step: Step) -> Told {
         match step {
             Step::Plain(step) => mutated(self, step),
-            _ => NO_STEP,
+            _ => Told::Unknown,
         }
     }
 }
 
+/// A heap in its cycles, a list for its condemned, and its hand, which has one hold at most.
+pub struct Bench {
+    heap: Marker,
+    condemned: Worklist,
+    hand: Option<Hold>,
+}
+
+impl Bench {
+    /// A heap of so many cells that starts so.
+    fn starting(alloc: Global, cells: u32, start: Start) -> Result<Bench, Fail>
+        ensures { IfOk result (λ bench. IsHealing bench.heap) }
+    {
+        let heap = Marker::starting(alloc, config(cells), 1, start)?;
+        let condemned = Worklist::new(alloc, cells as usize)?;
+        let hand = None;
+        Ok(Bench {
+            heap,
+            condemned,
+            hand,
+        })
+    }
+
+    /// What is still held is given up.
+    fn end(self) {
+        let Bench {
+            heap: _heap,
+            condemned: _condemned,
+            hand,
+        } = self;
+        leak(hand);
+    }
+}
+
+impl Steps for Bench {
+    ghost is_ready = { λ bench. IsHealing bench.heap };
+
+    fn step(&mut self, step: Step) -> Told {
+        self.heap.step(step)
+    }
+
+    fn own(&mut self, name: &str, numbers: (u32, u64)) -> Told {
+        own::collected(self, name, numbers)
+    }
+}
+
 // What a mutator asks, or else the collector.
-fn mutated(heap: &mut Marker, step: PlainStep) -> Reply
+fn mutated(heap: &mut Marker, step: PlainStep) -> Told
     requires { IsHealing heap.old }
     ensures { IsHealing heap.new }
 {
@@ -69,7 +118,7 @@ fn mutated(heap: &mut Marker, step: PlainStep) -> Reply
 }
 
 // What a mutator asks of a reference, or else the collector.
-fn at_reference(heap: &mut Marker, step: PlainStep) -> Reply
+fn at_reference(heap: &mut Marker, step: PlainStep) -> Told
     requires { IsHealing heap.old }
     ensures { IsHealing heap.new }
 {
@@ -92,7 +141,7 @@ fn at_reference(heap: &mut Marker, step: PlainStep) -> Reply
 }
 
 // What the collector asks.
-fn collected(heap: &mut Marker, step: PlainStep) -> Reply
+fn collected(heap: &mut Marker, step: PlainStep) -> Told
     requires { IsHealing heap.old }
     ensures { IsHealing heap.new }
 {
@@ -105,52 +154,52 @@ fn collected(heap: &mut Marker, step: PlainStep) -> Reply
         PlainStep::Select => selected(heap.select()),
         PlainStep::MoveNext { worker } => moved(heap.move_next(worker)),
         PlainStep::EndMove => done(heap.end_move()),
-        _ => NO_STEP,
+        _ => Told::Unknown,
     }
 }
 
-fn refers(answer: Result<bool, Fault>) -> Reply {
-    match answer {
-        Ok(refers) => Reply::Refers(refers),
+fn refers(answer: Result<bool, Fault>) -> Told {
+    Told::Reply(match answer {
+        Ok(same) => Reply::Refers(same),
         Err(fault) => Reply::Refused(fault),
-    }
+    })
 }
 
-fn began(answer: Result<u64, Fault>) -> Reply {
-    match answer {
+fn began(answer: Result<u64, Fault>) -> Told {
+    Told::Reply(match answer {
         Ok(cycle) => Reply::Cycle(cycle),
         Err(fault) => Reply::Refused(fault),
-    }
+    })
 }
 
-fn scanned(answer: Result<Option<ObjNo>, Fault>) -> Reply {
-    match answer {
+fn scanned(answer: Result<Option<ObjNo>, Fault>) -> Told {
+    Told::Reply(match answer {
         Ok(Some(no)) => Reply::Scanned(no),
         Ok(None) => Reply::Nothing,
         Err(fault) => Reply::Refused(fault),
-    }
+    })
 }
 
-fn doomed(answer: Result<u32, Fault>) -> Reply {
-    match answer {
+fn doomed(answer: Result<u32, Fault>) -> Told {
+    Told::Reply(match answer {
         Ok(count) => Reply::Doomed(count),
         Err(fault) => Reply::Refused(fault),
-    }
+    })
 }
 
-fn selected(answer: Result<u32, Fault>) -> Reply {
-    match answer {
+fn selected(answer: Result<u32, Fault>) -> Told {
+    Told::Reply(match answer {
         Ok(count) => Reply::Selected(count),
         Err(fault) => Reply::Refused(fault),
-    }
+    })
 }
 
-fn moved(answer: Result<Option<ObjNo>, Fault>) -> Reply {
-    match answer {
+fn moved(answer: Result<Option<ObjNo>, Fault>) -> Told {
+    Told::Reply(match answer {
         Ok(Some(no)) => Reply::Moved(no),
         Ok(None) => Reply::Nothing,
         Err(fault) => Reply::Refused(fault),
-    }
+    })
 }
 
 // Looks at the next that this worker found.

@@ -1,27 +1,68 @@
-//! The objects of a heap: the steps that they know, and what the layers above call.
+//! The objects of a heap: the steps that they know, and what the layers above call, by name.
 
 mod cells;
 mod memory;
+pub mod own;
 mod stories;
 
 use crate::closed::condemn_if_closed;
-use crate::steps::{NO_STEP, Steps, done, made, value};
-use ref_base::{Config, Fault, ObjNo, PlainStep, Reply, SpanRule, Step};
-use ref_objects::{Colour, Entry, Objects, Stage, Worklist};
-use std::alloc::Allocator;
-use std::process::Abort;
+use crate::hand::leak;
+use crate::steps::{Steps, Told, done, made, value};
+use ref_base::{Config, Fault, ObjNo, PlainStep, SpanRule, Step};
+use ref_objects::{Colour, Entry, Hold, Objects, Stage, Worklist};
+use std::alloc::{Allocator, Global};
+
+/// The heap of a story, a list for its condemned, and its hand, which has one hold at most.
+pub struct Bench<A: Allocator + Copy = Global> {
+    heap: Objects<A>,
+    condemned: Worklist<A>,
+    hand: Option<Hold>,
+}
+
+impl<A: Allocator + Copy> Bench<A> {
+    /// A heap of so many cells, where numbers begin at one.
+    fn new(alloc: A, cells: u32) -> Result<Self, Fault> {
+        let (heap, condemned) = heap_of(alloc, cells)?;
+        let hand = None;
+        Ok(Bench {
+            heap,
+            condemned,
+            hand,
+        })
+    }
+
+    /// What is still held is given up.
+    fn end(self) {
+        let Bench {
+            heap: _heap,
+            condemned: _condemned,
+            hand,
+        } = self;
+        leak(hand);
+    }
+}
 
 impl<A: Allocator + Copy> Steps for Objects<A> {
-    fn step(&mut self, step: Step) -> Reply {
+    fn step(&mut self, step: Step) -> Told {
         match step {
             Step::Plain(step) => stepped(self, step),
-            _ => NO_STEP,
+            _ => Told::Unknown,
         }
     }
 }
 
+impl<A: Allocator + Copy> Steps for Bench<A> {
+    fn step(&mut self, step: Step) -> Told {
+        self.heap.step(step)
+    }
+
+    fn own(&mut self, name: &str, numbers: (u32, u64)) -> Told {
+        own::changed(self, name, numbers)
+    }
+}
+
 // A get and a clear hide nothing.
-fn stepped<A: Allocator + Copy>(heap: &mut Objects<A>, step: PlainStep) -> Reply {
+fn stepped<A: Allocator + Copy>(heap: &mut Objects<A>, step: PlainStep) -> Told {
     match step {
         PlainStep::New {
             mutator,
@@ -60,7 +101,7 @@ fn stepped<A: Allocator + Copy>(heap: &mut Objects<A>, step: PlainStep) -> Reply
             reference,
         } => value(heap.get(mutator, slot, reference, false)),
         PlainStep::Clear { mutator, reference } => done(heap.cut_in(mutator, reference, false)),
-        _ => NO_STEP,
+        _ => Told::Unknown,
     }
 }
 
@@ -159,17 +200,4 @@ fn marked_at<A: Allocator + Copy>(heap: &mut Objects<A>, place: usize) -> Option
         return None;
     }
     listed(heap.mark_slot_at(place))
-}
-
-/// The object of this number has this word in this field.
-pub fn has_word(rt: &impl Abort, heap: &Objects, (no, field): (u32, u32), word: Option<u64>) {
-    assert!(rt;
-        heap.word_at(ObjNo(no), field) == word,
-        "object {no}, field {field}"
-    );
-}
-
-/// The reference of this number has this word as its referent.
-pub fn refers_by(rt: &impl Abort, heap: &Objects, no: u32, word: Option<u64>) {
-    assert!(rt; heap.word_of_referent(ObjNo(no)) == word, "reference {no}");
 }

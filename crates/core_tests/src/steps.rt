@@ -1,32 +1,178 @@
-//! What does steps and replies to each, and the runner of all its stories.
+//! What does steps and replies to each, and the runner of all its stories. A story is told as a trace is: a row is a
+//! step and its reply, or a call of a layer's own by its name, with numbers behind it, and what it answers. Rows stand
+//! in lines, or apart by semicolons. A line that begins with `#` is a comment.
 
-use crate::rows::{new, object};
-use ref_base::{Fault, ObjNo, Reply, Step};
-use ref_objects::Look;
+use arrayvec::ArrayString;
+use ref_base::{Fault, MutNo, ObjNo, Phase, Reply, Row, Step, Strength};
+use ref_objects::{Kind, Look};
+use ref_script::{ScriptStep, step_of};
+use std::fmt;
+use std::fmt::Write;
 use std::ops::Range;
 use std::process::Abort;
 
-/// The reply to a step that is none of this subject's.
-pub const NO_STEP: Reply = Reply::Closed;
+/// The mutator of stories.
+pub const M: MutNo = MutNo(0);
+
+/// The most bytes that a row takes.
+const ROOM: usize = 256;
+
+/// What a call is answered.
+#[derive(Clone, Copy)]
+pub enum Told {
+    /// The call is none of the subject's.
+    Unknown,
+    Reply(Reply),
+    Is(bool),
+    Number(Option<u64>),
+    Kind(Option<Kind>),
+    Phase(Phase),
+    /// An object, and the number of the heap that it is of.
+    Of(u32, u64),
+}
+
+impl fmt::Display for Told {
+    fn fmt<W: fmt::Write>(&self, f: &mut fmt::Formatter<W>) -> fmt::Result {
+        match self {
+            Told::Unknown => f.write_str("unknown"),
+            Told::Reply(reply) => write!(f, "{reply}"),
+            Told::Is(true) => f.write_str("yes"),
+            Told::Is(false) => f.write_str("no"),
+            Told::Number(Some(number)) => write!(f, "{number}"),
+            Told::Number(None) => f.write_str("none"),
+            Told::Kind(kind) => f.write_str(kind_name(*kind)),
+            Told::Phase(phase) => f.write_str(phase_name(*phase)),
+            Told::Of(object, heap) => write!(f, "{object} of {heap}"),
+        }
+    }
+}
+
+fn kind_name(kind: Option<Kind>) -> &'static str {
+    match kind {
+        Some(Kind::Plain) => "plain",
+        Some(Kind::Reference(Strength::Soft)) => "soft",
+        Some(Kind::Reference(Strength::Weak)) => "weak",
+        Some(Kind::Reference(Strength::Phantom)) => "phantom",
+        None => "none",
+    }
+}
+
+fn phase_name(phase: Phase) -> &'static str {
+    match phase {
+        Phase::Idle => "idle",
+        Phase::Marking => "marking",
+        Phase::Clearing => "clearing",
+        Phase::Sweeping => "sweeping",
+        Phase::Moving => "moving",
+    }
+}
 
 /// What does steps.
 pub trait Steps {
     /// Whether it may do a step.
     ghost is_ready: { Self → Type 0 } = { λ _. Unit {0} };
 
-    fn step(&mut self, step: Step) -> Reply
+    /// Does a step.
+    fn step(&mut self, step: Step) -> Told
         requires { is_ready self.old }
         ensures { is_ready self.new };
+
+    /// Makes a call of its own by its name, with these numbers.
+    fn own(&mut self, _name: &str, _numbers: (u32, u64)) -> Told
+        requires { is_ready self.old }
+        ensures { is_ready self.new }
+    {
+        Told::Unknown
+    }
 }
 
-/// Does a story's steps in turn, each of which has its reply.
-pub fn agree<S: Steps>(rt: &impl Abort, subject: &mut S, story: &[(Step, Reply)])
+/// The step of a row.
+pub fn step_in(rt: &impl Abort, row: &str) -> Step {
+    let (step, _) = row.split_once(" : ").unwrap_or((row, ""));
+    match step_of(step.as_bytes()) {
+        Ok(ScriptStep::World(step)) => step,
+        _ => panic!(rt; "no step: {row}"),
+    }
+}
+
+/// The row is of this step and this reply.
+pub fn is_row(rt: &impl Abort, step: Step, reply: Reply, row: &str) {
+    let told = Row { step, reply };
+    let mut printed = ArrayString::<ROOM>::new();
+    let is_whole = write!(printed, "{told}").is_ok();
+    assert!(rt;
+        is_whole && printed.as_str() == row,
+        "{told}, and not {row}"
+    );
+}
+
+/// Whether it prints so.
+pub fn is_so(told: Told, want: &str) -> bool {
+    let mut printed = ArrayString::<ROOM>::new();
+    let is_whole = write!(printed, "{told}").is_ok();
+    is_whole && printed.as_str() == want
+}
+
+/// What a call of a subject's own is answered, by its words.
+fn own_answer<S: Steps>(subject: &mut S, call: &str) -> Told
     requires { S.is_ready subject.old }
     ensures { S.is_ready subject.new }
 {
-    for (row, &(step, want)) in story.iter().enumerate() {
-        assert_eq!(rt; subject.step(step), want, "row {row}: {step}");
+    let (name, numbers) = call.split_once(' ').unwrap_or((call, "0"));
+    let (first, second) = numbers.split_once(' ').unwrap_or((numbers, "0"));
+    match (first.parse::<u32>(), second.parse::<u64>()) {
+        (Ok(first), Ok(second)) => subject.own(name, (first, second)),
+        _ => Told::Unknown,
     }
+}
+
+/// What a call is answered, by its words: a step, or else a call of the subject's own.
+fn answered<S: Steps>(subject: &mut S, call: &str) -> Told
+    requires { S.is_ready subject.old }
+    ensures { S.is_ready subject.new }
+{
+    match step_of(call.as_bytes()) {
+        Ok(ScriptStep::World(step)) => subject.step(step),
+        _ => own_answer(subject, call),
+    }
+}
+
+/// Makes the call of a row, which has its answer.
+fn tell<S: Steps>(rt: &impl Abort, subject: &mut S, row: &str)
+    requires { S.is_ready subject.old }
+    ensures { S.is_ready subject.new }
+{
+    if row.is_empty() || row.starts_with('#') {
+        return;
+    }
+    let (call, want) = row.split_once(" : ").unwrap_or((row, ""));
+    let told = answered(subject, call);
+    assert!(rt; is_so(told, want), "{row}: {told}");
+}
+
+/// Does the steps of a story in turn, each of which has its reply.
+pub fn agree<S: Steps>(rt: &impl Abort, subject: &mut S, story: &str)
+    requires { S.is_ready subject.old }
+    ensures { S.is_ready subject.new }
+{
+    for row in story.split(['\n', ';']) {
+        tell(rt, subject, row.trim());
+    }
+}
+
+/// Does the steps of a story with these numbers in the places of its dollars, in order.
+pub fn agree_with<S: Steps>(rt: &impl Abort, subject: &mut S, story: &str, numbers: &[u32])
+    requires { S.is_ready subject.old }
+    ensures { S.is_ready subject.new }
+{
+    let (first, behind) = story.split_once('$').unwrap_or((story, ""));
+    let mut filled = ArrayString::<ROOM>::new();
+    let mut is_whole = filled.try_push_str(first).is_ok();
+    for (number, piece) in numbers.iter().zip(behind.split('$')) {
+        is_whole = is_whole && write!(filled, "{number}{piece}").is_ok();
+    }
+    assert!(rt; is_whole, "too long: {story}");
+    agree(rt, subject, filled.as_str());
 }
 
 /// Makes objects 1, 2 and so on, with so many fields each, in slots 0, 1 and so on.
@@ -37,7 +183,7 @@ pub fn make<S: Steps>(rt: &impl Abort, subject: &mut S, fields: &[u32])
     let mut slot = 0u32;
     for &count in fields {
         let no = slot.saturating_add(1);
-        assert_eq!(rt; subject.step(new(slot, count)), object(no));
+        agree_with(rt, subject, "m0 new s$ $ : object $", &[slot, count, no]);
         slot = no;
     }
 }
@@ -48,39 +194,39 @@ pub fn make_in<S: Steps>(rt: &impl Abort, subject: &mut S, slot: u32, numbers: R
     ensures { S.is_ready subject.new }
 {
     for no in numbers {
-        agree(rt, subject, &[(new(slot, 0), object(no))]);
+        agree_with(rt, subject, "m0 new s$ 0 : object $", &[slot, no]);
     }
 }
 
-pub fn made(answer: Result<ObjNo, Fault>) -> Reply {
-    match answer {
+pub fn made(answer: Result<ObjNo, Fault>) -> Told {
+    Told::Reply(match answer {
         Ok(no) => Reply::Object(no),
         Err(fault) => Reply::Refused(fault),
-    }
+    })
 }
 
-pub fn done(answer: Result<(), Fault>) -> Reply {
-    match answer {
+pub fn done(answer: Result<(), Fault>) -> Told {
+    Told::Reply(match answer {
         Ok(()) => Reply::Done,
         Err(fault) => Reply::Refused(fault),
-    }
+    })
 }
 
 /// What a slot holds now.
-pub fn value(answer: Result<Option<ObjNo>, Fault>) -> Reply {
-    match answer {
+pub fn value(answer: Result<Option<ObjNo>, Fault>) -> Told {
+    Told::Reply(match answer {
         Ok(Some(no)) => Reply::Object(no),
         Ok(None) => Reply::Null,
         Err(fault) => Reply::Refused(fault),
-    }
+    })
 }
 
 /// What came of a look.
 pub fn looked(look: Look) -> Reply {
-    let no = look.was.no.0;
+    let no = ObjNo(look.was.no.0);
     match look.was.reference {
-        Some(_) if look.is_cleared => Reply::Cleared(ObjNo(no)),
-        Some(reference) if reference.referent.is_some() => Reply::Kept(ObjNo(no)),
-        _ => Reply::Skipped(ObjNo(no)),
+        Some(_) if look.is_cleared => Reply::Cleared(no),
+        Some(reference) if reference.referent.is_some() => Reply::Kept(no),
+        _ => Reply::Skipped(no),
     }
 }

@@ -148,18 +148,7 @@ fn stress_at<R: Threads + Wait + Sync>(
 {
     let (heap, mut heap_seat) = SharedHeap::new(alloc, options.config(), 0)?;
     let (queue, mut queue_seat) = SharedQueue::new(alloc, QUEUE)?;
-    let running = Running {
-        mutators: AtomicU32::new(options.mutators),
-        workers: AtomicU32::new(options.workers),
-        pollers: AtomicU32::new(options.pollers),
-    };
-    let shared = Shared {
-        heap,
-        queue,
-        gate: Gate::new(),
-        running,
-        options,
-    };
+    let shared = shared_by(heap, queue, options);
     let lists = run(
         rt,
         alloc,
@@ -169,14 +158,44 @@ fn stress_at<R: Threads + Wait + Sync>(
         &mut queue_seat,
         stations,
     );
+    left_of(alloc, shared, queue_seat, lists)
+}
+
+/// What the threads of a run share: none has ended.
+fn shared_by(heap: SharedHeap, queue: SharedQueue, options: StressOptions) -> Shared
+    ensures { (result.heap ≡ heap) × (result.queue ≡ queue) }
+{
+    let running = Running {
+        mutators: AtomicU32::new(options.mutators),
+        workers: AtomicU32::new(options.workers),
+        pollers: AtomicU32::new(options.pollers),
+    };
+    Shared {
+        heap,
+        queue,
+        gate: Gate::new(),
+        running,
+        options,
+    }
+}
+
+/// The queue ends, and gives its lists beside these.
+fn left_of(
+    alloc: Global,
+    shared: Shared,
+    seat: QueueSeat,
+    lists: Result<Vec<Vec<ObjNo>>, Fault>,
+) -> Result<Option<StressLists>, Fault>
+    requires { IsQueueSeat shared.queue seat }
+{
     let Shared {
         heap: _heap,
         queue,
         gate: _gate,
         running: _running,
-        options: _options,
+        options,
     } = shared;
-    match queue.finish(queue_seat) {
+    match queue.finish(seat) {
         Ok(queue) | Err(Some(queue)) => {
             let left = lists.and_then(|lists| lists_left(alloc, &queue, lists, options));
             end_queue(Ok(queue));

@@ -11,7 +11,7 @@ use ref_base::{Batch, Config, Fault, MutNo, ObjNo, QueueNo, SpanRule, WorkerNo};
 use ref_clear::Notice;
 use ref_queue::Queue;
 use ref_share::{HeapSeat, QueueSeat, SharedHeap, SharedQueue, end_queue};
-use rows::{BEGIN, CLEAR_NEXT, Call, END_CLEAR, END_MARK, SCAN, drop_slot, new, step, weak};
+use rows::{BREAKS, call_of, is_comment, parts_of};
 use std::alloc::{Allocator, Global};
 use std::process::Abort;
 use std::sync::Wait;
@@ -31,9 +31,6 @@ pub mod rows;
 mod stories;
 mod threads;
 pub mod told;
-
-/// A call, and what it is answered.
-pub type Row<'a> = (Call, &'a str);
 
 /// One mutator, one worker, one queue, 8 cells, and a span of 10.
 pub const CONFIG: Config = Config {
@@ -101,143 +98,91 @@ pub fn new_batch<A: Allocator>(rt: &impl Abort, alloc: A) -> Batch<Notice, A>
 }
 
 /// A cycle finds object 1 dead. References 2 and 3 to it are in slots 1 and 2, and pending in this order.
-pub fn death() -> [Row<'static>; 12] {
-    [
-        (step(new(0)), "object 1"),
-        (step(weak(1, 0)), "object 2"),
-        (step(weak(2, 0)), "object 3"),
-        (step(drop_slot(0)), "ok"),
-        (step(BEGIN), "cycle 1"),
-        (step(SCAN), "scanned 2"),
-        (step(SCAN), "scanned 3"),
-        (step(SCAN), "none"),
-        (step(END_MARK), "doomed 1"),
-        (step(CLEAR_NEXT), "cleared 2"),
-        (step(CLEAR_NEXT), "cleared 3"),
-        (step(END_CLEAR), "ok"),
-    ]
-}
+pub const DEATH: &'static str = "
+    m0 new s0 0 : object 1; m0 weak s1 s0 q0 0 : object 2; m0 weak s2 s0 q0 0 : object 3; m0 drop s0 : ok
+    begin 5 normal : cycle 1; w0 scan : scanned 2; w0 scan : scanned 3; w0 scan : none; endmark : doomed 1
+    w0 clearnext : cleared 2; w0 clearnext : cleared 3; endclear : ok";
 
-/// Makes calls in turn, each of which has its answer.
+/// Makes the calls of a story in turn, each of which has its answer.
 pub fn make_calls<R: Wait + Abort, A: Allocator + Copy>(
     rt: &R,
     heap: &SharedHeap<A>,
     queue: &SharedQueue<A>,
     seats: &mut Seats<A>,
-    calls: &[Row],
+    story: &str,
 )
     requires seats { IsHeapSeat heap.now seats.old.heap × IsQueueSeat queue.now seats.old.queue }
     requires fits { FitsInMemory (queue_row A.row A.Allocator A.Clone) }
     ensures { IsHeapSeat heap.now seats.new.heap × IsQueueSeat queue.now seats.new.queue }
 {
-    for (row, &(call, want)) in calls.iter().enumerate() {
-        let told = answer(rt, heap, queue, seats, call);
-        expect(rt, seats.alloc, row, told, want);
+    for row in story.split(BREAKS) {
+        if !is_comment(row) {
+            let (call, want) = parts_of(row);
+            let told = answer(rt, heap, queue, seats, call_of(rt, call));
+            expect(rt, seats.alloc, told, want, row);
+        }
     }
 }
 
-/// What is told of a new heap and queue.
-#[derive(Drop)]
-struct Story<'a> {
+/// The references that were ever put in, in order, and those of them that stand in the end.
+type Left<'a> = (&'a [u32], &'a [u32]);
+
+/// Nothing was put in.
+const NOTHING: Left = (&[], &[]);
+
+/// The heap's first ticket.
+const fn heap_from(heap: u64) -> Starts {
+    Starts { heap, ..STARTS }
+}
+
+/// The queue's first ticket.
+const fn queue_from(queue: u64) -> Starts {
+    Starts { queue, ..STARTS }
+}
+
+/// Tells a story in two parts of a new heap and a new queue, and looks what is left then.
+fn agree<R: Wait + Abort>(
+    rt: &R,
+    alloc: Global,
     starts: Starts,
-    calls: &'a [Row<'a>],
-    then: &'a [Row<'a>],
-    /// The references that were ever put in, in order.
-    put_in: &'a [u32],
-    /// Those of them that stand in the end.
-    standing: &'a [u32],
+    first: &str,
+    then: &str,
+    left: Left,
+) -> Result<(), Fail> {
+    let (heap, queue, mut seats) = start(alloc, starts)?;
+    make_calls(rt, &heap, &queue, &mut seats, first);
+    make_calls(rt, &heap, &queue, &mut seats, then);
+    assert!(rt; heap.config() == CONFIG && queue.number() == starts.number);
+    end(rt, alloc, heap, queue, seats, left)
 }
 
-/// These calls, and nothing was put in.
-fn story_of<'a>(calls: &'a [Row<'a>]) -> Story<'a> {
-    Story {
-        starts: STARTS,
-        calls,
-        then: &[],
-        put_in: &[],
-        standing: &[],
-    }
-}
-
-impl<'a> Story<'a> {
-    /// These calls behind those before.
-    fn then(self, then: &'a [Row<'a>]) -> Story<'a> {
-        Story { then, ..self }
-    }
-
-    /// The first tickets, and the queue's number.
-    fn from(self, starts: Starts) -> Story<'a> {
-        Story { starts, ..self }
-    }
-
-    /// The heap's first ticket.
-    fn heap_from(self, heap: u64) -> Story<'a> {
-        let starts = Starts { heap, ..STARTS };
-        Story { starts, ..self }
-    }
-
-    /// The queue's first ticket.
-    fn queue_from(self, queue: u64) -> Story<'a> {
-        let starts = Starts { queue, ..STARTS };
-        Story { starts, ..self }
-    }
-
-    /// The queue has the number 1, and not that of the references.
-    fn at_another_queue(self) -> Story<'a> {
-        let number = QueueNo(1);
-        let starts = Starts { number, ..STARTS };
-        Story { starts, ..self }
-    }
-
-    /// What was put in, and what stands in the end.
-    fn leaves(self, put_in: &'a [u32], standing: &'a [u32]) -> Story<'a> {
-        Story {
-            put_in,
-            standing,
-            ..self
+/// Ends heap and queue, of which no turn is open, and looks what is left.
+fn end(
+    rt: &impl Abort,
+    alloc: Global,
+    heap: SharedHeap,
+    queue: SharedQueue,
+    seats: Seats,
+    left: Left,
+) -> Result<(), Fail>
+    requires { IsHeapSeat heap seats.heap × IsQueueSeat queue seats.queue }
+{
+    let is_over = heap.finish(seats.heap).is_ok();
+    assert!(rt; is_over, "no turn of the heap is open");
+    match queue.finish(seats.queue) {
+        Ok(queue) => {
+            let enqueued = queue.enqueued(alloc);
+            let stands = queue.stands(alloc);
+            end_queue(Ok(queue));
+            have_numbers(rt, enqueued?.as_slice(), left.0);
+            have_numbers(rt, stands?.as_slice(), left.1);
+        }
+        Err(back) => {
+            end_queue(Err(back));
+            assert!(rt; false, "no turn of the queue is open");
         }
     }
-
-    /// Makes the calls, and looks what is left then.
-    fn agree<R: Wait + Abort>(&self, rt: &R, alloc: Global) -> Result<(), Fail> {
-        let (heap, queue, mut seats) = start(alloc, self.starts)?;
-        make_calls(rt, &heap, &queue, &mut seats, self.calls);
-        make_calls(rt, &heap, &queue, &mut seats, self.then);
-        assert!(rt; heap.config() == CONFIG && queue.number() == self.starts.number);
-        let Seats {
-            heap: heap_seat,
-            queue: queue_seat,
-            ..
-        } = seats;
-        assert!(rt;
-            heap.finish(heap_seat).is_ok(),
-            "no turn of the heap is open"
-        );
-        self.end(rt, alloc, queue.finish(queue_seat))
-    }
-
-    /// Gives up the queue at the end.
-    fn end(
-        &self,
-        rt: &impl Abort,
-        alloc: Global,
-        finished: Result<Queue<Notice>, Option<Queue<Notice>>>,
-    ) -> Result<(), Fail> {
-        match finished {
-            Ok(queue) => {
-                let enqueued = queue.enqueued(alloc);
-                let stands = queue.stands(alloc);
-                end_queue(Ok(queue));
-                have_numbers(rt, enqueued?.as_slice(), self.put_in);
-                have_numbers(rt, stands?.as_slice(), self.standing);
-            }
-            Err(left) => {
-                end_queue(Err(left));
-                assert!(rt; false, "no turn of the queue is open");
-            }
-        }
-        Ok(())
-    }
+    Ok(())
 }
 
 fn have_numbers(rt: &impl Abort, found: &[ObjNo], want: &[u32]) {

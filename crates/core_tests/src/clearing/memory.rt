@@ -2,18 +2,10 @@
 
 use super::Bench;
 use crate::hand::released;
-use crate::rows::{
-    END_CLEAR, END_MARK, END_SWEEP, M, adopt, begin, clear, clear_next, cleared, copy, drop_slot,
-    get, hand, load, new, object, own, refers_to, refused, scan, scanned, soft_with_fields, store,
-    sweep, unhook,
-};
-use crate::steps::agree;
+use crate::steps::{M, agree};
 use bumpalo::Bump;
 use rationed::Rationed;
-use ref_base::{
-    Cause, Config, Fault, ObjNo, Phase, PlainStep, QueueNo, Reply, SlotNo, SpanRule, Step,
-    Strength, WorkerNo,
-};
+use ref_base::{Config, Fault, ObjNo, Phase, QueueNo, SlotNo, SpanRule, Strength, WorkerNo};
 use ref_clear::{Heap, Pending};
 use ref_objects::Kind;
 use std::alloc::{Allocator, Global};
@@ -30,32 +22,16 @@ const SMALL: Config = Config {
     rule: SpanRule::Fixed,
 };
 
-/// A phantom reference in slot 7 to what slot 6 holds, for queue 1.
-const PHANTOM: Step = Step::Plain(PlainStep::Refer {
-    mutator: M,
-    strength: Strength::Phantom,
-    slot: SlotNo(7),
-    source: SlotNo(6),
-    queue: Some(QueueNo(1)),
-    fields: 0,
-});
-
 /// The calls of mutators and of holds, once each. Nothing but reference 4 holds object 3 then.
 fn mutate<A: Allocator + Copy>(rt: &impl Abort, bench: &mut Bench<A>) -> Result<(), Fault> {
     assert!(rt; bench.heap.config() == SMALL && bench.heap.heap_no() == 1);
-    let story = [
-        (new(0, 8), object(1)),
-        // With a field of its own, for queue 2.
-        (soft_with_fields(1, 0, 2, 1), object(2)),
-        (store(1, 0, 0), Reply::Done),
-        (load(2, 1, 0), object(1)),
-        (copy(3, 1), object(2)),
-        (get(4, 3), object(1)),
-        (refers_to(1, 0), Reply::Refers(true)),
-        (clear(1), Reply::Done),
-        (unhook(1), own(2, 2)),
-    ];
-    agree(rt, bench, &story);
+    let story = "
+        m0 new s0 8 : object 1
+        # With a field of its own, for queue 2.
+        m0 soft s1 s0 q2 1 : object 2; m0 store s1 0 s0 : ok; m0 load s2 s1 0 : object 1
+        m0 copy s3 s1 : object 2; m0 get s4 s3 : object 1; m0 refers s1 s0 : true; m0 clear s1 : ok
+        m0 unhook s1 : notice 2 q2 own";
+    agree(rt, bench, story);
     let heap = &mut bench.heap;
     assert!(rt; heap.kind_of(ObjNo(1)) == Some(Kind::Plain));
     assert!(rt; heap.kind_of(ObjNo(2)) == Some(Kind::Reference(Strength::Soft)));
@@ -63,60 +39,40 @@ fn mutate<A: Allocator + Copy>(rt: &impl Abort, bench: &mut Bench<A>) -> Result<
     let hold = heap.hold(M, SlotNo(0))?;
     assert!(rt; hold.obj() == ObjNo(1) && hold.heap_no() == 1);
     assert!(rt; released(heap.release(hold)) == Ok(()));
-    let story = [
-        (adopt(5), object(2)),
-        (new(6, 0), object(3)),
-        (PHANTOM, object(4)),
-        (drop_slot(6), Reply::Done),
-    ];
-    agree(rt, bench, &story);
+    let story =
+        "m0 adopt s5 : object 2; m0 new s6 0 : object 3; m0 phantom s7 s6 q1 0 : object 4; m0 drop s6 : ok";
+    agree(rt, bench, story);
     assert!(rt; bench.heap.slot_of(M, SlotNo(5)) == Ok(Some(ObjNo(2))));
     assert!(rt; bench.heap.object_count() == 4);
     Ok(())
 }
 
-/// The notice of reference 4, for queue 1, that worker 1 cleared in cycle 1.
-const NOTICE: Reply = Reply::Notice {
-    object: ObjNo(4),
-    queue: QueueNo(1),
-    cause: Cause::Cycle(1, WorkerNo(1)),
-};
-
 /// The calls of a cycle, once each.
 fn collect<A: Allocator + Copy>(rt: &impl Abort, bench: &mut Bench<A>) {
-    agree(rt, bench, &[(begin(9), Reply::Cycle(1))]);
+    agree(rt, bench, "begin 9 normal : cycle 1");
     assert!(rt; bench.heap.cycle() == 1 && bench.heap.clock() == 9);
     assert!(rt; bench.heap.phase() == Phase::Marking);
-    let story = [
-        (scan(0), scanned(1)),
-        (scan(0), scanned(2)),
-        (scan(1), scanned(4)),
-        (END_MARK, Reply::Doomed(1)),
-    ];
-    agree(rt, bench, &story);
+    let story = "w0 scan : scanned 1; w0 scan : scanned 2; w1 scan : scanned 4; endmark : doomed 1";
+    agree(rt, bench, story);
     assert!(rt; bench.heap.phase() == Phase::Clearing);
-    agree(rt, bench, &[(clear_next(1), cleared(4))]);
+    agree(rt, bench, "w1 clearnext : cleared 4");
     let pending = Pending {
         object: ObjNo(4),
         queue: QueueNo(1),
         cycle: 1,
     };
     assert!(rt; bench.heap.pending_of(WorkerNo(1), 0) == Some(pending));
-    agree(rt, bench, &[(END_CLEAR, Reply::Done)]);
+    agree(rt, bench, "endclear : ok");
     assert!(rt; bench.heap.phase() == Phase::Sweeping);
-    let story = [
-        (sweep(0), Reply::Swept(1)),
-        (END_SWEEP, Reply::Done),
-        (hand(1), NOTICE),
-    ];
-    agree(rt, bench, &story);
+    let story = "w0 sweep : swept 1; endsweep : ok; w1 hand : notice 4 q1 cycle 1 w1";
+    agree(rt, bench, story);
     assert!(rt; bench.heap.object_count() == 3 && bench.heap.phase() == Phase::Idle);
 }
 
 #[test]
 fn after_new_no_call_takes_memory(rt: HostRuntime) -> Result<(), Fail> {
     let memory = Rationed::new(rt.alloc());
-    let mut bench = Bench::new(Heap::new(&memory, SMALL, 1)?);
+    let mut bench = Bench::new(&memory, Heap::new(&memory, SMALL, 1)?);
     memory.ration(0);
     let mutated = mutate(&rt, &mut bench);
     assert!(rt; mutated == Ok(()));

@@ -6,7 +6,7 @@ use crate::scarce::{MOST, Trial, refuse_each};
 use rationed::Rationed;
 use ref_base::{Fault, ObjNo, Reach, Strength};
 use ref_graph::{Graph, strength_of, strengths};
-use std::alloc::Global;
+use std::alloc::{Allocator, Global};
 use std::process::Abort;
 use std::test::Fail;
 
@@ -105,19 +105,22 @@ fn a_root_without_memory_changes_nothing(rt: HostRuntime) {
 
 const NINE: [Option<u32>; 9] = [None; 9];
 
+/// Adds plain objects from 0 on, until there is no memory for one more. How many were added.
+fn fill<A: Allocator + Copy>(graph: &mut Graph<A>) -> u32 {
+    for no in 0..1_000u32 {
+        if graph.add_object(ObjNo(no), &[]) == Err(Fault::NoMemory) {
+            return no;
+        }
+    }
+    1_000
+}
+
 #[test]
 fn want_of_memory_is_told_last(rt: HostRuntime) -> Result<(), Fail> {
     let memory = Rationed::new(rt.alloc());
     let mut graph = Graph::new(&memory);
     memory.ration(8);
-    let mut count = 0u32;
-    // Plain objects from 0 on, until there is no memory for one more.
-    for no in 0..1_000u32 {
-        if graph.add_object(ObjNo(no), &[]) == Err(Fault::NoMemory) {
-            count = no;
-            break;
-        }
-    }
+    let count = fill(&mut graph);
     assert!(rt; 0 < count && count < 1_000, "{count} were added");
     assert!(rt; strengths(rt.alloc(), &graph)?.len() == count as usize);
     let story = [
@@ -133,7 +136,17 @@ fn want_of_memory_is_told_last(rt: HostRuntime) -> Result<(), Fail> {
     Ok(())
 }
 
-/// A search of a graph of 200 objects, each with a field that leads to the next, from a root on.
+/// A graph of 200 objects, each with a field that leads to the next, from a root on.
+fn line(alloc: Global) -> Result<Graph, Fault> {
+    let mut graph = Graph::new(alloc);
+    graph.add_root(ObjNo(0))?;
+    for no in 0..200 {
+        graph.add_object(ObjNo(no), &[Some(ObjNo(no + 1))])?;
+    }
+    Ok(graph)
+}
+
+/// A search of such a graph.
 #[derive(Drop)]
 struct Search<'a> {
     graph: Graph,
@@ -166,13 +179,8 @@ impl<'a> Trial for Search<'a> {
 #[test]
 fn a_search_without_memory_is_refused(rt: HostRuntime) -> Result<(), Fail> {
     let memory = Rationed::new(rt.alloc());
-    let mut graph = Graph::new(rt.alloc());
-    graph.add_root(ObjNo(0))?;
-    for no in 0..200 {
-        graph.add_object(ObjNo(no), &[Some(ObjNo(no + 1))])?;
-    }
     let mut trial = Search {
-        graph,
+        graph: line(rt.alloc())?,
         memory: &memory,
         is_of_all: false,
     };

@@ -1,135 +1,71 @@
 //! Cycles from their begin to the mark's end.
 
-use super::{
-    cycle_ended, found, freed, freed_next, held, minted, root_greyed, sweep_begun, taken_back,
-};
-use crate::hand::released;
-use crate::objects::{config, has_word};
-use crate::rows::{
-    END_MARK, begin, clear, cleared, copy, drop_slot, get, new, object, refers_to, refused, scan,
-    scanned, store, weak,
-};
+use super::Bench;
 use crate::steps::{agree, make_in};
-use ref_base::{Fault, ObjNo, Phase, Reply};
-use ref_mark::Marker;
-use ref_objects::{Entry, Worklist};
+use ref_objects::Start;
 use std::test::Fail;
 
 #[test]
 fn death_is_told_after_a_cycle(rt: HostRuntime) -> Result<(), Fail> {
-    let mut heap = Marker::new(rt.alloc(), config(8), 1)?;
-    let mut condemned = Worklist::new(rt.alloc(), 8)?;
-    // Nothing but reference 2 holds object 1.
-    let story = [
-        (new(0, 0), object(1)),
-        (weak(1, 0, 0), object(2)),
-        (drop_slot(0), Reply::Done),
-        (begin(5), Reply::Cycle(1)),
-        (scan(0), scanned(2)),
-        (scan(0), Reply::Nothing),
-    ];
-    agree(&rt, &mut heap, &story);
-    assert!(rt; !heap.is_doomed(ObjNo(1)));
-    // It reads as cleared at once, while the worker still has it to look at.
-    let story = [
-        (END_MARK, Reply::Doomed(1)),
-        (get(3, 1), Reply::Null),
-        (refers_to(1, 0), Reply::Refers(true)),
-        (clear(1), Reply::Done),
-    ];
-    agree(&rt, &mut heap, &story);
-    assert!(rt; heap.is_doomed(ObjNo(1)) && !heap.is_doomed(ObjNo(2)));
-    assert!(rt; heap.objects().referent_of(ObjNo(2)) == Some(ObjNo(1)) && heap.has_found());
-    assert!(rt; found(&mut heap, 0) == cleared(2));
-    assert!(rt; heap.objects().referent_of(ObjNo(2)) == None && !heap.has_found());
-    assert!(rt; found(&mut heap, 0) == Reply::Nothing);
-    assert!(rt; sweep_begun(&mut heap, &mut condemned));
-    assert!(rt; heap.is_doomed(ObjNo(1)));
-    assert!(rt; !freed(&mut heap, Entry::of(ObjNo(2))));
-    assert!(rt; freed_next(&mut heap, &mut condemned) == Some((1, true)));
-    assert!(rt; freed_next(&mut heap, &mut condemned) == None);
-    assert!(rt; !heap.is_doomed(ObjNo(1)));
-    assert!(rt; cycle_ended(&mut heap));
-    assert!(rt; heap.phase() == Phase::Idle);
-    agree(&rt, &mut heap, &[(begin(4), refused(Fault::ClockBack))]);
+    let mut bench = Bench::starting(rt.alloc(), 8, Start::FIRST)?;
+    let story = "
+        # Nothing but reference 2 holds object 1.
+        m0 new s0 0 : object 1; m0 weak s1 s0 q0 0 : object 2; m0 drop s0 : ok; begin 5 normal : cycle 1
+        w0 scan : scanned 2; w0 scan : none; is_doomed 1 : no
+        # It reads as cleared at once, while the worker still has it to look at.
+        endmark : doomed 1; m0 get s3 s1 : null; m0 refers s1 s0 : true; m0 clear s1 : ok
+        is_doomed 1 : yes; is_doomed 2 : no; referent 2 : object 1; has_found : yes
+        found 0 : cleared 2; referent 2 : null; has_found : no; found 0 : none
+        to_sweeping : yes; is_doomed 1 : yes; free 2 : no; free_next : object 1; free_next : none
+        is_doomed 1 : no; to_idle : yes; phase : idle; begin 4 normal : refused 13 ClockBack";
+    agree(&rt, &mut bench, story);
+    bench.end();
     Ok(())
 }
 
 #[test]
 fn what_is_held_or_told_as_a_root_is_kept(rt: HostRuntime) -> Result<(), Fail> {
-    let mut heap = Marker::new(rt.alloc(), config(8), 1)?;
-    make_in(&rt, &mut heap, 0, 1..5);
-    agree(&rt, &mut heap, &[(copy(1, 0), object(4))]);
-    let hold = held(&mut heap, 1)?;
-    assert!(rt; hold.obj() == ObjNo(4) && hold.heap_no() == 1);
-    hold.leak();
-    let hold = minted(&mut heap, 2)?;
-    assert!(rt; hold.obj() == ObjNo(2) && hold.heap_no() == 1);
-    hold.leak();
-    let story = [
-        (drop_slot(0), Reply::Done),
-        (drop_slot(1), Reply::Done),
-        (begin(0), Reply::Cycle(1)),
-    ];
-    agree(&rt, &mut heap, &story);
-    assert!(rt; root_greyed(&mut heap, 1));
-    assert!(rt; root_greyed(&mut heap, 4));
-    let story = [
-        // What is made in the cycle is never scanned, and never doomed.
-        (new(0, 0), object(5)),
-        (scan(0), scanned(2)),
-        (scan(0), scanned(4)),
-        (scan(0), scanned(1)),
-        (scan(0), Reply::Nothing),
-        (END_MARK, Reply::Doomed(1)),
-    ];
-    agree(&rt, &mut heap, &story);
-    assert!(rt; heap.is_doomed(ObjNo(3)));
+    let mut bench = Bench::starting(rt.alloc(), 8, Start::FIRST)?;
+    let story = "
+        m0 new s0 0 : object 1; m0 new s0 0 : object 2; m0 new s0 0 : object 3; m0 new s0 0 : object 4
+        m0 copy s1 s0 : object 4; hold 1 : object 4; hand : 4 of 1; mint 2 : object 2; hand : 2 of 1
+        m0 drop s0 : ok; m0 drop s1 : ok; begin 0 normal : cycle 1; root 1 : yes; root 4 : yes
+        # What is made in the cycle is never scanned, and never doomed.
+        m0 new s0 0 : object 5; w0 scan : scanned 2; w0 scan : scanned 4; w0 scan : scanned 1; w0 scan : none
+        endmark : doomed 1; is_doomed 3 : yes";
+    agree(&rt, &mut bench, story);
+    bench.end();
     Ok(())
 }
 
 #[test]
 fn a_hold_is_taken_back(rt: HostRuntime) -> Result<(), Fail> {
-    let mut heap = Marker::new(rt.alloc(), config(8), 1)?;
-    agree(&rt, &mut heap, &[(new(0, 0), object(1))]);
-    let hold = held(&mut heap, 0)?;
-    assert!(rt; hold.obj() == ObjNo(1) && hold.heap_no() == 1);
-    assert!(rt; taken_back(&mut heap, 2, hold) == Ok(ObjNo(1)));
-    assert!(rt; heap.objects().hold_count() == 0);
-    let hold = held(&mut heap, 2)?;
-    assert!(rt; hold.obj() == ObjNo(1) && hold.heap_no() == 1);
-    assert!(rt; released(heap.release(hold)) == Ok(()));
-    assert!(rt; heap.objects().hold_count() == 0);
+    let mut bench = Bench::starting(rt.alloc(), 8, Start::FIRST)?;
+    let story = "
+        m0 new s0 0 : object 1; hold 0 : object 1; hand : 1 of 1; adopt 2 : object 1; holds : 0
+        hold 2 : object 1; hand : 1 of 1; release : ok; holds : 0";
+    agree(&rt, &mut bench, story);
+    bench.end();
     Ok(())
 }
 
 #[test]
 fn a_scan_heals_what_its_object_holds(rt: HostRuntime) -> Result<(), Fail> {
     // Objects fill the first page, and one lies in the second.
-    let mut heap = Marker::new(rt.alloc(), config(128), 1)?;
+    let mut bench = Bench::starting(rt.alloc(), 128, Start::FIRST)?;
     agree(
         &rt,
-        &mut heap,
-        &[(new(0, 1), object(1)), (new(2, 0), object(2))],
+        &mut bench,
+        "m0 new s0 1 : object 1; m0 new s2 0 : object 2",
     );
-    make_in(&rt, &mut heap, 1, 3..66);
-    agree(&rt, &mut heap, &[(store(0, 0, 1), Reply::Done)]);
-    // Colour R, page 2, cell 0.
-    has_word(
-        &rt,
-        heap.objects(),
-        (1, 0),
-        Some(13_835_058_055_282_163_840),
-    );
-    agree(&rt, &mut heap, &[(begin(0), Reply::Cycle(1))]);
-    has_word(
-        &rt,
-        heap.objects(),
-        (1, 0),
-        Some(13_835_058_055_282_163_840),
-    );
-    agree(&rt, &mut heap, &[(scan(0), scanned(1))]);
-    // Colour A.
-    has_word(&rt, heap.objects(), (1, 0), Some(4_611_686_018_427_388_032));
+    make_in(&rt, &mut bench, 1, 3..66);
+    let story = "
+        # Colour R, page 2, cell 0.
+        m0 store s0 0 s1 : ok; word 1 0 : 13835058055282163840; begin 0 normal : cycle 1
+        word 1 0 : 13835058055282163840; w0 scan : scanned 1
+        # Colour A.
+        word 1 0 : 4611686018427388032";
+    agree(&rt, &mut bench, story);
+    bench.end();
     Ok(())
 }

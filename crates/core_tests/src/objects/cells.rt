@@ -1,102 +1,63 @@
-//! What lies in the cells of a heap: objects found by number, their fields and references, gaps, cells used again.
+//! What lies in the cells of a heap: objects found by number, their fields and references, gaps, cells used again. A
+//! word of colour R, page 1 and cell 0 is c000000000000040 in hexadecimal, one of colour A 4000000000000040.
 
-use super::{begun, config, freed_next, freed_no, has_word, heap_of, refers_by, swept};
-use crate::closed::condemn_if_closed;
-use crate::rows::{
-    clear, cleared, drop_slot, get, kept, load, new, object, skipped, soft_with_fields, store,
-    unregistered,
-};
-use crate::steps::{agree, looked, make};
-use ref_base::{Config, ObjNo, QueueNo, Reply, Strength};
-use ref_objects::{Kind, Objects, Reference};
+use super::{Bench, config};
+use crate::steps::agree;
+use ref_base::{Config, ObjNo, QueueNo, Strength};
+use ref_objects::{Objects, Reference};
+use std::alloc::Global;
 use std::process::Abort;
 use std::test::Fail;
 
+/// A story of a heap of so many cells.
+fn tell(rt: &impl Abort, alloc: Global, cells: u32, story: &str) -> Result<(), Fail> {
+    let mut bench = Bench::new(alloc, cells)?;
+    agree(rt, &mut bench, story);
+    bench.end();
+    Ok(())
+}
+
 #[test]
 fn what_is_made_is_found_by_its_number(rt: HostRuntime) -> Result<(), Fail> {
-    let (mut heap, mut condemned) = heap_of(rt.alloc(), 3)?;
-    let made = [
-        (new(0, 2), object(1)),
-        (new(1, 2), object(2)),
-        (new(1, 2), object(3)),
-    ];
-    agree(&rt, &mut heap, &made);
-    assert!(rt; swept(&mut heap, &mut condemned, 2));
-    assert!(rt; !swept(&mut heap, &mut condemned, 3), "a slot holds it");
-    agree(&rt, &mut heap, &[(drop_slot(1), Reply::Done)]);
-    assert!(rt; swept(&mut heap, &mut condemned, 3));
-    agree(&rt, &mut heap, &[(new(1, 2), object(4))]);
-    assert!(rt;
-        heap.has_object(ObjNo(1)) && !heap.has_object(ObjNo(2)) && heap.has_object(ObjNo(4))
-    );
-    assert!(rt; heap.object_count() == 2 && heap.next_no() == 5);
-    Ok(())
+    let story = "
+        m0 new s0 2 : object 1; m0 new s1 2 : object 2; m0 new s1 2 : object 3; sweep 2 : yes
+        # A slot holds it.
+        sweep 3 : no; m0 drop s1 : ok; sweep 3 : yes; m0 new s1 2 : object 4
+        has 1 : yes; has 2 : no; has 4 : yes; objects : 2; next_no : 5";
+    tell(&rt, rt.alloc(), 3, story)
 }
 
 #[test]
-fn a_field_has_a_word_of_its_objects_cell(rt: HostRuntime) -> Result<(), Fail> {
-    let (mut heap, _) = heap_of(rt.alloc(), 4)?;
-    make(&rt, &mut heap, &[2, 0, 0]);
-    has_word(&rt, &heap, (1, 0), Some(0));
-    agree(&rt, &mut heap, &[(store(0, 0, 2), Reply::Done)]);
-    // Colour R, page 1, cell 2: in hexadecimal c000000000000042.
-    has_word(&rt, &heap, (1, 0), Some(13_835_058_055_282_163_778));
-    has_word(&rt, &heap, (1, 2), None);
-    has_word(&rt, &heap, (4, 0), None);
-    // Colour A is good now: a slot has it, and a field as soon as it is loaded.
-    begun(&mut heap);
-    agree(&rt, &mut heap, &[(store(0, 1, 1), Reply::Done)]);
-    has_word(&rt, &heap, (1, 0), Some(13_835_058_055_282_163_778));
-    has_word(&rt, &heap, (1, 1), Some(4_611_686_018_427_387_969));
-    agree(&rt, &mut heap, &[(load(3, 0, 0), object(3))]);
-    has_word(&rt, &heap, (1, 0), Some(4_611_686_018_427_387_970));
-    Ok(())
-}
-
-#[test]
-fn a_get_heals_the_referents_word(rt: HostRuntime) -> Result<(), Fail> {
-    // Colours R and A, page 1, cell 0: in hexadecimal c000000000000040 and 4000000000000040.
-    let (in_r, in_a) = (
-        Some(13_835_058_055_282_163_776),
-        Some(4_611_686_018_427_387_968),
-    );
-    let (mut heap, _) = heap_of(rt.alloc(), 4)?;
-    let made = [
-        (new(0, 0), object(1)),
-        (unregistered(1, 0), object(2)),
-        (unregistered(2, 0), object(3)),
-    ];
-    agree(&rt, &mut heap, &made);
-    refers_by(&rt, &heap, 2, in_r);
-    refers_by(&rt, &heap, 1, None);
-    refers_by(&rt, &heap, 4, None);
-    // Colour A is good now: a referent has it as soon as it is got.
-    begun(&mut heap);
-    refers_by(&rt, &heap, 2, in_r);
-    agree(&rt, &mut heap, &[(get(3, 1), object(1))]);
-    refers_by(&rt, &heap, 2, in_a);
-    refers_by(&rt, &heap, 3, in_r);
-    agree(&rt, &mut heap, &[(clear(1), Reply::Done)]);
-    refers_by(&rt, &heap, 2, Some(0));
-    Ok(())
-}
-
-#[test]
-fn a_new_object_lies_in_the_first_free_cell(rt: HostRuntime) -> Result<(), Fail> {
-    let (mut heap, mut condemned) = heap_of(rt.alloc(), 4)?;
-    make(&rt, &mut heap, &[1, 0, 0]);
-    agree(&rt, &mut heap, &[(drop_slot(1), Reply::Done)]);
-    // Marks begin twice, before it is freed and after that: the second time makes colour B good.
-    assert!(rt; swept(&mut heap, &mut condemned, 2));
-    let story = [(new(1, 0), object(4)), (store(0, 0, 1), Reply::Done)];
-    agree(&rt, &mut heap, &story);
-    // Where object 2 lay: colour B, page 1, cell 1, in hexadecimal 8000000000000041.
-    has_word(&rt, &heap, (1, 0), Some(9_223_372_036_854_775_873));
-    let story = [(new(3, 0), object(5)), (store(0, 0, 3), Reply::Done)];
-    agree(&rt, &mut heap, &story);
-    // Behind object 3: cell 3.
-    has_word(&rt, &heap, (1, 0), Some(9_223_372_036_854_775_875));
-    Ok(())
+fn words_are_of_their_objects_cells(rt: HostRuntime) -> Result<(), Fail> {
+    // Of fields.
+    let story = "
+        m0 new s0 2 : object 1; m0 new s1 0 : object 2; m0 new s2 0 : object 3; word 1 0 : 0
+        # Colour R, page 1, cell 2.
+        m0 store s0 0 s2 : ok; word 1 0 : 13835058055282163778; word 1 2 : none; word 4 0 : none
+        # Colour A is good now: a slot has it, and a field as soon as it is loaded.
+        begin_marks : ok; m0 store s0 1 s1 : ok; word 1 0 : 13835058055282163778
+        word 1 1 : 4611686018427387969; m0 load s3 s0 0 : object 3; word 1 0 : 4611686018427387970";
+    tell(&rt, rt.alloc(), 4, story)?;
+    // Of referents: a get heals one.
+    let story = "
+        m0 new s0 0 : object 1; m0 weak s1 s0 - 0 : object 2; m0 weak s2 s0 - 0 : object 3
+        # Colour R, page 1, cell 0.
+        word_of_referent 2 : 13835058055282163776; word_of_referent 1 : none; word_of_referent 4 : none
+        # Colour A is good now: a referent has it as soon as it is got.
+        begin_marks : ok; word_of_referent 2 : 13835058055282163776; m0 get s3 s1 : object 1
+        word_of_referent 2 : 4611686018427387968; word_of_referent 3 : 13835058055282163776
+        m0 clear s1 : ok; word_of_referent 2 : 0";
+    tell(&rt, rt.alloc(), 4, story)?;
+    // A new object lies in the first cell that is free.
+    let story = "
+        m0 new s0 1 : object 1; m0 new s1 0 : object 2; m0 new s2 0 : object 3; m0 drop s1 : ok
+        # Marks begin twice, before it is freed and after that: the second time makes colour B good.
+        sweep 2 : yes; m0 new s1 0 : object 4; m0 store s0 0 s1 : ok
+        # Where object 2 lay: colour B, page 1, cell 1, in hexadecimal 8000000000000041.
+        word 1 0 : 9223372036854775873; m0 new s3 0 : object 5; m0 store s0 0 s3 : ok
+        # Behind object 3: cell 3.
+        word 1 0 : 9223372036854775875";
+    tell(&rt, rt.alloc(), 4, story)
 }
 
 #[test]
@@ -117,9 +78,9 @@ fn referent_and_stamp_are_those_of_a_reference(rt: HostRuntime) -> Result<(), Fa
         ..stamped
     };
     let mut heap = Objects::new(rt.alloc(), four_queues, 1)?;
-    agree(&rt, &mut heap, &[(new(0, 2), object(1))]);
+    agree(&rt, &mut heap, "m0 new s0 2 : object 1");
     heap.set_clock(7);
-    agree(&rt, &mut heap, &[(soft_with_fields(1, 0, 3, 2), object(2))]);
+    agree(&rt, &mut heap, "m0 soft s1 s0 q3 2 : object 2");
     assert!(rt; heap.reference_of(ObjNo(2)) == Some(soft));
     heap.set_stamp(ObjNo(1), 8);
     heap.set_stamp(ObjNo(2), 9);
@@ -131,117 +92,50 @@ fn referent_and_stamp_are_those_of_a_reference(rt: HostRuntime) -> Result<(), Fa
 }
 
 #[test]
-fn the_condemned_are_listed_in_order_of_number(rt: HostRuntime) -> Result<(), Fail> {
-    let (mut heap, mut condemned) = heap_of(rt.alloc(), 5)?;
-    let made = [
-        (new(0, 2), object(1)),
-        (new(0, 2), object(2)),
-        (new(0, 2), object(3)),
-    ];
-    agree(&rt, &mut heap, &made);
-    assert!(rt; swept(&mut heap, &mut condemned, 2));
-    // It has the cell of what was freed, and is listed by its number still.
-    let made = [
-        (new(1, 2), object(4)),
-        (new(0, 2), object(5)),
-        (drop_slot(1), Reply::Done),
-    ];
-    agree(&rt, &mut heap, &made);
-    assert!(rt; heap.mark(ObjNo(5)));
-    assert!(rt; condemn_if_closed(&mut heap, &mut condemned));
-    assert!(rt; freed_next(&mut heap, &mut condemned) == Some((1, true)));
-    // It is freed by its number first, and then no more.
-    assert!(rt; freed_no(&mut heap, 3));
-    for want in [Some((3, false)), Some((4, true)), None] {
-        assert!(rt; freed_next(&mut heap, &mut condemned) == want);
-    }
-    assert!(rt; heap.unmarked_count() == 0);
-    Ok(())
-}
-
-/// Just the first of these objects is condemned.
-fn first_is_condemned(rt: &impl Abort, heap: &Objects, objects: [u32; 3]) {
-    for (place, &no) in objects.iter().enumerate() {
-        assert!(rt; heap.is_condemned(ObjNo(no)) == (place == 0), "object {no}");
-    }
+fn the_condemned_are_listed_and_may_be_freed(rt: HostRuntime) -> Result<(), Fail> {
+    // In order of number.
+    let story = "
+        m0 new s0 2 : object 1; m0 new s0 2 : object 2; m0 new s0 2 : object 3; sweep 2 : yes
+        # It has the cell of what was freed, and is listed by its number still.
+        m0 new s1 2 : object 4; m0 new s0 2 : object 5; m0 drop s1 : ok; mark 5 : yes; condemn : yes
+        free_next : object 1
+        # It is freed by its number first, and then no more.
+        free 3 : yes; free_next : skipped 3; free_next : object 4; free_next : none; unmarked : 0";
+    tell(&rt, rt.alloc(), 5, story)?;
+    // What isn't marked is condemned.
+    let story = "
+        begin_marks : ok; m0 new s0 2 : object 1; m0 new s1 2 : object 2; m0 drop s0 : ok
+        # It isn't condemned.
+        free 1 : no; mark 2 : yes; condemn : yes
+        is_condemned 1 : yes; is_condemned 2 : no; is_condemned 3 : no
+        free 2 : no; free 1 : yes; free 1 : no; is_condemned 1 : no; unmarked : 0
+        # The cell is used again, by an object that is marked from the start.
+        m0 new s0 2 : object 3; is_marked 3 : yes; is_condemned 3 : no; free 3 : no
+        end_cycle : ok; begin_marks : ok; unmarked : 2; is_condemned 2 : no; free 3 : no";
+    tell(&rt, rt.alloc(), 2, story)
 }
 
 #[test]
-fn what_is_not_marked_is_condemned_and_may_be_freed(rt: HostRuntime) -> Result<(), Fail> {
-    let (mut heap, mut condemned) = heap_of(rt.alloc(), 2)?;
-    begun(&mut heap);
-    make(&rt, &mut heap, &[2, 2]);
-    agree(&rt, &mut heap, &[(drop_slot(0), Reply::Done)]);
-    assert!(rt; !freed_no(&mut heap, 1), "it isn't condemned");
-    assert!(rt; heap.mark(ObjNo(2)));
-    assert!(rt; condemn_if_closed(&mut heap, &mut condemned));
-    first_is_condemned(&rt, &heap, [1, 2, 3]);
-    assert!(rt; !freed_no(&mut heap, 2) && freed_no(&mut heap, 1) && !freed_no(&mut heap, 1));
-    assert!(rt; !heap.is_condemned(ObjNo(1)) && heap.unmarked_count() == 0);
-    // The cell is used again, by an object that is marked from the start.
-    agree(&rt, &mut heap, &[(new(0, 2), object(3))]);
-    assert!(rt; heap.is_marked(ObjNo(3)) && !heap.is_condemned(ObjNo(3)));
-    assert!(rt; !freed_no(&mut heap, 3));
-    heap.end_cycle();
-    begun(&mut heap);
-    assert!(rt; heap.unmarked_count() == 2 && !heap.is_condemned(ObjNo(2)));
-    assert!(rt; !freed_no(&mut heap, 3));
-    Ok(())
-}
-
-/// The object of this number was cleared last in this cycle, and links to this one.
-fn tells(rt: &impl Abort, heap: &Objects, no: u32, cycle: u64, link: u32) {
-    assert!(rt; heap.cleared_in(ObjNo(no)) == cycle, "object {no}");
-    assert!(rt; heap.link_of(ObjNo(no)) == link, "object {no}");
-}
-
-#[test]
-fn a_clear_and_a_link_are_told_till_the_object_goes(rt: HostRuntime) -> Result<(), Fail> {
-    let (mut heap, mut condemned) = heap_of(rt.alloc(), 2)?;
-    make(&rt, &mut heap, &[0, 0]);
-    // A new object was never cleared, and links to nothing.
-    tells(&rt, &heap, 1, 0, 0);
-    heap.set_link(ObjNo(1), 2);
-    tells(&rt, &heap, 1, 0, 2);
-    tells(&rt, &heap, 2, 0, 0);
-    heap.set_cleared_in(ObjNo(1), 7);
-    heap.set_link(ObjNo(2), u32::MAX);
-    tells(&rt, &heap, 1, 7, 2);
-    tells(&rt, &heap, 2, 0, u32::MAX);
-    heap.set_cleared_in(ObjNo(1), 8);
-    tells(&rt, &heap, 1, 8, 2);
-    // There is no object 3.
-    heap.set_cleared_in(ObjNo(3), 9);
-    heap.set_link(ObjNo(3), 1);
-    tells(&rt, &heap, 3, 0, 0);
-    agree(&rt, &mut heap, &[(drop_slot(0), Reply::Done)]);
-    assert!(rt; swept(&mut heap, &mut condemned, 1));
-    tells(&rt, &heap, 1, 0, 0);
-    // It lies in the same cell.
-    agree(&rt, &mut heap, &[(new(0, 0), object(3))]);
-    tells(&rt, &heap, 3, 0, 0);
-    Ok(())
-}
-
-#[test]
-fn a_look_clears_what_refers_to_the_unmarked(rt: HostRuntime) -> Result<(), Fail> {
-    let (mut heap, _) = heap_of(rt.alloc(), 2)?;
-    let made = [(new(0, 0), object(1)), (unregistered(1, 0), object(2))];
-    agree(&rt, &mut heap, &made);
-    heap.set_link(ObjNo(2), 1);
-    assert!(rt; heap.mark(ObjNo(1)));
-    assert!(rt; looked(heap.look_at(ObjNo(2), 7)) == kept(2));
-    assert!(rt; heap.referent_of(ObjNo(2)) == Some(ObjNo(1)));
-    tells(&rt, &heap, 2, 0, 1);
-    begun(&mut heap);
-    assert!(rt; looked(heap.look_at(ObjNo(2), 7)) == cleared(2));
-    assert!(rt; heap.referent_of(ObjNo(2)) == None);
-    tells(&rt, &heap, 2, 7, 1);
-    // It has no referent any more, nor has a plain object, nor one that isn't there.
-    for (no, cycle, want) in [(2, 8, 7), (1, 8, 0), (3, 9, 0)] {
-        assert!(rt; looked(heap.look_at(ObjNo(no), cycle)) == skipped(no));
-        assert!(rt; heap.cleared_in(ObjNo(no)) == want, "object {no}");
-    }
-    assert!(rt; heap.kind_of(ObjNo(1)) == Some(Kind::Plain));
-    Ok(())
+fn clears_and_links_are_told_till_the_object_goes(rt: HostRuntime) -> Result<(), Fail> {
+    let story = "
+        # A new object was never cleared, and links to nothing.
+        m0 new s0 0 : object 1; m0 new s1 0 : object 2; cleared_in 1 : 0; link 1 : 0
+        set_link 1 2 : ok; cleared_in 1 : 0; link 1 : 2; cleared_in 2 : 0; link 2 : 0
+        set_cleared_in 1 7 : ok; set_link 2 4294967295 : ok; cleared_in 1 : 7; link 1 : 2
+        cleared_in 2 : 0; link 2 : 4294967295; set_cleared_in 1 8 : ok; cleared_in 1 : 8; link 1 : 2
+        # There is no object 3.
+        set_cleared_in 3 9 : ok; set_link 3 1 : ok; cleared_in 3 : 0; link 3 : 0
+        m0 drop s0 : ok; sweep 1 : yes; cleared_in 1 : 0; link 1 : 0
+        # It lies in the same cell.
+        m0 new s0 0 : object 3; cleared_in 3 : 0; link 3 : 0";
+    tell(&rt, rt.alloc(), 2, story)?;
+    // A look clears what refers to the unmarked.
+    let story = "
+        m0 new s0 0 : object 1; m0 weak s1 s0 - 0 : object 2; set_link 2 1 : ok; mark 1 : yes
+        look 2 7 : kept 2; referent 2 : object 1; cleared_in 2 : 0; link 2 : 1
+        begin_marks : ok; look 2 7 : cleared 2; referent 2 : null; cleared_in 2 : 7; link 2 : 1
+        # It has no referent any more, nor has a plain object, nor one that isn't there.
+        look 2 8 : skipped 2; cleared_in 2 : 7; look 1 8 : skipped 1; cleared_in 1 : 0
+        look 3 9 : skipped 3; cleared_in 3 : 0; kind 1 : plain";
+    tell(&rt, rt.alloc(), 2, story)
 }

@@ -1,66 +1,33 @@
 //! Heaps whose memory runs out.
 
-use super::{begun, freed, freed_next, freed_no, heap_of, listed, marked_at};
+use super::{Bench, begun, freed, heap_of};
 use crate::closed::condemn_if_closed;
-use crate::hand::{adopted, released};
-use crate::rows::{
-    M, clear, copy, drop_slot, get, load, new, object, skipped, soft_with_fields, store,
-};
-use crate::steps::{agree, looked};
+use crate::steps::{M, agree};
 use rationed::Rationed;
-use ref_base::{Fault, ObjNo, Reply, SlotNo};
+use ref_base::{Fault, ObjNo, SlotNo};
 use ref_objects::{Objects, Worklist};
 use std::alloc::{Allocator, Global};
 use std::process::Abort;
 use std::test::Fail;
 
 /// Each step once, and then each call of the layers above.
-fn call_each<A: Allocator + Copy>(
-    rt: &impl Abort,
-    heap: &mut Objects<A>,
-    condemned: &mut Worklist<A>,
-) -> Result<(), Fail> {
-    let story = [
-        (new(0, 8), object(1)),
-        (soft_with_fields(1, 0, 0, 8), object(2)),
-        (store(0, 7, 1), Reply::Done),
-        (load(5, 0, 7), object(2)),
-        (get(6, 1), object(1)),
-        (copy(2, 1), object(2)),
-        (drop_slot(2), Reply::Done),
-    ];
-    agree(rt, heap, &story);
-    assert!(rt; heap.set_slot(M, SlotNo(3), Some(ObjNo(1))) == Ok(()));
-    heap.set_clock(5);
-    heap.set_stamp(ObjNo(2), 5);
-    heap.cut(ObjNo(2));
-    agree(rt, heap, &[(clear(1), Reply::Done)]);
-    heap.set_cleared_in(ObjNo(2), 1);
-    assert!(rt; looked(heap.look_at(ObjNo(2), 2)) == skipped(2));
-    heap.set_link(ObjNo(2), 1);
-    let hold = heap.hold(M, SlotNo(1))?;
-    assert!(rt; adopted(heap.adopt(M, SlotNo(4), hold)) == Ok(ObjNo(2)));
-    let hold = heap.mint(ObjNo(1))?;
-    assert!(rt; released(heap.release(hold)) == Ok(()));
-    begun(heap);
-    assert!(rt; heap.mark(ObjNo(1)));
-    assert!(rt; heap.mark_slot(M, SlotNo(0)).map(|entry| listed(entry)) == Ok(None));
-    assert!(rt; marked_at(heap, 1) == Some(ObjNo(2)));
-    assert!(rt; condemn_if_closed(heap, condemned));
-    assert!(rt; !freed_no(heap, 1) && freed_next(heap, condemned) == None);
-    begun(heap);
-    heap.end_cycle();
-    assert!(rt; heap.object_count() == 2);
-    Ok(())
-}
+const EACH_CALL: &'static str = "
+    m0 new s0 8 : object 1; m0 soft s1 s0 q0 8 : object 2; m0 store s0 7 s1 : ok; m0 load s5 s0 7 : object 2
+    m0 get s6 s1 : object 1; m0 copy s2 s1 : object 2; m0 drop s2 : ok
+    set_slot 3 1 : ok; set_clock 5 : ok; set_stamp 2 5 : ok; cut 2 : ok; m0 clear s1 : ok
+    set_cleared_in 2 1 : ok; look 2 2 : skipped 2; set_link 2 1 : ok
+    hold 1 : object 2; adopt 4 : object 2; mint 1 : object 1; release : ok
+    begin_marks : ok; mark 1 : yes; mark_slot 0 : null; mark_slot_at 1 : object 2
+    condemn : yes; free 1 : no; free_next : none; begin_marks : ok; end_cycle : ok; objects : 2";
 
 #[test]
 fn after_new_no_call_takes_memory(rt: HostRuntime) -> Result<(), Fail> {
     let memory = Rationed::new(rt.alloc());
-    let (mut heap, mut condemned) = heap_of(&memory, 3)?;
+    let mut bench = Bench::new(&memory, 3)?;
     memory.ration(0);
-    call_each(&rt, &mut heap, &mut condemned)?;
+    agree(&rt, &mut bench, EACH_CALL);
     assert!(rt; !memory.lift(), "no request is refused");
+    bench.end();
     Ok(())
 }
 

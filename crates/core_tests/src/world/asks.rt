@@ -3,11 +3,9 @@
 ghost use Rattle.std.specs.Prelude.{◌≡◌, IfOk, length};
 ghost use Rattle.ref_world.specs.Cores.{core_queue_at};
 
-use super::{CONFIG, TWO_WORKERS, do_steps, three_cleared};
-use crate::rows::{
-    M, PUT, RELEASE, hand, new, object, of_cycle, own, poll, took, unhook, weak, worker_puts,
-};
-use ref_base::{Config, Fault, MutNo, ObjNo, QueueNo, Reply, SlotNo};
+use super::{CONFIG, THREE_CLEARED, TWO_WORKERS};
+use crate::steps::{M, agree};
+use ref_base::{Config, Fault, MutNo, ObjNo, QueueNo, SlotNo};
 use ref_world::World;
 use std::alloc::{Allocator, Global};
 use std::process::Abort;
@@ -67,9 +65,9 @@ fn have_lists<A: Allocator + Copy>(
 
 #[test]
 fn a_slot_tells_its_reference(rt: HostRuntime) -> Result<(), Fail> {
-    let story = [(new(0, 0), object(1)), (weak(1, 0, 0), object(2))];
+    let story = "m0 new s0 0 : object 1; m0 weak s1 s0 q0 0 : object 2";
     let mut world = World::new(rt.alloc(), CONFIG)?;
-    do_steps(&rt, &mut world, &story);
+    agree(&rt, &mut world, story);
     // The mutator, the slot, and what is there.
     let table = [
         (M, 1, Ok(ObjNo(2))),
@@ -100,22 +98,13 @@ fn each_queue_has_its_own(rt: HostRuntime) -> Result<(), Fail> {
         queues: 2,
         ..CONFIG
     };
-    let story = [
-        (new(0, 0), object(1)),
-        (weak(1, 0, 1), object(2)),
-        (weak(2, 0, 0), object(3)),
-        (weak(3, 0, 1), object(4)),
-        (unhook(3), own(4, 1)),
-        (PUT, Reply::Added(0)),
-        (unhook(2), own(3, 0)),
-        (PUT, Reply::Added(0)),
-        (unhook(1), own(2, 1)),
-        (PUT, Reply::Added(1)),
-        (poll(1), took(4)),
-        (RELEASE, Reply::Done),
-    ];
+    let story = "
+        m0 new s0 0 : object 1; m0 weak s1 s0 q1 0 : object 2; m0 weak s2 s0 q0 0 : object 3
+        m0 weak s3 s0 q1 0 : object 4; m0 unhook s3 : notice 4 q1 own; m0 put : added 0
+        m0 unhook s2 : notice 3 q0 own; m0 put : added 0; m0 unhook s1 : notice 2 q1 own; m0 put : added 1
+        m0 poll q1 : took 4; m0 release : ok";
     let mut world = World::new(rt.alloc(), two_queues)?;
-    do_steps(&rt, &mut world, &story);
+    agree(&rt, &mut world, story);
     let queues = [queue_of(&[3], &[], &[3]), queue_of(&[4, 2], &[4], &[2])];
     let checked = have_lists(&rt, rt.alloc(), &world, &queues);
     world.end();
@@ -124,22 +113,13 @@ fn each_queue_has_its_own(rt: HostRuntime) -> Result<(), Fail> {
 
 #[test]
 fn two_workers_put_in_what_each_cleared_in_its_order(rt: HostRuntime) -> Result<(), Fail> {
-    let put_in = [
-        (hand(0), of_cycle(2, 1, 0)),
-        (hand(1), of_cycle(4, 1, 1)),
-        (worker_puts(0), Reply::Added(0)),
-        (hand(0), of_cycle(6, 1, 0)),
-        (worker_puts(0), Reply::Added(1)),
-        (worker_puts(1), Reply::Added(2)),
-        (poll(0), took(2)),
-        (RELEASE, Reply::Done),
-        (poll(0), took(6)),
-        (RELEASE, Reply::Done),
-        (poll(0), took(4)),
-    ];
+    let put_in = "
+        w0 hand : notice 2 q0 cycle 1 w0; w1 hand : notice 4 q0 cycle 1 w1; w0 put : added 0
+        w0 hand : notice 6 q0 cycle 1 w0; w0 put : added 1; w1 put : added 2; m0 poll q0 : took 2
+        m0 release : ok; m0 poll q0 : took 6; m0 release : ok; m0 poll q0 : took 4";
     let mut world = World::new(rt.alloc(), TWO_WORKERS)?;
-    do_steps(&rt, &mut world, &three_cleared());
-    do_steps(&rt, &mut world, &put_in);
+    agree(&rt, &mut world, THREE_CLEARED);
+    agree(&rt, &mut world, put_in);
     let queue = queue_of(&[2, 6, 4], &[2, 6, 4], &[]);
     let checked = have_lists(&rt, rt.alloc(), &world, &[queue]);
     world.end();

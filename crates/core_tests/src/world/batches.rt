@@ -1,11 +1,12 @@
 //! Several notices that are put in at once, where memory runs out. Worked traces of batches are scripts, files of the
 //! program `refrun_cases`.
 
-use super::{TWO_WORKERS, do_steps, three_cleared};
-use crate::rows::{hands, of_one_cycle, outs, polls, refused, took_some, worker_puts_all};
+use super::{THREE_CLEARED, TWO_WORKERS};
+use crate::rows::outs;
 use crate::scarce::MOST;
+use crate::steps::agree;
 use rationed::Rationed;
-use ref_base::{Done, Fault};
+use ref_base::{Actor, Done, Fault, Step, WorkerNo};
 use ref_world::World;
 use std::alloc::Global;
 use std::process::Abort;
@@ -15,29 +16,25 @@ use std::test::Fail;
 /// put adds it, and what is behind it. Answers whether a request was refused.
 fn is_refused_within(rt: &impl Abort, memory: &Rationed<Global>, met: u64) -> Result<bool, Fail> {
     let mut world = World::new(memory, TWO_WORKERS)?;
-    do_steps(rt, &mut world, &three_cleared());
-    let handed = [(hands(0, 32), of_one_cycle(&[2, 6], 1, 0))];
-    do_steps(rt, &mut world, &handed);
-    let both = outs(0, &[Done::Added, Done::Added]);
+    agree(rt, &mut world, THREE_CLEARED);
+    agree(rt, &mut world, "w0 hands 32 : notices 2 6 q0 cycle 1 w0");
     let wanting = Done::Refused(Fault::NoMemory);
     memory.ration(met);
-    let reply = world.step(worker_puts_all(0));
+    let reply = world.step(Step::Puts {
+        actor: Actor::Worker(WorkerNo(0)),
+    });
     let is_refused = memory.lift();
     if !is_refused {
-        assert!(rt; reply == both);
+        assert!(rt; reply == outs(0, &[Done::Added, Done::Added]));
     } else if reply == outs(0, &[wanting]) {
-        do_steps(rt, &mut world, &[(worker_puts_all(0), both)]);
+        agree(rt, &mut world, "w0 puts : added 0, added 1");
     } else {
         let first = outs(0, &[Done::Added, wanting]);
         assert!(rt; reply == first, "{met} requests met");
-        let second = outs(1, &[Done::Added]);
-        do_steps(rt, &mut world, &[(worker_puts_all(0), second)]);
+        agree(rt, &mut world, "w0 puts : added 1");
     }
-    let rest = [
-        (worker_puts_all(0), refused(Fault::HandEmpty)),
-        (polls(0, 2), took_some(&[2, 6])),
-    ];
-    do_steps(rt, &mut world, &rest);
+    let story = "w0 puts : refused 24 HandEmpty; m0 polls q0 2 : took 2 6";
+    agree(rt, &mut world, story);
     world.end();
     Ok(is_refused)
 }

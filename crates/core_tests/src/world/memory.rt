@@ -1,15 +1,11 @@
 //! Worlds whose memory runs out.
 
-use super::{CONFIG, do_steps};
-use crate::rows::{
-    END_CLEAR, END_MARK, END_MOVE, END_SWEEP, PUT, RELEASE, SELECT, adopt, begin, clear,
-    clear_next, cleared, close, copy, drop_slot, get, hands, load, move_next, moved, new, nos,
-    object, outs, own, poll, polls, refers_to, refused, scan, scanned, store, sweep, took, unhook,
-    weak, worker_puts, worker_puts_all, worker_releases,
-};
+use super::CONFIG;
+use crate::rows::outs;
 use crate::scarce::MOST;
+use crate::steps::{M, Steps, Told, agree, is_row, make_in, step_in};
 use rationed::Rationed;
-use ref_base::{Config, Done, Fault, QueueNo, Reply, Row, Step, WorkerNo};
+use ref_base::{Actor, Config, Done, Fault, Reply, Row, Step, WorkerNo};
 use ref_world::{Trace, World, run};
 use std::alloc::{AllocError, Allocator, Global};
 use std::process::Abort;
@@ -21,34 +17,28 @@ const TWO_QUEUES: Config = Config {
     ..CONFIG
 };
 
-const NO_MEMORY: Reply = Reply::Refused(Fault::NoMemory);
-
-/// A notice of a batch that finds no memory.
-const WANTING: Done = Done::Refused(Fault::NoMemory);
-
 /// Reference 2 is in the hand of mutator 0.
-fn in_hand() -> [(Step, Reply); 3] {
-    [
-        (new(0, 0), object(1)),
-        (weak(1, 0, 0), object(2)),
-        (unhook(1), own(2, 0)),
-    ]
-}
+const IN_HAND: &'static str =
+    "m0 new s0 0 : object 1; m0 weak s1 s0 q0 0 : object 2; m0 unhook s1 : notice 2 q0 own";
 
-/// The steps of a story.
-fn steps_of<A: Allocator>(alloc: A, story: &[(Step, Reply)]) -> Result<Vec<Step, A>, AllocError> {
-    let mut steps = Vec::with_capacity(alloc, story.len())?;
-    for &(step, _reply) in story {
-        steps.push(step)?;
+/// The steps of a story of one line.
+fn steps_of<A: Allocator>(
+    rt: &impl Abort,
+    alloc: A,
+    story: &str,
+) -> Result<Vec<Step, A>, AllocError> {
+    let mut steps = Vec::new(alloc);
+    for row in story.split(';') {
+        steps.push(step_in(rt, row.trim()))?;
     }
     Ok(steps)
 }
 
-/// These rows are a story's, one for each of its steps.
-fn are_rows(rt: &impl Abort, rows: &[Row], story: &[(Step, Reply)]) {
-    assert_eq!(rt; rows.len(), story.len(), "so many rows");
-    for (place, &(step, reply)) in story.iter().enumerate() {
-        assert_eq!(rt; rows.get(place), Some(&Row { step, reply }), "row {place}");
+/// These rows are a story's of one line, one for each of its steps.
+fn are_rows(rt: &impl Abort, rows: &[Row], story: &str) {
+    assert!(rt; rows.len() == story.split(';').count(), "so many rows");
+    for (row, text) in rows.iter().zip(story.split(';')) {
+        is_row(rt, row.step, row.reply, text.trim());
     }
 }
 
@@ -58,28 +48,28 @@ fn is_run_refused(
     rt: &impl Abort,
     memory: &Rationed<Global>,
     met: u64,
-    asked: &[(Step, Reply)],
+    story: &str,
 ) -> Result<bool, Fail> {
-    let steps = steps_of(memory, asked)?;
+    let steps = steps_of(rt, memory, story)?;
     let world = World::new(memory, CONFIG)?;
     let call = "run";
     memory.ration(met);
     match run(memory, world, steps) {
         Ok(Trace { rows, world }) => {
             assert!(rt; !memory.lift(), "{call} answers in place of the error");
-            are_rows(rt, &rows, asked);
+            are_rows(rt, &rows, story);
             world.end();
             Ok(false)
         }
         Err((fault, mut world, steps)) => {
             assert!(rt; memory.lift(), "{call} found memory");
             assert!(rt; fault == Fault::NoMemory);
-            assert!(rt; steps.len() == asked.len());
-            for (place, &(want, _reply)) in asked.iter().enumerate() {
-                assert!(rt; steps.get(place) == Some(&want), "place {place}");
+            assert!(rt; steps.len() == story.split(';').count(), "so many steps");
+            for (step, row) in steps.iter().zip(story.split(';')) {
+                assert!(rt; *step == step_in(rt, row.trim()), "{row}");
             }
             // Each step is answered as in a new world.
-            do_steps(rt, &mut world, asked);
+            agree(rt, &mut world, story);
             world.end();
             Ok(true)
         }
@@ -91,7 +81,7 @@ fn a_run_without_room_gives_world_and_steps_back(rt: HostRuntime) -> Result<(), 
     let memory = Rationed::new(rt.alloc());
     let mut requests = 0;
     for met in 0..MOST {
-        if !is_run_refused(&rt, &memory, met, &in_hand())? {
+        if !is_run_refused(&rt, &memory, met, IN_HAND)? {
             break;
         }
         requests = met + 1;
@@ -100,44 +90,36 @@ fn a_run_without_room_gives_world_and_steps_back(rt: HostRuntime) -> Result<(), 
     Ok(())
 }
 
-/// A notice that finds no memory stays in the hand.
-fn still_in_hand() -> [(Step, Reply); 3] {
-    [
-        (unhook(2), refused(Fault::HandFull)),
-        (poll(0), refused(Fault::HandFull)),
-        (unhook(1), refused(Fault::HandFull)),
-    ]
-}
-
 #[test]
 fn a_put_without_memory_leaves_its_notice_in_the_hand(rt: HostRuntime) -> Result<(), Fail> {
     let memory = Rationed::new(rt.alloc());
     let mut world = World::new(&memory, CONFIG)?;
-    do_steps(&rt, &mut world, &in_hand());
+    agree(&rt, &mut world, IN_HAND);
+    let put = Step::Put {
+        actor: Actor::Mutator(M),
+    };
     let mut requests = 0;
     for met in 0..MOST {
         memory.ration(met);
-        let reply = world.step(PUT);
+        let reply = world.step(put);
         if !memory.lift() {
-            assert!(rt;
-                reply == Reply::Added(0),
-                "World::step with {met} requests met"
-            );
+            is_row(&rt, put, reply, "m0 put : added 0");
             break;
         }
-        assert!(rt; reply == NO_MEMORY, "World::step with {met} requests met");
-        do_steps(&rt, &mut world, &still_in_hand());
+        is_row(&rt, put, reply, "m0 put : refused 3 NoMemory");
+        // It stays in the hand.
+        let story = "
+            m0 unhook s2 : refused 23 HandFull; m0 poll q0 : refused 23 HandFull
+            m0 unhook s1 : refused 23 HandFull";
+        agree(&rt, &mut world, story);
         requests = met + 1;
     }
     assert!(rt;
         1 < requests && requests < MOST,
         "a put makes {requests} requests"
     );
-    do_steps(
-        &rt,
-        &mut world,
-        &[(poll(0), took(2)), (adopt(3), object(2))],
-    );
+    let story = "m0 poll q0 : took 2; m0 adopt s3 : object 2";
+    agree(&rt, &mut world, story);
     world.end();
     Ok(())
 }
@@ -147,78 +129,19 @@ fn a_put_without_memory_leaves_its_notice_in_the_hand(rt: HostRuntime) -> Result
 fn a_refused_put_succeeds_once_there_is_memory(rt: HostRuntime) -> Result<(), Fail> {
     let memory = Rationed::new(rt.alloc());
     let mut world = World::new(&memory, CONFIG)?;
-    let enqueued = [
-        (new(0, 0), object(1)),
-        (weak(1, 0, 0), object(2)),
-        (weak(2, 0, 0), object(3)),
-        (unhook(1), own(2, 0)),
-    ];
-    do_steps(&rt, &mut world, &enqueued);
+    let enqueued = "
+        m0 new s0 0 : object 1; m0 weak s1 s0 q0 0 : object 2; m0 weak s2 s0 q0 0 : object 3
+        m0 unhook s1 : notice 2 q0 own";
+    agree(&rt, &mut world, enqueued);
     memory.ration(0);
-    do_steps(&rt, &mut world, &[(PUT, NO_MEMORY)]);
+    agree(&rt, &mut world, "m0 put : refused 3 NoMemory");
     assert!(rt; memory.lift(), "a request was refused");
-    let rest = [
-        (unhook(2), refused(Fault::HandFull)),
-        (PUT, Reply::Added(0)),
-        (poll(0), took(2)),
-        (RELEASE, Reply::Done),
-        (poll(0), Reply::Empty),
-        (RELEASE, refused(Fault::HandEmpty)),
-        (poll(0), Reply::Empty),
-    ];
-    do_steps(&rt, &mut world, &rest);
+    let rest = "
+        m0 unhook s2 : refused 23 HandFull; m0 put : added 0; m0 poll q0 : took 2; m0 release : ok
+        m0 poll q0 : empty; m0 release : refused 24 HandEmpty; m0 poll q0 : empty";
+    agree(&rt, &mut world, rest);
     world.end();
     Ok(())
-}
-
-/// The notice of reference 6, alone.
-fn of_6() -> Reply {
-    Reply::Notices {
-        objects: nos(&[6]),
-        queue: QueueNo(1),
-        cycle: 1,
-        worker: WorkerNo(0),
-    }
-}
-
-/// Each step once, behind `in_hand` and a put of reference 2. Nothing was ever put into queue 1.
-fn each_step() -> [(Step, Reply); 34] {
-    [
-        (new(2, 8), object(3)),
-        (store(2, 7, 0), Reply::Done),
-        (load(3, 2, 7), object(1)),
-        (copy(4, 2), object(3)),
-        (drop_slot(4), Reply::Done),
-        (weak(4, 2, 1), object(4)),
-        (get(5, 4), object(3)),
-        (refers_to(4, 5), Reply::Refers(true)),
-        (unhook(4), own(4, 1)),
-        (PUT, NO_MEMORY),
-        (adopt(6), object(4)),
-        (poll(0), took(2)),
-        (PUT, Reply::Already),
-        (RELEASE, Reply::Done),
-        (clear(4), Reply::Done),
-        (new(7, 0), object(5)),
-        (weak(8, 7, 1), object(6)),
-        (drop_slot(7), Reply::Done),
-        (begin(5), Reply::Cycle(1)),
-        (scan(0), scanned(1)),
-        (scan(0), scanned(2)),
-        (scan(0), scanned(3)),
-        (scan(0), scanned(4)),
-        (scan(0), scanned(6)),
-        (END_MARK, Reply::Doomed(1)),
-        (clear_next(0), cleared(6)),
-        (END_CLEAR, Reply::Done),
-        (sweep(0), Reply::Swept(1)),
-        (END_SWEEP, Reply::Done),
-        (hands(0, 32), of_6()),
-        (worker_puts_all(0), outs(0, &[WANTING])),
-        (worker_puts(0), NO_MEMORY),
-        (polls(1, 32), Reply::Empty),
-        (worker_releases(0), Reply::Done),
-    ]
 }
 
 /// Cells that fill two pages: so there are four.
@@ -229,86 +152,93 @@ const TWO_PAGES: Config = Config {
 
 /// Objects move twice, in a world with object 1 in slot 0 and 65, the first of the second page, in slot 1, where the 63
 /// between are garbage.
-fn moves() -> [(Step, Reply); 32] {
-    [
-        (weak(2, 1, 0), object(66)),
-        (store(0, 0, 2), Reply::Done),
-        // There is no other page but one with few objects.
-        (SELECT, refused(Fault::NoRoom)),
-        (begin(0), Reply::Cycle(1)),
-        (scan(0), scanned(1)),
-        (scan(0), scanned(65)),
-        (scan(0), scanned(66)),
-        (END_MARK, Reply::Doomed(63)),
-        (END_CLEAR, Reply::Done),
-        (sweep(0), Reply::Swept(63)),
-        (END_SWEEP, Reply::Done),
-        (SELECT, Reply::Selected(3)),
-        // These two move what they answer.
-        (get(3, 2), object(65)),
-        (load(4, 0, 0), object(66)),
-        (END_MOVE, refused(Fault::MovesLeft)),
-        (move_next(0), moved(1)),
-        (move_next(0), Reply::Nothing),
-        (END_MOVE, Reply::Done),
-        (SELECT, refused(Fault::WrongPhase)),
-        // The next cycle heals all words, and opens the pages that were left.
-        (begin(0), Reply::Cycle(2)),
-        (scan(0), scanned(1)),
-        (scan(0), scanned(65)),
-        (scan(0), scanned(66)),
-        (END_MARK, Reply::Doomed(0)),
-        (END_CLEAR, Reply::Done),
-        (END_SWEEP, Reply::Done),
-        (SELECT, refused(Fault::NoRoom)),
-        (move_next(0), refused(Fault::WrongPhase)),
-        (END_MOVE, refused(Fault::WrongPhase)),
-        (new(5, 0), object(67)),
-        (load(6, 0, 0), object(66)),
-        (get(7, 6), object(65)),
-    ]
-}
+const MOVES: &'static str = "
+    m0 weak s2 s1 q0 0 : object 66; m0 store s0 0 s2 : ok
+    # There is no other page but one with few objects.
+    select : refused 18 NoRoom; begin 0 normal : cycle 1; w0 scan : scanned 1; w0 scan : scanned 65
+    w0 scan : scanned 66; endmark : doomed 63; endclear : ok; w0 sweep : swept 63; endsweep : ok
+    select : selected 3
+    # These two move what they answer.
+    m0 get s3 s2 : object 65; m0 load s4 s0 0 : object 66; endmove : refused 17 MovesLeft
+    w0 move : moved 1; w0 move : none; endmove : ok; select : refused 12 WrongPhase
+    # The next cycle heals all words, and opens the pages that were left.
+    begin 0 normal : cycle 2; w0 scan : scanned 1; w0 scan : scanned 65; w0 scan : scanned 66
+    endmark : doomed 0; endclear : ok; endsweep : ok; select : refused 18 NoRoom
+    w0 move : refused 12 WrongPhase; endmove : refused 12 WrongPhase; m0 new s5 0 : object 67
+    m0 load s6 s0 0 : object 66; m0 get s7 s6 : object 65";
 
 #[test]
 fn no_step_takes_memory_while_objects_move(rt: HostRuntime) -> Result<(), Fail> {
     let memory = Rationed::new(rt.alloc());
     let mut world = World::new(&memory, TWO_PAGES)?;
     memory.ration(0);
-    do_steps(&rt, &mut world, &[(new(0, 1), object(1))]);
-    for no in 2..=65 {
-        do_steps(&rt, &mut world, &[(new(1, 0), object(no))]);
-    }
-    do_steps(&rt, &mut world, &moves());
+    agree(&rt, &mut world, "m0 new s0 1 : object 1");
+    make_in(&rt, &mut world, 1, 2..66);
+    agree(&rt, &mut world, MOVES);
     assert!(rt; !memory.lift(), "no request is refused");
     world.end();
     Ok(())
 }
 
 /// The reply to a step, which is asked in fewer bytes where it is of the heap alone.
-fn asked<A: Allocator + Copy>(world: &mut World<A>, step: Step) -> Reply {
+fn replied<A: Allocator + Copy>(world: &mut World<A>, step: Step) -> Reply {
     match step {
         Step::Plain(step) => world.ask(step).reply(),
         step => world.step(step),
     }
 }
 
-/// The rows of `each_step` are so with no memory, where each step is done, and where it is asked.
+/// A world whose steps are done, or asked in fewer bytes where they are of the heap alone.
+struct Asked<A: Allocator + Copy> {
+    world: World<A>,
+    is_asked: bool,
+}
+
+impl<A: Allocator + Copy> Steps for Asked<A> {
+    fn step(&mut self, step: Step) -> Told {
+        if self.is_asked {
+            Told::Reply(replied(&mut self.world, step))
+        } else {
+            Told::Reply(World::step(&mut self.world, step))
+        }
+    }
+}
+
+/// Each step once, behind `IN_HAND` and a put of reference 2, but for a put of a batch. Nothing was ever put into queue
+/// 1.
+const EACH_STEP: &'static str = "
+    m0 new s2 8 : object 3; m0 store s2 7 s0 : ok; m0 load s3 s2 7 : object 1; m0 copy s4 s2 : object 3
+    m0 drop s4 : ok; m0 weak s4 s2 q1 0 : object 4; m0 get s5 s4 : object 3; m0 refers s4 s5 : true
+    m0 unhook s4 : notice 4 q1 own; m0 put : refused 3 NoMemory; m0 adopt s6 : object 4
+    m0 poll q0 : took 2; m0 put : already; m0 release : ok; m0 clear s4 : ok; m0 new s7 0 : object 5
+    m0 weak s8 s7 q1 0 : object 6; m0 drop s7 : ok; begin 5 normal : cycle 1; w0 scan : scanned 1
+    w0 scan : scanned 2; w0 scan : scanned 3; w0 scan : scanned 4; w0 scan : scanned 6; endmark : doomed 1
+    w0 clearnext : cleared 6; endclear : ok; w0 sweep : swept 1; endsweep : ok
+    w0 hands 32 : notices 6 q1 cycle 1 w0";
+
+/// Its rows are so with no memory, where each step is done, and where it is asked.
 fn take_no_memory(rt: &impl Abort, alloc: Global, is_asked: bool) -> Result<(), Fail> {
     let memory = Rationed::new(alloc);
-    let mut world = World::new(&memory, TWO_QUEUES)?;
-    do_steps(rt, &mut world, &in_hand());
-    do_steps(rt, &mut world, &[(PUT, Reply::Added(0))]);
+    let world = World::new(&memory, TWO_QUEUES)?;
+    let mut asked = Asked { world, is_asked };
+    agree(rt, &mut asked, IN_HAND);
+    agree(rt, &mut asked, "m0 put : added 0");
     memory.ration(0);
-    for (row, &(step, want)) in each_step().iter().enumerate() {
-        let reply = if is_asked {
-            asked(&mut world, step)
-        } else {
-            world.step(step)
-        };
-        assert_eq!(rt; reply, want, "row {row}: {step}");
-    }
-    let closed = [(close(0), Reply::Done), (poll(0), Reply::Closed)];
-    do_steps(rt, &mut world, &closed);
+    agree(rt, &mut asked, EACH_STEP);
+    let puts = Step::Puts {
+        actor: Actor::Worker(WorkerNo(0)),
+    };
+    let wanting = outs(0, &[Done::Refused(Fault::NoMemory)]);
+    let reply = replied(&mut asked.world, puts);
+    assert!(rt; reply == wanting, "{puts}");
+    let rest = "
+        w0 put : refused 3 NoMemory; m0 polls q1 32 : empty; w0 release : ok
+        m0 close q0 : ok; m0 poll q0 : closed";
+    agree(rt, &mut asked, rest);
+    let Asked {
+        world,
+        is_asked: _is_asked,
+    } = asked;
     world.end();
     Ok(())
 }

@@ -1,11 +1,7 @@
 //! A heap that lives longer than the numbers of its rounds last.
 
-use super::{CONFIG, do_steps};
-use crate::rows::{
-    END_CLEAR, END_MARK, END_SWEEP, SWEEP, begin, drop_slot, load, new, object, scan, scanned,
-    store,
-};
-use ref_base::Reply;
+use super::CONFIG;
+use crate::steps::{agree, agree_with};
 use ref_world::World;
 use std::test::Fail;
 
@@ -16,31 +12,17 @@ const CYCLES: u32 = 600;
 fn numbers_of_rounds_begin_anew_and_no_reply_tells_it(rt: HostRuntime) -> Result<(), Fail> {
     let mut world = World::new(rt.alloc(), CONFIG)?;
     // Object 2 is in the field of object 1, which stays in slot 0.
-    let kept = [
-        (new(0, 1), object(1)),
-        (new(1, 0), object(2)),
-        (store(0, 0, 1), Reply::Done),
-    ];
-    do_steps(&rt, &mut world, &kept);
+    let story = "m0 new s0 1 : object 1; m0 new s1 0 : object 2; m0 store s0 0 s1 : ok";
+    agree(&rt, &mut world, story);
     for cycle in 1..CYCLES + 1 {
-        let steps = [
-            // What is made in this cycle's turn dies in it.
-            (new(1, 0), object(2 + cycle)),
-            (drop_slot(1), Reply::Done),
-            (begin(u64::from(cycle)), Reply::Cycle(u64::from(cycle))),
-            // Object 2 isn't marked yet, and its word isn't healed.
-            (load(1, 0, 0), object(2)),
-            (drop_slot(1), Reply::Done),
-            (scan(0), scanned(1)),
-            (scan(0), scanned(2)),
-            (scan(0), Reply::Nothing),
-            (END_MARK, Reply::Doomed(1)),
-            (END_CLEAR, Reply::Done),
-            (SWEEP, Reply::Swept(1)),
-            (SWEEP, Reply::Nothing),
-            (END_SWEEP, Reply::Done),
-        ];
-        do_steps(&rt, &mut world, &steps);
+        // What is made in this cycle's turn dies in it.
+        let story = "m0 new s1 0 : object $; m0 drop s1 : ok; begin $ normal : cycle $";
+        agree_with(&rt, &mut world, story, &[2 + cycle, cycle, cycle]);
+        // As object 2 is loaded, it isn't marked yet, and its word isn't healed.
+        let story = "
+            m0 load s1 s0 0 : object 2; m0 drop s1 : ok; w0 scan : scanned 1; w0 scan : scanned 2; w0 scan : none
+            endmark : doomed 1; endclear : ok; w0 sweep : swept 1; w0 sweep : none; endsweep : ok";
+        agree(&rt, &mut world, story);
     }
     world.end();
     Ok(())

@@ -1,11 +1,8 @@
 //! A heap of as many cells as there may be.
 
-use super::{CONFIG, do_steps};
-use crate::rows::{
-    END_CLEAR, END_MARK, END_SWEEP, SWEEP, begin, clear_next, cleared, drop_slot, new, object,
-    refused, scan, scanned, soft,
-};
-use ref_base::{Config, Fault, Reply, SpanRule, Step};
+use super::CONFIG;
+use crate::steps::{agree, agree_with, make_in};
+use ref_base::{Config, SpanRule};
 use ref_world::World;
 use std::process::Abort;
 use std::test::Fail;
@@ -20,48 +17,30 @@ const LARGEST: Config = Config {
     ..CONFIG
 };
 
-/// The steps of a cycle that begins at this clock, in which objects 2 and 65,536, which slots hold, and then object 1,
-/// which soft reference 2 keeps, are all that is reached.
-const fn keeping(now: u64, cycle: u64) -> [(Step, Reply); 5] {
-    [
-        (begin(now), Reply::Cycle(cycle)),
-        (scan(0), scanned(2)),
-        (scan(0), scanned(CELLS)),
-        (scan(0), scanned(1)),
-        (scan(0), Reply::Nothing),
-    ]
+/// A cycle that begins at this clock, in which objects 2 and 65,536, which slots hold, and then object 1, which soft
+/// reference 2 keeps, are all that is reached.
+fn keep(rt: &impl Abort, world: &mut World, now: u32, cycle: u32) {
+    agree_with(rt, world, "begin $ normal : cycle $", &[now, cycle]);
+    let story = "w0 scan : scanned 2; w0 scan : scanned 65536; w0 scan : scanned 1; w0 scan : none";
+    agree(rt, world, story);
 }
 
 /// Fills the heap: object 1 is in no slot then, soft reference 2 to it in slot 1, and the last object in slot 2.
 fn fill(rt: &impl Abort, world: &mut World) {
-    let first = [(new(0, 0), object(1)), (soft(1, 0, 0), object(2))];
-    do_steps(rt, world, &first);
-    for no in 3..CELLS + 1 {
-        do_steps(rt, world, &[(new(2, 0), object(no))]);
-    }
-    let full = [
-        (new(3, 0), refused(Fault::NoCell)),
-        (drop_slot(0), Reply::Done),
-    ];
-    do_steps(rt, world, &full);
+    let story = "m0 new s0 0 : object 1; m0 soft s1 s0 q0 0 : object 2";
+    agree(rt, world, story);
+    make_in(rt, world, 2, 3..CELLS + 1);
+    agree(rt, world, "m0 new s3 0 : refused 4 NoCell; m0 drop s0 : ok");
 }
 
 /// Ends the mark, which dooms all but three objects, and the cycle.
 fn free(rt: &impl Abort, world: &mut World) {
-    let dead = [
-        (END_MARK, Reply::Doomed(CELLS - 3)),
-        (END_CLEAR, Reply::Done),
-    ];
-    do_steps(rt, world, &dead);
+    agree(rt, world, "endmark : doomed 65533; endclear : ok");
     for _turn in 0..1_023 {
-        do_steps(rt, world, &[(SWEEP, Reply::Swept(64))]);
+        agree(rt, world, "w0 sweep : swept 64");
     }
-    let swept = [
-        (SWEEP, Reply::Swept(61)),
-        (SWEEP, Reply::Nothing),
-        (END_SWEEP, Reply::Done),
-    ];
-    do_steps(rt, world, &swept);
+    let story = "w0 sweep : swept 61; w0 sweep : none; endsweep : ok";
+    agree(rt, world, story);
 }
 
 #[test]
@@ -69,25 +48,16 @@ fn a_heap_of_65536_cells_fills_and_is_swept(rt: HostRuntime) -> Result<(), Fail>
     let mut world = World::new(rt.alloc(), LARGEST)?;
     fill(&rt, &mut world);
     // Nothing is free, so that the span is none; but no time has passed.
-    do_steps(&rt, &mut world, &keeping(0, 1));
+    keep(&rt, &mut world, 0, 1);
     free(&rt, &mut world);
     // All but three cells are free, and the span is less by three.
-    do_steps(&rt, &mut world, &keeping(65_533, 2));
-    let none_dead = [
-        (END_MARK, Reply::Doomed(0)),
-        (END_CLEAR, Reply::Done),
-        (END_SWEEP, Reply::Done),
-    ];
-    do_steps(&rt, &mut world, &none_dead);
-    let past = [
-        (begin(65_534), Reply::Cycle(3)),
-        (scan(0), scanned(2)),
-        (scan(0), scanned(CELLS)),
-        (scan(0), Reply::Nothing),
-        (END_MARK, Reply::Doomed(1)),
-        (clear_next(0), cleared(2)),
-    ];
-    do_steps(&rt, &mut world, &past);
+    keep(&rt, &mut world, 65_533, 2);
+    let story = "endmark : doomed 0; endclear : ok; endsweep : ok";
+    agree(&rt, &mut world, story);
+    let past = "
+        begin 65534 normal : cycle 3; w0 scan : scanned 2; w0 scan : scanned 65536; w0 scan : none
+        endmark : doomed 1; w0 clearnext : cleared 2";
+    agree(&rt, &mut world, past);
     world.end();
     Ok(())
 }

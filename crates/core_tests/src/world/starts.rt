@@ -1,12 +1,9 @@
 //! Worlds whose numbers begin elsewhere than at one.
 
-use super::{CONFIG, do_steps};
-use crate::rows::{
-    begin, clear_next, cleared, drop_slot, hand, new, object, of_cycle, poll, refused, scan,
-    scanned, took, weak, worker_puts,
-};
+use super::CONFIG;
+use crate::steps::agree;
 use rationed::Rationed;
-use ref_base::{Config, Fault, PlainStep, Reply, Step};
+use ref_base::{Config, Fault};
 use ref_objects::Start;
 use ref_world::World;
 use std::alloc::Allocator;
@@ -60,27 +57,19 @@ fn a_start_is_refused_before_memory_is_taken(rt: HostRuntime) {
 
 #[test]
 fn objects_and_cycles_are_numbered_from_the_start_on(rt: HostRuntime) -> Result<(), Fail> {
-    let story = [
-        (new(0, 0), object(u32::MAX - 1)),
-        (weak(1, 0, 0), object(u32::MAX)),
-        (new(2, 0), refused(Fault::NumbersSpent)),
-        (drop_slot(0), Reply::Done),
-        (begin(5), Reply::Cycle(u64::MAX)),
-        (scan(0), scanned(u32::MAX)),
-        (Step::Plain(PlainStep::EndMark), Reply::Doomed(1)),
-        (clear_next(0), cleared(u32::MAX)),
-        (Step::Plain(PlainStep::EndClear), Reply::Done),
-        (hand(0), of_cycle(u32::MAX, u64::MAX, 0)),
-        (worker_puts(0), Reply::Added(0)),
-        (poll(0), took(u32::MAX)),
-    ];
+    let story = "
+        m0 new s0 0 : object 4294967294; m0 weak s1 s0 q0 0 : object 4294967295
+        m0 new s2 0 : refused 5 NumbersSpent; m0 drop s0 : ok; begin 5 normal : cycle 18446744073709551615
+        w0 scan : scanned 4294967295; endmark : doomed 1; w0 clearnext : cleared 4294967295; endclear : ok
+        w0 hand : notice 4294967295 q0 cycle 18446744073709551615 w0; w0 put : added 0
+        m0 poll q0 : took 4294967295";
     let start = Start {
         obj: u32::MAX - 1,
         cycle: u64::MAX - 1,
         page: 9,
     };
     let mut world = World::starting(rt.alloc(), CONFIG, start)?;
-    do_steps(&rt, &mut world, &story);
+    agree(&rt, &mut world, story);
     world.end();
     Ok(())
 }

@@ -5,8 +5,9 @@ ghost use Rattle.ref_share.specs.HeapSeats.{IsHeapSeat};
 ghost use Rattle.ref_share.specs.QueueSeats.{IsQueueSeat};
 ghost use Rattle.std.specs.Prelude.{◌≡◌, ◌+◌, ◌<◌, ◌^◌};
 
+use super::rows::{BREAKS, call_of, is_comment, parts_of};
 use super::told::expect;
-use super::{Q, Row, STARTS, Starts, start};
+use super::{Q, STARTS, Starts, start};
 use acts::{Chair, Shared, told_of_call};
 use hearing::Hearing;
 use ref_objects::Hold;
@@ -35,14 +36,14 @@ struct Story<'a> {
     first: u64,
     /// The jobs, in the order in which they are registered.
     jobs: &'a [u32],
-    calls: &'a [Row<'a>],
+    calls: &'a str,
     /// What a third thread does while two run the jobs of what is gone. Where it is nothing, there are no such threads.
-    meanwhile: &'a [Row<'a>],
+    meanwhile: &'a str,
     /// What it does then, while job 1 waits for it.
-    held: &'a [Row<'a>],
+    held: &'a str,
     /// How many jobs the two run.
     count: u64,
-    then: &'a [Row<'a>],
+    then: &'a str,
     /// How often those who run the jobs of what is gone ran job 1, and job 2.
     heard: (u64, u64),
     /// How many actions were called in all.
@@ -52,16 +53,16 @@ struct Story<'a> {
 }
 
 /// These calls, without a job.
-fn story_of<'a>(calls: &'a [Row<'a>]) -> Story<'a> {
+fn story_of<'a>(calls: &'a str) -> Story<'a> {
     Story {
         heap_first: 0,
         first: 0,
         jobs: &[],
         calls,
-        meanwhile: &[],
-        held: &[],
+        meanwhile: "",
+        held: "",
         count: 0,
-        then: &[],
+        then: "",
         heard: (0, 0),
         called: 0,
         left: 0,
@@ -75,7 +76,7 @@ fn do_all<R: Wait + Abort>(
     chair: &mut Chair,
     jobs: &mut VecDeque<Job>,
     hearing: &Hearing,
-    calls: &[Row],
+    calls: &str,
 )
     requires { IsHeapSeat shared.heap.now chair.old.seats.heap
         × IsQueueSeat shared.queue.now chair.old.seats.queue
@@ -84,43 +85,16 @@ fn do_all<R: Wait + Abort>(
         × IsQueueSeat shared.entry.queue.now chair.new.seats.queue
         × IsCleanSeat shared.entry.cleaner.now chair.new.cleaner }
 {
-    for (row, &(call, want)) in calls.iter().enumerate() {
-        let told = told_of_call(rt, shared, chair, jobs, hearing, call);
-        expect(rt, chair.seats.alloc, row, told, want);
+    for row in calls.split(BREAKS) {
+        if !is_comment(row) {
+            let (call, want) = parts_of(row);
+            let told = told_of_call(rt, shared, chair, jobs, hearing, call_of(rt, call));
+            expect(rt, chair.seats.alloc, told, want, row);
+        }
     }
 }
 
 impl<'a> Story<'a> {
-    /// The heap's first ticket.
-    fn heap_from(self, heap_first: u64) -> Story<'a> {
-        Story { heap_first, ..self }
-    }
-
-    /// The cleaner's first ticket.
-    fn cleaner_from(self, first: u64) -> Story<'a> {
-        Story { first, ..self }
-    }
-
-    /// The jobs, in the order in which they are registered.
-    fn with_jobs(self, jobs: &'a [u32]) -> Story<'a> {
-        Story { jobs, ..self }
-    }
-
-    /// How often those who run the jobs of what is gone ran job 1, and job 2.
-    fn hears(self, first: u64, second: u64) -> Story<'a> {
-        let heard = (first, second);
-        Story { heard, ..self }
-    }
-
-    /// How many actions were called in all, and how many jobs are registered in the end.
-    fn ends(self, called: u64, left: u64) -> Story<'a> {
-        Story {
-            called,
-            left,
-            ..self
-        }
-    }
-
     /// Tells the story, whose jobs count how often their actions are called, and looks what is left then.
     fn agree<R: Threads + Wait + Abort + Sync>(&self, rt: &R, alloc: Global) -> Result<(), Fail> {
         let called = Arc::new(alloc, AtomicU64::new(0))?;
@@ -133,6 +107,29 @@ impl<'a> Story<'a> {
         assert!(rt; left == self.left, "jobs registered in the end");
         Ok(())
     }
+}
+
+/// Tells a story of one thread, from these first tickets of the heap and of the cleaner on, with these jobs. How often
+/// those who run the jobs of what is gone ran job 1 and job 2, how many actions were called in all, and how many jobs
+/// are registered in the end.
+fn agree<R: Threads + Wait + Abort + Sync>(
+    rt: &R,
+    alloc: Global,
+    (heap_first, first): (u64, u64),
+    jobs: &[u32],
+    calls: &str,
+    (heard, called, left): ((u64, u64), u64, u64),
+) -> Result<(), Fail> {
+    let story = Story {
+        heap_first,
+        first,
+        jobs,
+        heard,
+        called,
+        left,
+        ..story_of(calls)
+    };
+    story.agree(rt, alloc)
 }
 
 /// The story with these jobs.

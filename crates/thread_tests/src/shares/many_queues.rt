@@ -6,10 +6,10 @@ ghost use Rattle.ref_share.specs.QueueSeats.{IsQueueSeat};
 ghost use Rattle.thread_tests.specs.QueueLists.{AreSeated};
 
 use super::calls::{sent, stepped};
-use super::rows::{BEGIN, CLEAR_NEXT, END_CLEAR, END_MARK, SCAN, Sending, new, weak_for};
+use super::rows::{Sending, new, weak};
 use super::told::expect;
-use super::{CONFIG, new_batch};
-use ref_base::{Config, HeapStep, ObjNo, PlainStep, QueueNo, Reply};
+use super::{CONFIG, W, new_batch};
+use ref_base::{Config, HeapStep, ObjNo, PlainStep, QueueNo, Reply, Urgency};
 use ref_share::{HeapSeat, QueueSeat, SharedHeap, SharedQueue, end_queue};
 use std::alloc::{AllocFailed, Global};
 use std::process::Abort;
@@ -107,7 +107,7 @@ pub fn make_references<R: Abort>(rt: &R, heap: &SharedHeap, seat: &mut HeapSeat,
 {
     tell(rt, heap, seat, new(0), Reply::Object(ObjNo(1)));
     for queue in 0..queues {
-        let step = weak_for(slot_of(queue, queues), 0, queue);
+        let step = weak(slot_of(queue, queues), queue);
         tell(rt, heap, seat, step, Reply::Object(ObjNo(queue + 2)));
     }
 }
@@ -135,28 +135,33 @@ pub fn find_dead<R: Abort>(rt: &R, heap: &SharedHeap, seat: &mut HeapSeat, queue
     requires queues { 0 < queues × queues ≤ 16 }
     ensures { IsHeapSeat heap.now seat.new }
 {
-    tell(rt, heap, seat, BEGIN, Reply::Cycle(1));
+    let (now, urgency) = (5, Urgency::Normal);
+    let begin = PlainStep::Begin { now, urgency };
+    tell(rt, heap, seat, begin, Reply::Cycle(1));
     for place in 0..queues {
+        let no = ObjNo(queue_at(place, queues) + 2);
         tell(
             rt,
             heap,
             seat,
-            SCAN,
-            Reply::Scanned(ObjNo(queue_at(place, queues) + 2)),
+            PlainStep::Scan { worker: W },
+            Reply::Scanned(no),
         );
     }
-    tell(rt, heap, seat, SCAN, Reply::Nothing);
-    tell(rt, heap, seat, END_MARK, Reply::Doomed(1));
+    tell(
+        rt,
+        heap,
+        seat,
+        PlainStep::Scan { worker: W },
+        Reply::Nothing,
+    );
+    tell(rt, heap, seat, PlainStep::EndMark, Reply::Doomed(1));
     for place in 0..queues {
-        tell(
-            rt,
-            heap,
-            seat,
-            CLEAR_NEXT,
-            Reply::Cleared(ObjNo(queue_at(place, queues) + 2)),
-        );
+        let no = ObjNo(queue_at(place, queues) + 2);
+        let clear = PlainStep::ClearNext { worker: W };
+        tell(rt, heap, seat, clear, Reply::Cleared(no));
     }
-    tell(rt, heap, seat, END_CLEAR, Reply::Done);
+    tell(rt, heap, seat, PlainStep::EndClear, Reply::Done);
 }
 
 /// The queue whose reference is the one at this place in the order of slots.
@@ -188,7 +193,7 @@ fn send<R: Wait + Abort>(
         sending,
         batch,
     );
-    expect(rt, lists.alloc, 0, told, want);
+    expect(rt, lists.alloc, told, want, "sent");
 }
 
 /// A configuration with this many queues.

@@ -6,12 +6,9 @@ ghost use Rattle.ref_share.specs.QueueSeats.{IsQueueSeat};
 
 use super::calls::{answer, refusal, sent_to};
 use super::cleaners::adding;
-use super::rows::{
-    BEGIN, CLEAR_NEXT, Call, DELIVER, DELIVER_ALL, END_CLEAR, END_MARK, POLL, SCAN, deliver_batch,
-    drop_slot, enqueue, new, step, weak,
-};
+use super::rows::{Call, call_of, new};
 use super::told::{Told, Word, counted, expect};
-use super::{CONFIG, M, Q, Row, STARTS, Seats, death, make_calls, new_batch, start};
+use super::{CONFIG, DEATH, M, Q, STARTS, Seats, make_calls, new_batch, start};
 use rationed::Rationed;
 use ref_base::{Fault, SlotNo};
 use ref_queue::Job;
@@ -111,10 +108,9 @@ type Answers = [&'static str; 3];
 
 #[derive(Drop)]
 struct Trial<'a> {
-    name: &'static str,
-    death: &'a [Row<'a>],
-    call: Call,
-    next: Call,
+    death: &'static str,
+    call: &'static str,
+    next: &'static str,
     /// The answers where no request is refused.
     done: Answers,
     /// Those that there may be where the first call has one refused: in each more stands than in those before.
@@ -158,10 +154,10 @@ fn told_on<'a, R: Wait + Abort>(
     ensures { IsHeapSeat heap.now seats.new.heap × IsQueueSeat queue.now seats.new.queue }
 {
     make_calls(rt, heap, queue, seats, trial.death);
-    let first = told_first(rt, heap, queue, seats, trial.call, met);
+    let first = told_first(rt, heap, queue, seats, call_of(rt, trial.call), met);
     let was_refused = seats.alloc.lift();
-    let next = answer(rt, heap, queue, seats, trial.next);
-    let then = answer(rt, heap, queue, seats, trial.call);
+    let next = answer(rt, heap, queue, seats, call_of(rt, trial.next));
+    let then = answer(rt, heap, queue, seats, call_of(rt, trial.call));
     ([first, next, then], was_refused)
 }
 
@@ -177,7 +173,7 @@ fn place_of(rt: &impl Abort, alloc: &Rationed<Global>, trial: &Trial, told: &[To
             return place;
         }
     }
-    let (name, first, next, then) = (trial.name, told[0], told[1], told[2]);
+    let (name, first, next, then) = (trial.call, told[0], told[1], told[2]);
     panic!(rt; "{name} is told {first}, the next {next}, and then {then}")
 }
 
@@ -193,7 +189,7 @@ fn refuse_each<R: Wait + Abort>(
         let (told, was_refused) = told_on(rt, &heap, &queue, &mut seats, trial, met);
         end_queue(queue.finish(seats.queue));
         if !was_refused {
-            let name = trial.name;
+            let name = trial.call;
             assert!(rt;
                 are_so(memory, &told, &trial.done),
                 "{name} with {met} requests met"
@@ -206,62 +202,41 @@ fn refuse_each<R: Wait + Abort>(
     panic!(rt; "a call makes too many requests")
 }
 
-/// A call that puts in the notice of reference 2 has it come back with each request refused in turn. What it is told
-/// once more, behind a poll, where it was not refused, and where it was.
-fn comes_back<R: Wait + Abort>(
-    rt: &R,
-    memory: &Rationed<Global>,
-    name: &'static str,
-    call: Call,
-    done: &'static str,
-    (once_more, then): (&'static str, &'static str),
-) -> Result<(), Fail> {
-    let trial = Trial {
-        name,
-        death: &death(),
-        call,
-        next: POLL,
-        done: [done, "took 2", once_more],
-        refusals: &[["not put 2: NoMemory", "empty", then]],
-    };
-    refuse_each(rt, memory, &trial)?;
-    Ok(())
-}
-
 #[test]
 fn a_notice_that_finds_no_memory_comes_back(rt: HostRuntime) -> Result<(), Fail> {
-    let memory = &Rationed::new(rt.alloc());
-    let put = Call::Put(1);
-    comes_back(
-        &rt,
-        memory,
-        "SharedQueue::put",
-        put,
-        "added 0",
-        ("already", "added 0"),
-    )?;
-    let twice = ("not enqueued", "enqueued");
-    comes_back(&rt, memory, "enqueue", enqueue(1), "enqueued", twice)?;
-    // What came back is handed on no more.
-    let twice = ("delivered 3 0 1", "delivered 3 0 0");
-    comes_back(
-        &rt,
-        memory,
-        "deliver_one",
-        DELIVER,
-        "delivered 2 0 0",
-        twice,
-    )
+    // The call, its answer, that to it once more behind a poll, and that where the first was refused.
+    let table = [
+        ("put 1", "added 0", "already", "added 0"),
+        ("enqueue 1", "enqueued", "not enqueued", "enqueued"),
+        // What came back is handed on no more.
+        (
+            "deliver_one 0",
+            "delivered 2 0 0",
+            "delivered 3 0 1",
+            "delivered 3 0 0",
+        ),
+    ];
+    let memory = Rationed::new(rt.alloc());
+    for (call, done, once_more, then) in table {
+        let trial = Trial {
+            death: DEATH,
+            call,
+            next: "poll_now",
+            done: [done, "took 2", once_more],
+            refusals: &[["not put 2: NoMemory", "empty", then]],
+        };
+        refuse_each(&rt, &memory, &trial)?;
+    }
+    Ok(())
 }
 
 /// Nothing of what comes back is handed on once more.
 #[test]
 fn notices_of_a_batch_that_find_no_memory_come_back(rt: HostRuntime) -> Result<(), Fail> {
     let trial = Trial {
-        name: "deliver_batch",
-        death: &death(),
-        call: deliver_batch(32),
-        next: Call::PollBatch(32),
+        death: DEATH,
+        call: "deliver_batch 0 32",
+        next: "poll_batch 32",
         done: ["added 0, added 1 behind 0", "took 2 3", "none"],
         refusals: &[
             ["refused: NoMemory left 2 3", "empty", "none"],
@@ -273,39 +248,20 @@ fn notices_of_a_batch_that_find_no_memory_come_back(rt: HostRuntime) -> Result<(
 }
 
 /// A cycle finds object 1 dead. References 2 to 6 to it are in slots 1 to 5, and pending in this order.
-fn death_of_five() -> [Row<'static>; 21] {
-    [
-        (step(new(0)), "object 1"),
-        (step(weak(1, 0)), "object 2"),
-        (step(weak(2, 0)), "object 3"),
-        (step(weak(3, 0)), "object 4"),
-        (step(weak(4, 0)), "object 5"),
-        (step(weak(5, 0)), "object 6"),
-        (step(drop_slot(0)), "ok"),
-        (step(BEGIN), "cycle 1"),
-        (step(SCAN), "scanned 2"),
-        (step(SCAN), "scanned 3"),
-        (step(SCAN), "scanned 4"),
-        (step(SCAN), "scanned 5"),
-        (step(SCAN), "scanned 6"),
-        (step(SCAN), "none"),
-        (step(END_MARK), "doomed 1"),
-        (step(CLEAR_NEXT), "cleared 2"),
-        (step(CLEAR_NEXT), "cleared 3"),
-        (step(CLEAR_NEXT), "cleared 4"),
-        (step(CLEAR_NEXT), "cleared 5"),
-        (step(CLEAR_NEXT), "cleared 6"),
-        (step(END_CLEAR), "ok"),
-    ]
-}
+const DEATH_OF_FIVE: &'static str = "
+    m0 new s0 0 : object 1; m0 weak s1 s0 q0 0 : object 2; m0 weak s2 s0 q0 0 : object 3
+    m0 weak s3 s0 q0 0 : object 4; m0 weak s4 s0 q0 0 : object 5; m0 weak s5 s0 q0 0 : object 6
+    m0 drop s0 : ok; begin 5 normal : cycle 1; w0 scan : scanned 2; w0 scan : scanned 3
+    w0 scan : scanned 4; w0 scan : scanned 5; w0 scan : scanned 6; w0 scan : none; endmark : doomed 1
+    w0 clearnext : cleared 2; w0 clearnext : cleared 3; w0 clearnext : cleared 4; w0 clearnext : cleared 5
+    w0 clearnext : cleared 6; endclear : ok";
 
 #[test]
 fn where_memory_ends_in_the_middle_what_came_before_stands(rt: HostRuntime) -> Result<(), Fail> {
     let trial = Trial {
-        name: "deliver_all",
-        death: &death_of_five(),
-        call: DELIVER_ALL,
-        next: Call::PollBatch(32),
+        death: DEATH_OF_FIVE,
+        call: "deliver_all 0",
+        next: "poll_batch 32",
         done: ["ok", "took 2 3 4 5 6", "ok"],
         refusals: &[
             ["refused: NoMemory left 2 3 4 5 6", "empty", "ok"],
@@ -365,7 +321,7 @@ fn register_each<R: Wait + Abort>(
         } else {
             "registered 2"
         };
-        expect(rt, alloc, 0, told, want);
+        expect(rt, alloc, told, want, "register");
         if !was_refused {
             return Ok(met);
         }

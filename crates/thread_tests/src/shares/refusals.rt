@@ -1,118 +1,76 @@
 //! Why calls of a shared heap and queue are refused.
 
-use super::rows::{
-    CLOSE, Call, DELIVER, HEAP_SERVED, POLL, SERVED, Sending, WAIT, ask, drop_slot, enqueue, new,
-    step, weak, weak_alone, within,
-};
-use super::{CONFIG, death, story_of};
-use ref_base::{Config, Fault};
+use super::{CONFIG, DEATH, NOTHING, STARTS, Starts, agree, heap_from, queue_from};
+use ref_base::{Config, Fault, QueueNo};
 use ref_share::SharedHeap;
 use std::alloc::Global;
 use std::test::Fail;
 
+/// The queue has the number 1, and not that of the references.
+pub const AT_ANOTHER_QUEUE: Starts = Starts {
+    number: QueueNo(1),
+    ..STARTS
+};
+
 #[test]
 fn what_is_not_there_is_refused(rt: HostRuntime) -> Result<(), Fail> {
     // A limit of polls is from 1 to a million.
-    story_of(&[
-        (within(0), "refused: BadConfig"),
-        (within(1_000_001), "refused: BadConfig"),
-        (within(1), "timed out"),
-        (within(1_000_000), "timed out"),
-        (SERVED, "served 1000001"),
-    ])
-    .agree(&rt, rt.alloc())?;
+    let calls = "
+        remove_within 0 : refused: BadConfig; remove_within 1000001 : refused: BadConfig
+        remove_within 1 : timed out; remove_within 1000000 : timed out; served : served 1000001";
+    agree(&rt, rt.alloc(), STARTS, calls, "", NOTHING)?;
     // What the heap refuses is told.
-    story_of(&[
-        (step(new(0)), "object 1"),
-        (step(weak_alone(1, 0)), "object 2"),
-        (enqueue(1), "not enqueued"),
-        (enqueue(16), "refused: NoSuchActor"),
-        (enqueue(5), "refused: EmptySlot"),
-        (enqueue(0), "refused: NotAReference"),
-        (Call::Send(Sending::One(1)), "refused: NoSuchActor"),
-        (DELIVER, "none"),
-        (SERVED, "served 0"),
-    ])
-    .agree(&rt, rt.alloc())
+    let calls = "
+        m0 new s0 0 : object 1; m0 weak s1 s0 - 0 : object 2; enqueue 1 : not enqueued
+        enqueue 16 : refused: NoSuchActor; enqueue 5 : refused: EmptySlot; enqueue 0 : refused: NotAReference
+        deliver_one 1 : refused: NoSuchActor; deliver_one 0 : none; served : served 0";
+    agree(&rt, rt.alloc(), STARTS, calls, "", NOTHING)
 }
 
 #[test]
 fn what_no_queue_takes_comes_back(rt: HostRuntime) -> Result<(), Fail> {
-    let alloc = rt.alloc();
-    let bad_queue = "not put 2: BadQueue";
-    story_of(&death())
-        .then(&[
-            (Call::SendNowhere(Sending::Enqueue(1)), bad_queue),
-            (Call::SendNowhere(Sending::One(0)), bad_queue),
-        ])
-        .agree(&rt, alloc)?;
-    let wrong_queue = "not put 2: WrongQueue";
-    story_of(&death())
-        .then(&[
-            (Call::Put(1), wrong_queue),
-            (enqueue(1), wrong_queue),
-            (DELIVER, wrong_queue),
-        ])
-        .at_another_queue()
-        .agree(&rt, alloc)?;
-    let no_turn = "not put 2: TurnsSpent";
-    story_of(&death())
-        .then(&[
-            (Call::Put(1), no_turn),
-            (enqueue(1), no_turn),
-            (DELIVER, no_turn),
-        ])
-        .queue_from(u64::MAX)
-        .agree(&rt, alloc)
+    let calls =
+        "nowhere enqueue 1 : not put 2: BadQueue; nowhere deliver_one 0 : not put 2: BadQueue";
+    agree(&rt, rt.alloc(), STARTS, DEATH, calls, NOTHING)?;
+    let calls = "
+        put 1 : not put 2: WrongQueue; enqueue 1 : not put 2: WrongQueue
+        deliver_one 0 : not put 2: WrongQueue";
+    agree(&rt, rt.alloc(), AT_ANOTHER_QUEUE, DEATH, calls, NOTHING)?;
+    let calls = "
+        put 1 : not put 2: TurnsSpent; enqueue 1 : not put 2: TurnsSpent
+        deliver_one 0 : not put 2: TurnsSpent";
+    let starts = queue_from(u64::MAX);
+    agree(&rt, rt.alloc(), starts, DEATH, calls, NOTHING)
 }
 
 #[test]
 fn the_last_turn_is_made_once(rt: HostRuntime) -> Result<(), Fail> {
-    story_of(&[
-        (CLOSE, "was open"),
-        (CLOSE, "refused: TurnsSpent"),
-        (POLL, "refused: TurnsSpent"),
-        (within(3), "refused: TurnsSpent"),
-        (WAIT, "refused: TurnsSpent"),
-        (within(0), "refused: BadConfig"),
-        (SERVED, "served 18446744073709551615"),
-    ])
-    .queue_from(u64::MAX - 1)
-    .agree(&rt, rt.alloc())?;
-    story_of(&[
-        (step(new(0)), "object 1"),
-        (step(drop_slot(0)), "refused: TurnsSpent"),
-        (ask(drop_slot(0)), "refused: TurnsSpent"),
-        (enqueue(1), "refused: TurnsSpent"),
-        (DELIVER, "refused: TurnsSpent"),
-        (HEAP_SERVED, "served 18446744073709551615"),
-        (SERVED, "served 0"),
-    ])
-    .heap_from(u64::MAX - 1)
-    .agree(&rt, rt.alloc())
+    let calls = "
+        close : was open; close : refused: TurnsSpent; poll_now : refused: TurnsSpent
+        remove_within 3 : refused: TurnsSpent; remove_wait : refused: TurnsSpent
+        remove_within 0 : refused: BadConfig; served : served 18446744073709551615";
+    let starts = queue_from(u64::MAX - 1);
+    agree(&rt, rt.alloc(), starts, calls, "", NOTHING)?;
+    let calls = "
+        m0 new s0 0 : object 1; m0 drop s0 : refused: TurnsSpent; ask m0 drop s0 : refused: TurnsSpent
+        enqueue 1 : refused: TurnsSpent; deliver_one 0 : refused: TurnsSpent
+        heap_served : served 18446744073709551615; served : served 0";
+    let starts = heap_from(u64::MAX - 1);
+    agree(&rt, rt.alloc(), starts, calls, "", NOTHING)
 }
 
 #[test]
 fn without_a_turn_for_the_release_the_hold_comes_back(rt: HostRuntime) -> Result<(), Fail> {
     // Two objects are made, and two unhooks.
-    story_of(&[
-        (step(new(0)), "object 1"),
-        (step(weak(1, 0)), "object 2"),
-        (enqueue(1), "enqueued"),
-        (enqueue(1), "not released 2: TurnsSpent"),
-    ])
-    .heap_from(u64::MAX - 4)
-    .leaves(&[2], &[2])
-    .agree(&rt, rt.alloc())?;
+    let calls = "
+        m0 new s0 0 : object 1; m0 weak s1 s0 q0 0 : object 2; enqueue 1 : enqueued
+        enqueue 1 : not released 2: TurnsSpent";
+    let starts = heap_from(u64::MAX - 4);
+    agree(&rt, rt.alloc(), starts, calls, "", (&[2], &[2]))?;
     // Twelve turns of the cycle, an unhook and a hand.
-    story_of(&death())
-        .then(&[
-            (enqueue(1), "enqueued"),
-            (DELIVER, "not released 2: TurnsSpent"),
-        ])
-        .heap_from(u64::MAX - 14)
-        .leaves(&[2], &[2])
-        .agree(&rt, rt.alloc())
+    let calls = "enqueue 1 : enqueued; deliver_one 0 : not released 2: TurnsSpent";
+    let starts = heap_from(u64::MAX - 14);
+    agree(&rt, rt.alloc(), starts, DEATH, calls, (&[2], &[2]))
 }
 
 /// Why a heap of this configuration is not made.

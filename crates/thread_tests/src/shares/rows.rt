@@ -1,7 +1,14 @@
-//! Calls, spelled shortly. A step is that of mutator 0 or worker 0, and makes nothing with fields.
+//! The language of stories. A row is a call and its answer, apart by a colon. Rows stand in lines, or apart by
+//! semicolons, and a line that begins with `#` is a comment. A step of the heap is spelled as in a trace, and made by
+//! `try_call`. Any other call is told by its name here, with numbers behind it, of slots, workers and clocks.
 
-use super::{M, Q, W};
-use ref_base::{PlainStep, QueueNo, SlotNo, Strength, Urgency};
+use super::M;
+use ref_base::{PlainStep, QueueNo, SlotNo, Step, Strength, Urgency};
+use ref_script::{ScriptStep, step_of};
+use std::process::Abort;
+
+/// What stands between rows.
+pub const BREAKS: [char; 2] = ['\n', ';'];
 
 /// A call of a heap, of its queue, of both, or of a cleaner with them.
 #[derive(Clone, Copy)]
@@ -76,91 +83,112 @@ pub enum Cleaning {
     Served,
 }
 
-/// A normal cycle begins, at clock 5.
-pub const BEGIN: PlainStep = PlainStep::Begin {
-    now: 5,
-    urgency: Urgency::Normal,
-};
-
-pub const SCAN: PlainStep = PlainStep::Scan { worker: W };
-
-pub const END_MARK: PlainStep = PlainStep::EndMark;
-
-pub const CLEAR_NEXT: PlainStep = PlainStep::ClearNext { worker: W };
-
-pub const END_CLEAR: PlainStep = PlainStep::EndClear;
-
-pub const HEAP_SERVED: Call = Call::Heap(OfHeap::Served);
-
-pub const POLL: Call = Call::Queue(OfQueue::PollNow);
-
-pub const WAIT: Call = Call::Queue(OfQueue::Wait);
-
-pub const CLOSE: Call = Call::Queue(OfQueue::Close);
-
-pub const SERVED: Call = Call::Queue(OfQueue::Served);
-
-/// A delivery by worker 0.
-pub const DELIVER: Call = Call::Send(Sending::One(0));
-
-/// A delivery of all that is pending of worker 0.
-pub const DELIVER_ALL: Call = Call::Send(Sending::All(0));
-
-pub const CLEAN_LOOP: Call = Call::Clean(Cleaning::Loop);
-
-pub const CLEAN_SOME: Call = Call::Clean(Cleaning::Some);
-
-pub const CLEANER_SERVED: Call = Call::Clean(Cleaning::Served);
-
-/// A step by `try_call`.
-pub const fn step(step: PlainStep) -> Call {
-    Call::Heap(OfHeap::Try(step))
+/// Whether a row is a comment, or nothing.
+pub fn is_comment(row: &str) -> bool {
+    let row = row.trim();
+    row.is_empty() || row.starts_with('#')
 }
 
-pub const fn ask(step: PlainStep) -> Call {
-    Call::Heap(OfHeap::Ask(step))
+/// The call of a row and its answer.
+pub fn parts_of(row: &str) -> (&str, &str) {
+    row.trim().split_once(" : ").unwrap_or((row, ""))
 }
 
-pub const fn perform(step: PlainStep) -> Call {
-    Call::Heap(OfHeap::Perform(step))
+/// The call that a text names.
+pub fn call_of(rt: &impl Abort, text: &str) -> Call {
+    let (name, rest) = text.split_once(' ').unwrap_or((text, ""));
+    match name {
+        "poll_now" => Call::Queue(OfQueue::PollNow),
+        "remove_within" => Call::Queue(OfQueue::Within(number(rt, rest))),
+        "remove_wait" => Call::Queue(OfQueue::Wait),
+        "close" => Call::Queue(OfQueue::Close),
+        "served" => Call::Queue(OfQueue::Served),
+        _ => of_both(rt, name, rest, text),
+    }
 }
 
-pub const fn within(polls: u32) -> Call {
-    Call::Queue(OfQueue::Within(polls))
+fn of_both(rt: &impl Abort, name: &str, rest: &str, text: &str) -> Call {
+    let (inner, behind) = rest.split_once(' ').unwrap_or((rest, ""));
+    match name {
+        "put" => Call::Put(number(rt, rest)),
+        "apart" => Call::SendApart(sending_of(rt, inner, behind)),
+        "nowhere" => Call::SendNowhere(sending_of(rt, inner, behind)),
+        "hand_and_put" => Call::HandAndPut(number(rt, rest)),
+        "poll_batch" => Call::PollBatch(number(rt, rest)),
+        _ => of_clean(rt, name, rest, text),
+    }
 }
 
-pub const fn enqueue(slot: u32) -> Call {
-    Call::Send(Sending::Enqueue(slot))
+fn of_clean(rt: &impl Abort, name: &str, rest: &str, text: &str) -> Call {
+    let (first, second) = rest.split_once(' ').unwrap_or((rest, "0"));
+    match name {
+        "register" => Call::Clean(Cleaning::Register(number(rt, first), number(rt, second))),
+        "clean" => Call::Clean(Cleaning::Clean(number(rt, first), number(rt, second))),
+        "unregister" => Call::Clean(Cleaning::Unregister(number(rt, rest))),
+        "is_registered" => Call::Clean(Cleaning::IsRegistered(number(rt, rest))),
+        "clean_loop" => Call::Clean(Cleaning::Loop),
+        "clean_some" => Call::Clean(Cleaning::Some),
+        "cleaner_served" => Call::Clean(Cleaning::Served),
+        _ => of_heap(rt, name, rest, text),
+    }
 }
 
-/// A delivery by worker 0, of so many at most.
-pub const fn deliver_batch(max: u32) -> Call {
-    Call::Send(Sending::Batch(0, max))
+fn of_heap(rt: &impl Abort, name: &str, rest: &str, text: &str) -> Call {
+    match name {
+        "ask" => Call::Heap(OfHeap::Ask(step_in(rt, rest))),
+        "perform" => Call::Heap(OfHeap::Perform(step_in(rt, rest))),
+        "heap_served" => Call::Heap(OfHeap::Served),
+        "begin" | "endmark" | "endclear" | "m0" | "w0" => Call::Heap(OfHeap::Try(step_in(
+            rt, text,
+        ))),
+        _ => Call::Send(sending_of(rt, name, rest)),
+    }
 }
 
-/// A whole cycle by worker 0, at this clock.
-pub const fn cycle(now: u64) -> Call {
-    Call::Send(Sending::Cycle(0, now, Urgency::Normal))
+fn sending_of(rt: &impl Abort, name: &str, rest: &str) -> Sending {
+    let (first, second) = rest.split_once(' ').unwrap_or((rest, "0"));
+    match name {
+        "enqueue" => Sending::Enqueue(number(rt, rest)),
+        "deliver_one" => Sending::One(number(rt, rest)),
+        "deliver_batch" => Sending::Batch(number(rt, first), number(rt, second)),
+        "deliver_all" => Sending::All(number(rt, rest)),
+        "cycle" => cycle_of(rt, first, second, Urgency::Normal),
+        "urgent_cycle" => cycle_of(rt, first, second, Urgency::Urgent),
+        "make_or_collect" => {
+            let now = u64::from(number(rt, first));
+            Sending::MakeOrCollect(step_in(rt, second), now)
+        }
+        _ => panic!(rt; "no call: {name} {rest}"),
+    }
 }
 
-/// An urgent cycle by worker 0, at this clock.
-pub const fn urgent(now: u64) -> Call {
-    Call::Send(Sending::Cycle(0, now, Urgency::Urgent))
+fn cycle_of(rt: &impl Abort, worker: &str, now: &str, urgency: Urgency) -> Sending {
+    Sending::Cycle(number(rt, worker), u64::from(number(rt, now)), urgency)
 }
 
-/// Makes an object in the slot at clock 6, behind cycles where the heap is full.
-pub const fn make_or_collect(slot: u32) -> Call {
-    Call::Send(Sending::MakeOrCollect(new(slot), 6))
+fn number(rt: &impl Abort, text: &str) -> u32 {
+    match text.parse::<u32>() {
+        Ok(number) => number,
+        Err(_) => panic!(rt; "no number: {text}"),
+    }
 }
 
-pub const fn register(source: u32, slot: u32) -> Call {
-    Call::Clean(Cleaning::Register(source, slot))
+/// The step of the heap that a text spells, as a trace does.
+fn step_in(rt: &impl Abort, text: &str) -> PlainStep {
+    match world_step(rt, text) {
+        Step::Plain(step) => step,
+        _ => panic!(rt; "not the heap's: {text}"),
+    }
 }
 
-pub const fn clean(reference: u32, slot: u32) -> Call {
-    Call::Clean(Cleaning::Clean(reference, slot))
+fn world_step(rt: &impl Abort, text: &str) -> Step {
+    match step_of(text.as_bytes()) {
+        Ok(ScriptStep::World(step)) => step,
+        _ => panic!(rt; "no step: {text}"),
+    }
 }
 
+/// A step that makes an object in this slot.
 pub const fn new(slot: u32) -> PlainStep {
     PlainStep::New {
         mutator: M,
@@ -169,69 +197,14 @@ pub const fn new(slot: u32) -> PlainStep {
     }
 }
 
-const fn refer(strength: Strength, slot: u32, source: u32, queue: Option<QueueNo>) -> PlainStep {
+/// A step that makes a weak reference in this slot to what slot 0 holds, for this queue.
+pub const fn weak(slot: u32, queue: u32) -> PlainStep {
     PlainStep::Refer {
         mutator: M,
-        strength,
+        strength: Strength::Weak,
         slot: SlotNo(slot),
-        source: SlotNo(source),
-        queue,
+        source: SlotNo(0),
+        queue: Some(QueueNo(queue)),
         fields: 0,
-    }
-}
-
-/// A weak reference in this slot to what this one holds, for queue 0.
-pub const fn weak(slot: u32, source: u32) -> PlainStep {
-    refer(Strength::Weak, slot, source, Some(Q))
-}
-
-/// A weak reference for this queue.
-pub const fn weak_for(slot: u32, source: u32, queue: u32) -> PlainStep {
-    refer(Strength::Weak, slot, source, Some(QueueNo(queue)))
-}
-
-/// A weak reference without a queue.
-pub const fn weak_alone(slot: u32, source: u32) -> PlainStep {
-    refer(Strength::Weak, slot, source, None)
-}
-
-/// A soft reference for queue 0.
-pub const fn soft(slot: u32, source: u32) -> PlainStep {
-    refer(Strength::Soft, slot, source, Some(Q))
-}
-
-/// A soft reference without a queue.
-pub const fn soft_alone(slot: u32, source: u32) -> PlainStep {
-    refer(Strength::Soft, slot, source, None)
-}
-
-/// The first slot gets the referent of the reference in the second.
-pub const fn get(slot: u32, reference: u32) -> PlainStep {
-    PlainStep::Get {
-        mutator: M,
-        slot: SlotNo(slot),
-        reference: SlotNo(reference),
-    }
-}
-
-pub const fn drop_slot(slot: u32) -> PlainStep {
-    PlainStep::Drop {
-        mutator: M,
-        slot: SlotNo(slot),
-    }
-}
-
-pub const fn clear(reference: u32) -> PlainStep {
-    PlainStep::Clear {
-        mutator: M,
-        reference: SlotNo(reference),
-    }
-}
-
-pub const fn refers_to(reference: u32, other: u32) -> PlainStep {
-    PlainStep::RefersTo {
-        mutator: M,
-        reference: SlotNo(reference),
-        other: SlotNo(other),
     }
 }

@@ -1,121 +1,71 @@
 //! A shared heap and queue in one thread.
 
-use super::rows::{
-    CLOSE, Call, DELIVER, HEAP_SERVED, POLL, SERVED, Sending, WAIT, ask, drop_slot, enqueue, new,
-    step, weak, within,
-};
-use super::{Q, Row, Starts, death, story_of};
-use ref_base::{Fault, Reply};
+use super::{DEATH, NOTHING, Q, STARTS, Starts, agree};
 use std::test::Fail;
 
 /// Object 1, and references 2 and 3 to it in slots 1 and 2.
-pub fn two_references() -> [Row<'static>; 3] {
-    [
-        (step(new(0)), "object 1"),
-        (step(weak(1, 0)), "object 2"),
-        (step(weak(2, 0)), "object 3"),
-    ]
-}
+pub const TWO_REFERENCES: &'static str =
+    "m0 new s0 0 : object 1; m0 weak s1 s0 q0 0 : object 2; m0 weak s2 s0 q0 0 : object 3";
 
 #[test]
 fn what_is_put_in_is_taken_out_in_order(rt: HostRuntime) -> Result<(), Fail> {
     let alloc = rt.alloc();
     // One thread enqueues and polls.
-    story_of(&two_references())
-        .then(&[
-            (enqueue(1), "enqueued"),
-            (enqueue(1), "not enqueued"),
-            (POLL, "took 2"),
-            (POLL, "empty"),
-            (SERVED, "served 4"),
-            (Call::SendApart(Sending::Enqueue(2)), "enqueued"),
-            (POLL, "took 3"),
-            (within(3), "timed out"),
-            (within(0), "refused: BadConfig"),
-        ])
-        .leaves(&[2, 3], &[])
-        .agree(&rt, alloc)?;
+    let calls = "
+        enqueue 1 : enqueued; enqueue 1 : not enqueued; poll_now : took 2; poll_now : empty; served : served 4
+        apart enqueue 2 : enqueued; poll_now : took 3
+        remove_within 3 : timed out; remove_within 0 : refused: BadConfig";
+    agree(&rt, alloc, STARTS, TWO_REFERENCES, calls, (&[2, 3], &[]))?;
     // A closed queue gives what stands.
-    story_of(&two_references())
-        .then(&[
-            (enqueue(1), "enqueued"),
-            (enqueue(2), "enqueued"),
-            (CLOSE, "was open"),
-            (CLOSE, "was closed"),
-            (within(1), "took 2"),
-            (WAIT, "took 3"),
-            (WAIT, "closed"),
-            (within(3), "closed"),
-            (POLL, "closed"),
-        ])
-        .leaves(&[2, 3], &[])
-        .agree(&rt, alloc)
+    let calls = "
+        enqueue 1 : enqueued; enqueue 2 : enqueued; close : was open; close : was closed
+        remove_within 1 : took 2; remove_wait : took 3; remove_wait : closed; remove_within 3 : closed
+        poll_now : closed";
+    agree(&rt, alloc, STARTS, TWO_REFERENCES, calls, (&[2, 3], &[]))
 }
 
 #[test]
 fn puts_and_steps_take_turns(rt: HostRuntime) -> Result<(), Fail> {
+    let alloc = rt.alloc();
     // A put answers as the queue does.
-    story_of(&two_references())
-        .then(&[
-            (Call::Put(1), "added 0"),
-            (Call::Put(1), "already"),
-            (Call::Put(2), "added 1"),
-            (CLOSE, "was open"),
-            (Call::Put(2), "already"),
-            (SERVED, "served 5"),
-        ])
-        .leaves(&[2, 3], &[2, 3])
-        .agree(&rt, rt.alloc())?;
+    let calls = "
+        put 1 : added 0; put 1 : already; put 2 : added 1; close : was open; put 2 : already; served : served 5";
+    agree(
+        &rt,
+        alloc,
+        STARTS,
+        TWO_REFERENCES,
+        calls,
+        (&[2, 3], &[2, 3]),
+    )?;
     // A step is made by a call that waits, too.
-    story_of(&[
-        (ask(new(0)), "object 1"),
-        (step(drop_slot(0)), "ok"),
-        (ask(drop_slot(16)), "refused 9 NoSuchActor"),
-        (HEAP_SERVED, "served 10"),
-        (SERVED, "served 5"),
-    ])
-    .from(Starts {
+    let calls = "
+        ask m0 new s0 0 : object 1; m0 drop s0 : ok; ask m0 drop s16 : refused 9 NoSuchActor
+        heap_served : served 10; served : served 5";
+    let starts = Starts {
         heap: 7,
         queue: 5,
         number: Q,
-    })
-    .agree(&rt, rt.alloc())
+    };
+    agree(&rt, alloc, starts, calls, "", NOTHING)
 }
 
 #[test]
 fn what_a_cycle_cleared_is_delivered(rt: HostRuntime) -> Result<(), Fail> {
     let alloc = rt.alloc();
-    story_of(&death())
-        .then(&[
-            (DELIVER, "delivered 2 0 0"),
-            (DELIVER, "delivered 3 0 1"),
-            (DELIVER, "none"),
-            (POLL, "took 2"),
-            // 12 steps, three hands, and the release of what was taken.
-            (HEAP_SERVED, "served 16"),
-        ])
-        .leaves(&[2, 3], &[3])
-        .agree(&rt, alloc)?;
+    let calls = "
+        deliver_one 0 : delivered 2 0 0; deliver_one 0 : delivered 3 0 1; deliver_one 0 : none
+        poll_now : took 2
+        # 12 steps, three hands, and the release of what was taken.
+        heap_served : served 16";
+    agree(&rt, alloc, STARTS, DEATH, calls, (&[2, 3], &[3]))?;
     // Nothing is delivered behind a close.
-    story_of(&death())
-        .then(&[
-            (DELIVER, "delivered 2 0 0"),
-            (CLOSE, "was open"),
-            (DELIVER, "dropped 3"),
-            (Call::Put(2), "closed"),
-            (enqueue(2), "not enqueued"),
-            (DELIVER, "none"),
-        ])
-        .leaves(&[2], &[2])
-        .agree(&rt, alloc)?;
+    let calls = "
+        deliver_one 0 : delivered 2 0 0; close : was open; deliver_one 0 : dropped 3; put 2 : closed
+        enqueue 2 : not enqueued; deliver_one 0 : none";
+    agree(&rt, alloc, STARTS, DEATH, calls, (&[2], &[2]))?;
     // What was enqueued before is dropped.
-    story_of(&death())
-        .then(&[
-            (enqueue(1), "enqueued"),
-            (DELIVER, "dropped 2"),
-            (DELIVER, "delivered 3 0 1"),
-            (POLL, "took 2"),
-        ])
-        .leaves(&[2, 3], &[3])
-        .agree(&rt, alloc)
+    let calls = "
+        enqueue 1 : enqueued; deliver_one 0 : dropped 2; deliver_one 0 : delivered 3 0 1; poll_now : took 2";
+    agree(&rt, alloc, STARTS, DEATH, calls, (&[2, 3], &[3]))
 }

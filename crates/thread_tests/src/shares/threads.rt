@@ -4,10 +4,10 @@ ghost use Rattle.ref_share.specs.HeapSeats.{IsHeapSeat};
 ghost use Rattle.ref_share.specs.QueueSeats.{IsQueueSeat};
 
 use super::calls::answer;
-use super::rows::{CLOSE, Call, DELIVER, WAIT, enqueue};
-use super::stories::two_references;
+use super::rows::{Call, OfQueue};
+use super::stories::TWO_REFERENCES;
 use super::told::Told;
-use super::{Seats, Story, death, make_calls, start, story_of};
+use super::{DEATH, Left, NOTHING, STARTS, Seats, end, make_calls, start};
 use ref_share::{QueueSeat, SharedHeap, SharedQueue};
 use std::alloc::Global;
 use std::process::Abort;
@@ -15,6 +15,9 @@ use std::sync::Wait;
 use std::test::Fail;
 use std::thread;
 use std::thread::Threads;
+
+/// Waits for a notice.
+const WAIT: Call = Call::Queue(OfQueue::Wait);
 
 /// One call, by a thread of its own.
 fn told<R: Wait + Abort>(
@@ -51,13 +54,13 @@ fn make_calls_later<R: Wait + Abort>(
     heap: &SharedHeap,
     queue: &SharedQueue,
     mut seats: Seats,
-    story: &Story,
+    story: (&str, &str),
 )
     requires { IsHeapSeat heap.now seats.heap × IsQueueSeat queue.now seats.queue }
 {
     assert!(rt; has_served(queue, &mut seats.queue, 2), "two have polled");
-    make_calls(rt, heap, queue, &mut seats, story.calls);
-    make_calls(rt, heap, queue, &mut seats, story.then);
+    make_calls(rt, heap, queue, &mut seats, story.0);
+    make_calls(rt, heap, queue, &mut seats, story.1);
 }
 
 /// Two threads that wait for the queue; and what they are told.
@@ -116,7 +119,7 @@ fn told_meanwhile<R: Threads + Wait + Abort + Sync>(
     heap: &SharedHeap,
     queue: &SharedQueue,
     mut own: Seats,
-    story: &Story,
+    story: (&str, &str),
 ) -> (Told, Told, Seats)
     requires { IsHeapSeat heap.now own.heap × IsQueueSeat queue.now own.queue }
     ensures { IsHeapSeat heap.now result.2.heap × IsQueueSeat queue.now result.2.queue }
@@ -141,37 +144,32 @@ fn told_meanwhile<R: Threads + Wait + Abort + Sync>(
 fn agree_while_two_wait<R: Threads + Wait + Abort + Sync>(
     rt: &R,
     alloc: Global,
-    story: &Story,
+    story: (&str, &str),
     (one, other): (&str, &str),
+    left: Left,
 ) -> Result<(), Fail> {
-    let (heap, queue, seats) = start(alloc, story.starts)?;
+    let (heap, queue, seats) = start(alloc, STARTS)?;
     let (first, second, seats) = told_meanwhile(rt, &heap, &queue, seats, story);
     assert!(rt;
         first.is(alloc, one) && second.is(alloc, other)
             || second.is(alloc, one) && first.is(alloc, other),
         "{first}, {second}"
     );
-    assert!(rt;
-        heap.finish(seats.heap).is_ok(),
-        "no turn of the heap is open"
-    );
-    story.end(rt, alloc, queue.finish(seats.queue))
+    end(rt, alloc, heap, queue, seats, left)
 }
 
 #[test]
 fn who_waits_is_told_what_comes_or_of_the_close(rt: HostRuntime) -> Result<(), Fail> {
     let alloc = rt.alloc();
     // A close wakes all that wait.
-    let none = [(CLOSE, "was open")];
-    agree_while_two_wait(&rt, alloc, &story_of(&none), ("closed", "closed"))?;
+    let story = ("close : was open", "");
+    agree_while_two_wait(&rt, alloc, story, ("closed", "closed"), NOTHING)?;
     // What is put later goes to those that wait.
-    let death = death();
-    let deliveries = [(DELIVER, "delivered 2 0 0"), (DELIVER, "delivered 3 0 1")];
-    let both = story_of(&death).then(&deliveries).leaves(&[2, 3], &[]);
-    agree_while_two_wait(&rt, alloc, &both, ("took 2", "took 3"))?;
+    let calls = "deliver_one 0 : delivered 2 0 0; deliver_one 0 : delivered 3 0 1";
+    let (story, told) = ((DEATH, calls), ("took 2", "took 3"));
+    agree_while_two_wait(&rt, alloc, story, told, (&[2, 3], &[]))?;
     // Who waits for more than comes is told of the close.
-    let two = two_references();
-    let calls = [(enqueue(1), "enqueued"), (CLOSE, "was open")];
-    let one = story_of(&two).then(&calls).leaves(&[2], &[]);
-    agree_while_two_wait(&rt, alloc, &one, ("took 2", "closed"))
+    let calls = "enqueue 1 : enqueued; close : was open";
+    let (story, told) = ((TWO_REFERENCES, calls), ("took 2", "closed"));
+    agree_while_two_wait(&rt, alloc, story, told, (&[2], &[]))
 }

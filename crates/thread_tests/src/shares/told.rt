@@ -138,8 +138,8 @@ impl fmt::Display for Told {
 }
 
 /// The call of this row was answered so.
-pub fn expect<A: Allocator>(rt: &impl Abort, alloc: A, row: usize, told: Told, want: &str) {
-    assert!(rt; told.is(alloc, want), "row {row}: {told}, and not {want}");
+pub fn expect<A: Allocator>(rt: &impl Abort, alloc: A, told: Told, want: &str, row: &str) {
+    assert!(rt; told.is(alloc, want), "{row}: {told}, and not {want}");
 }
 
 /// What a step or a queue replied.

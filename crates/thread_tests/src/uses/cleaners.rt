@@ -13,7 +13,6 @@ ghost use Rattle.ref_share.specs.QueueSeats.{IsQueueSeat};
 
 use crate::shares::cleaners::hearing::Hearing;
 use crate::shares::cleaners::{adding, left_in};
-use crate::shares::rows::{CLOSE, enqueue, new, step, weak};
 use crate::shares::{M, Q, STARTS, Seats, make_calls, start};
 use ref_base::{Fault, ObjNo, SlotNo};
 use ref_queue::{Action, Job, Ran};
@@ -127,17 +126,13 @@ fn cleaned_twice<R: Wait + Abort>(
     ensures { IsQueueSeat shared.entry.1.now seats.new.queue × IsCleanSeat shared.entry.2.now seat.new }
 {
     let (heap, queue, cleaner) = shared;
-    make_calls(rt, heap, queue, seats, &[(step(new(0)), "object 1")]);
+    make_calls(rt, heap, queue, seats, "m0 new s0 0 : object 1");
     let first = holds_the_reference(rt, cleaner, seat, heap, &mut seats.heap, jobs.0);
     let cleanable = Cleanable { obj: ObjNo(2) };
     let retired = retires_what_it_cleans(rt, cleaner, seat, heap, &mut seats.heap, cleanable);
     let second = holds_the_reference(rt, cleaner, seat, heap, &mut seats.heap, jobs.1);
-    let calls = [
-        (step(weak(2, 0)), "object 4"),
-        (enqueue(2), "enqueued"),
-        (enqueue(1), "enqueued"),
-        (CLOSE, "was open"),
-    ];
+    let calls =
+        "m0 weak s2 s0 q0 0 : object 4; enqueue 2 : enqueued; enqueue 1 : enqueued; close : was open";
     make_calls(rt, heap, queue, seats, &calls);
     let hearing = Hearing::new(false);
     let Seats {

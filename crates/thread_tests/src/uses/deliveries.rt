@@ -14,8 +14,7 @@ ghost use Rattle.thread_tests.specs.QueueLists.{AreSeated};
 ghost use Rattle.thread_tests.specs.QueueRows.{queue_row};
 
 use crate::shares::many_queues::{Lists, find_dead, make_references, with};
-use crate::shares::rows::CLOSE;
-use crate::shares::{M, STARTS, Seats, W, death, make_calls, start};
+use crate::shares::{DEATH, M, STARTS, Seats, W, make_calls, start};
 use rationed::Rationed;
 use ref_base::{Batch, Fault, Parcel, SlotNo};
 use ref_clear::Notice;
@@ -151,13 +150,13 @@ fn sent_without_memory<'a, R: Wait + Abort>(
     requires { IsHeapSeat heap.now seats.old.heap × IsQueueSeat queue.now seats.old.queue }
     ensures { IsHeapSeat heap.now seats.new.heap × IsQueueSeat queue.now seats.new.queue }
 {
-    make_calls(rt, heap, queue, seats, &death());
+    make_calls(rt, heap, queue, seats, DEATH);
     let batch = Batch::new(memory)?;
     memory.ration(0);
     let first = is_in_vain(rt, heap, queue, seats);
     let left = keeps_what_found_no_memory(rt, heap, queue, seats, batch);
     memory.lift();
-    make_calls(rt, heap, queue, seats, &[(CLOSE, "was open")]);
+    make_calls(rt, heap, queue, seats, "close : was open");
     let last = is_in_vain(rt, heap, queue, seats);
     Ok((first, left, last))
 }

@@ -9,7 +9,7 @@ ghost use Rattle.ref_turn.specs.Seats.{entry};
 ghost use Rattle.ref_world.specs.declared.heap_machine.HeapReply.TheVariants as replies;
 
 use crate::shares::calls::stepped;
-use crate::shares::{CONFIG, M, STARTS, Seats, Starts, W, death, make_calls, start};
+use crate::shares::{CONFIG, DEATH, M, STARTS, Seats, Starts, W, make_calls, start};
 use ref_base::{Config, HeapStep, PlainStep, SlotNo};
 use ref_share::{Delivery, HeapSeat, SharedHeap, SharedQueue, deliver_one, end_queue, enqueue};
 use ref_turn::TurnFault;
@@ -128,7 +128,7 @@ fn sent_twice<R: Wait + Abort>(
 ) -> Result<(bool, Option<bool>, bool), Fail> {
     let heap = heap_first;
     let (heap, queue, mut seats) = start(alloc, Starts { heap, ..STARTS })?;
-    make_calls(rt, &heap, &queue, &mut seats, &death());
+    make_calls(rt, &heap, &queue, &mut seats, DEATH);
     let is_added = adds_by_one_call(rt, &heap, &queue, &mut seats);
     let is_released = releases_what_it_drops(rt, &heap, &queue, &mut seats);
     let is_again = adds_by_one_call(rt, &heap, &queue, &mut seats);

@@ -17,7 +17,7 @@ ghost use Rattle.ref_share.specs.declared.clean_machine.CleanStep.TheVariants.{T
 
 use crate::shares::cleaners::hearing::Hearing;
 use crate::shares::cleaners::{adding, left_in};
-use crate::shares::rows::{enqueue, new, step};
+use crate::shares::rows::new;
 use crate::shares::{CONFIG, M, Q, STARTS, Seats, Starts, make_calls, new_batch, start};
 use ref_base::{Fault, ObjNo, PlainStep, Reply, SlotNo, Urgency};
 use ref_queue::Job;
@@ -185,13 +185,13 @@ fn looped<R: Wait + Abort>(
     ensures { IsQueueSeat shared.entry.1.now seats.new.queue × IsCleanSeat cleaner.now seat.new }
 {
     let (heap, queue) = shared;
-    make_calls(rt, heap, queue, seats, &[(step(new(0)), "object 1")]);
+    make_calls(rt, heap, queue, seats, "m0 new s0 0 : object 1");
     let (from, to) = (SlotNo(0), SlotNo(1));
     let own = &mut seats.heap;
     if let Err((fault, _job)) = cleaner.register(rt, seat, heap, own, M, from, to, job) {
         return (Some(fault.into_fault()), 0);
     }
-    make_calls(rt, heap, queue, seats, &[(enqueue(1), "enqueued")]);
+    make_calls(rt, heap, queue, seats, "enqueue 1 : enqueued");
     let hearing = Hearing::new(false);
     let ended = match takes_no_more_than_it_polls(rt, cleaner, seat, shared, seats, &hearing) {
         Ok(_) => None,

@@ -6,9 +6,9 @@ ghost use Rattle.ref_share.specs.QueuedCleaners.{IsQueuedSeat};
 
 use crate::shares::cleaners::adding;
 use crate::shares::cleaners::hearing::Hearing;
-use crate::shares::rows::{drop_slot, new};
+use crate::shares::rows::new;
 use crate::shares::{CONFIG, M, W, new_batch};
-use ref_base::{Fault, SlotNo, Urgency};
+use ref_base::{Fault, PlainStep, SlotNo, Urgency};
 use ref_queue::Job;
 use ref_share::{HeapSeat, QueuedCleaner, QueuedSeat, ShareFault, SharedHeap, end_batch};
 use std::alloc::Global;
@@ -78,7 +78,8 @@ fn lives_and_dies<R: Wait + Abort>(
     let three = registers_in_three_turns(rt, cleaner, seat, heap, heap_seat, job);
     cycled(rt, alloc, cleaner, seat, heap, heap_seat)?;
     let living = cleaner.clean_some(rt, seat, heap, heap_seat, hearing)?;
-    heap.perform(rt, heap_seat, drop_slot(0))?;
+    let (mutator, slot) = (M, SlotNo(0));
+    heap.perform(rt, heap_seat, PlainStep::Drop { mutator, slot })?;
     cycled(rt, alloc, cleaner, seat, heap, heap_seat)?;
     let dead = cleaner.clean_some(rt, seat, heap, heap_seat, hearing)?;
     let (delivered, left) = cleaner.deliver_all(rt, seat, heap, heap_seat, W, new_batch(rt, alloc));

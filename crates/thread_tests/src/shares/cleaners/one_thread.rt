@@ -6,12 +6,9 @@ use super::acts::of_clean;
 use super::counting_jobs;
 use super::hearing::Hearing;
 use crate::shares::calls::{given_up, reply_or_fault};
-use crate::shares::rows::{
-    CLEAN_SOME, Call, Cleaning, OfHeap, Sending, ask, clean, clear, cycle, drop_slot, get,
-    make_or_collect, new, perform, refers_to, register, soft, urgent, weak,
-};
+use crate::shares::rows::{BREAKS, Call, Cleaning, OfHeap, Sending, call_of, is_comment, parts_of};
 use crate::shares::told::{Told, Word, bare, counted, either, expect, replied};
-use crate::shares::{CONFIG, M, Row, new_batch};
+use crate::shares::{CONFIG, M, new_batch};
 use ref_base::{Config, Fault, ObjNo, PlainStep, Reply, SlotNo};
 use ref_queue::Job;
 use ref_share::{Cleanable, CleanedHeap, end_batch};
@@ -21,9 +18,6 @@ use std::process::Abort;
 use std::sync::atomic::{AtomicU64, Ordering};
 use std::sync::{Arc, Wait};
 use std::test::Fail;
-
-/// The slot by way of which jobs are registered and cleaned.
-const WAY: u32 = 7;
 
 /// A step that is asked by a call of its own.
 fn asked<R: Wait>(rt: &R, heap: &mut CleanedHeap, step: PlainStep) -> Told
@@ -197,7 +191,7 @@ fn answered<R: Wait + Abort>(
 struct Story<'a> {
     /// The jobs, in the order in which they are registered.
     jobs: &'a [u32],
-    calls: &'a [Row<'a>],
+    calls: &'a str,
     /// How often job 1 was run by a `clean_some`. No other job is.
     heard: u64,
     /// How many notices stand in the end.
@@ -212,13 +206,17 @@ fn use_all<R: Wait + Abort>(
     alloc: Global,
     jobs: VecDeque<Job>,
     hearing: &Hearing,
-    calls: &[Row],
+    calls: &str,
 ) -> Result<usize, Fail> {
     let mut jobs = jobs;
     let mut heap = CleanedHeap::new(alloc, CONFIG)?;
-    for (row, &(call, want)) in calls.iter().enumerate() {
-        let told = answered(rt, alloc, &mut heap, &mut jobs, hearing, call);
-        expect(rt, alloc, row, told, want);
+    for row in calls.split(BREAKS) {
+        if !is_comment(row) {
+            let (call, want) = parts_of(row);
+            let call = call_of(rt, call);
+            let told = answered(rt, alloc, &mut heap, &mut jobs, hearing, call);
+            expect(rt, alloc, told, want, row);
+        }
     }
     Ok(heap.end())
 }
@@ -238,43 +236,16 @@ fn agree<R: Wait + Abort>(rt: &R, alloc: Global, story: &Story) -> Result<(), Fa
     Ok(())
 }
 
-const fn unregister(reference: u32) -> Call {
-    Call::Clean(Cleaning::Unregister(reference))
-}
-
-const fn has_job(reference: u32) -> Call {
-    Call::Clean(Cleaning::IsRegistered(reference))
-}
-
-/// Whether the reference in the slot reads as null: slot 15 holds nothing.
-const fn is_null(slot: u32) -> Call {
-    ask(refers_to(slot, 15))
-}
-
-/// A soft reference in this slot to what slot 0 holds.
-const fn soft_to_0(slot: u32) -> Call {
-    ask(soft(slot, 0))
-}
-
 #[test]
 fn a_program_of_one_thread_runs_the_jobs_of_what_died(rt: HostRuntime) -> Result<(), Fail> {
     let story = Story {
         jobs: &[1, 2, 3],
-        calls: &[
-            (perform(new(0)), "object 1"),
-            (register(0, WAY), "registered 2"),
-            (cycle(5), "ok"),
-            (CLEAN_SOME, "ran jobs 0"),
-            (perform(drop_slot(0)), "ok"),
-            (cycle(5), "ok"),
-            (perform(new(3)), "object 3"),
-            (CLEAN_SOME, "ran jobs 1"),
-            (CLEAN_SOME, "ran jobs 0"),
-            (perform(drop_slot(16)), "refused: NoSuchActor"),
-            (cycle(4), "refused: ClockBack"),
-            (register(0, WAY), "refused: EmptySlot job 2"),
-            (register(3, WAY), "registered 4"),
-        ],
+        calls: "
+            perform m0 new s0 0 : object 1; register 0 7 : registered 2; cycle 0 5 : ok
+            clean_some : ran jobs 0; perform m0 drop s0 : ok; cycle 0 5 : ok; perform m0 new s3 0 : object 3
+            clean_some : ran jobs 1; clean_some : ran jobs 0; perform m0 drop s16 : refused: NoSuchActor
+            cycle 0 4 : refused: ClockBack; register 0 7 : refused: EmptySlot job 2
+            register 3 7 : registered 4",
         heard: 1,
         standing: 0,
         // Job 3 is left, and is run as the heap ends.
@@ -287,25 +258,14 @@ fn a_program_of_one_thread_runs_the_jobs_of_what_died(rt: HostRuntime) -> Result
 fn a_job_is_cleaned_by_hand_or_taken_out_once(rt: HostRuntime) -> Result<(), Fail> {
     let story = Story {
         jobs: &[1, 2, 3],
-        calls: &[
-            (perform(new(0)), "object 1"),
-            (register(0, WAY), "registered 2"),
-            (register(0, WAY), "registered 3"),
-            (register(0, WAY), "registered 4"),
-            // The reference is in no slot, so that nobody can clear it.
-            (perform(clear(WAY)), "refused: EmptySlot"),
-            (has_job(2), "registered"),
-            (unregister(2), "came out 1"),
-            (has_job(2), "not registered"),
-            (unregister(2), "no job"),
-            (clean(2, WAY), "no job"),
-            (clean(3, WAY), "ran 2 1002"),
-            (clean(3, WAY), "no job"),
-            (unregister(3), "no job"),
-            (perform(drop_slot(0)), "ok"),
-            (cycle(5), "ok"),
-            (has_job(4), "registered"),
-        ],
+        calls: "
+            perform m0 new s0 0 : object 1; register 0 7 : registered 2; register 0 7 : registered 3
+            register 0 7 : registered 4
+            # The reference is in no slot, so that nobody can clear it.
+            perform m0 clear s7 : refused: EmptySlot; is_registered 2 : registered; unregister 2 : came out 1
+            is_registered 2 : not registered; unregister 2 : no job; clean 2 7 : no job
+            clean 3 7 : ran 2 1002; clean 3 7 : no job; unregister 3 : no job; perform m0 drop s0 : ok
+            cycle 0 5 : ok; is_registered 4 : registered",
         heard: 0,
         // That of reference 4, whose job is left. The others went with their jobs.
         standing: 1,
@@ -319,7 +279,7 @@ fn agree_without<R: Wait + Abort>(
     rt: &R,
     alloc: Global,
     standing: usize,
-    calls: &[Row],
+    calls: &str,
 ) -> Result<(), Fail> {
     let story = Story {
         jobs: &[],
@@ -335,57 +295,33 @@ fn agree_without<R: Wait + Abort>(
 fn a_cache_of_soft_references_is_emptied_before_there_is_no_cell(
     rt: HostRuntime,
 ) -> Result<(), Fail> {
-    let calls = [
-        (perform(new(0)), "object 1"),
-        (soft_to_0(1), "object 2"),
-        (perform(new(0)), "object 3"),
-        (soft_to_0(2), "object 4"),
-        (perform(new(0)), "object 5"),
-        (soft_to_0(3), "object 6"),
-        (make_or_collect(0), "object 7"),
-        (perform(weak(4, 0)), "object 8"),
-        // All eight cells are taken. What slot 0 held is kept by nothing but the weak reference.
-        (perform(drop_slot(0)), "ok"),
-        (make_or_collect(0), "object 9"),
-        (is_null(4), "true"),
-        (is_null(1), "false"),
-        (is_null(3), "false"),
-        // A normal cycle keeps each soft referent, and an urgent one none.
-        (make_or_collect(5), "object 10"),
-        (is_null(1), "true"),
-        (is_null(2), "true"),
-        (is_null(3), "true"),
-        (make_or_collect(6), "object 11"),
-        (make_or_collect(7), "object 12"),
-        (make_or_collect(8), "refused: NoCell"),
-        (perform(drop_slot(6)), "ok"),
-        (make_or_collect(8), "object 13"),
-    ];
-    agree_without(&rt, rt.alloc(), 4, &calls)
+    let calls = "
+        perform m0 new s0 0 : object 1; ask m0 soft s1 s0 q0 0 : object 2; perform m0 new s0 0 : object 3
+        ask m0 soft s2 s0 q0 0 : object 4; perform m0 new s0 0 : object 5; ask m0 soft s3 s0 q0 0 : object 6
+        make_or_collect 6 m0 new s0 0 : object 7; perform m0 weak s4 s0 q0 0 : object 8
+        # All eight cells are taken. What slot 0 held is kept by nothing but the weak reference.
+        perform m0 drop s0 : ok; make_or_collect 6 m0 new s0 0 : object 9; ask m0 refers s4 s15 : true
+        ask m0 refers s1 s15 : false; ask m0 refers s3 s15 : false
+        # A normal cycle keeps each soft referent, and an urgent one none.
+        make_or_collect 6 m0 new s5 0 : object 10; ask m0 refers s1 s15 : true; ask m0 refers s2 s15 : true
+        ask m0 refers s3 s15 : true; make_or_collect 6 m0 new s6 0 : object 11
+        make_or_collect 6 m0 new s7 0 : object 12; make_or_collect 6 m0 new s8 0 : refused: NoCell
+        perform m0 drop s6 : ok; make_or_collect 6 m0 new s8 0 : object 13";
+    agree_without(&rt, rt.alloc(), 4, calls)
 }
 
 #[test]
 fn a_soft_reference_is_kept_by_its_span_and_by_no_urgent_cycle(
     rt: HostRuntime,
 ) -> Result<(), Fail> {
-    let calls = [
-        (perform(new(0)), "object 1"),
-        (soft_to_0(1), "object 2"),
-        (perform(new(0)), "object 3"),
-        (soft_to_0(2), "object 4"),
-        (perform(drop_slot(0)), "ok"),
-        (cycle(10), "ok"),
-        (is_null(1), "false"),
-        // It gets the clock of now as its stamp.
-        (perform(get(0, 2)), "object 3"),
-        (perform(drop_slot(0)), "ok"),
-        (cycle(11), "ok"),
-        (is_null(1), "true"),
-        (is_null(2), "false"),
-        (urgent(11), "ok"),
-        (is_null(2), "true"),
-    ];
-    agree_without(&rt, rt.alloc(), 2, &calls)
+    let calls = "
+        perform m0 new s0 0 : object 1; ask m0 soft s1 s0 q0 0 : object 2; perform m0 new s0 0 : object 3
+        ask m0 soft s2 s0 q0 0 : object 4; perform m0 drop s0 : ok; cycle 0 10 : ok
+        ask m0 refers s1 s15 : false
+        # It gets the clock of now as its stamp.
+        perform m0 get s0 s2 : object 3; perform m0 drop s0 : ok; cycle 0 11 : ok; ask m0 refers s1 s15 : true
+        ask m0 refers s2 s15 : false; urgent_cycle 0 11 : ok; ask m0 refers s2 s15 : true";
+    agree_without(&rt, rt.alloc(), 2, calls)
 }
 
 /// The number of the heap of which a hold of what slot 0 holds is.

@@ -1,5 +1,5 @@
 use Rattle.std.proofs.Common.{length}
-use Rattle.core_tests.proofs.hand.give_up.Given as goal
+use Rattle.core_tests.proofs.clearing.emptied.Given as goal
 
 abbrev pub invariant-loop-notice : goal.invariant-loop-notice
 invariant-loop-notice g l = Unit {0}
