@@ -15,12 +15,11 @@ fn end<A: Allocator + Copy>(rt: &impl Abort, table: CleanTable<u64, u64, A>) {
     }
 }
 
-#[test]
-fn each_job_is_given_out_once(rt: HostRuntime) {
+/// Of two objects: what is registered and taken, one after the other.
+fn give_out(rt: &impl Abort, table: &mut CleanTable<u64, u64>) {
     let (seven, eight) = (ObjNo(7), ObjNo(8));
-    let mut table = CleanTable::new(rt.alloc());
     assert!(rt; table.first() == None);
-    assert!(rt; table.register(seven, 70u64, 1u64) == Ok(()));
+    assert!(rt; table.register(seven, 70, 1) == Ok(()));
     assert!(rt; table.register(seven, 71, 2) == Err((Fault::RegisteredTwice, 71, 2)));
     assert!(rt; table.first() == Some(seven));
     assert!(rt; table.take(eight) == None);
@@ -34,14 +33,19 @@ fn each_job_is_given_out_once(rt: HostRuntime) {
     // Two are left.
     assert!(rt; table.take_any().is_some() && table.take_any().is_some());
     assert!(rt; table.take_any() == None);
-    end(&rt, table);
 }
 
 #[test]
-fn a_closed_table_still_gives_out_what_it_has(rt: HostRuntime) {
-    let (seven, eight) = (ObjNo(7), ObjNo(8));
+fn each_job_is_given_out_once(rt: HostRuntime) {
     let mut table = CleanTable::new(rt.alloc());
-    assert!(rt; table.register(seven, 70u64, 1u64) == Ok(()));
+    give_out(&rt, &mut table);
+    end(&rt, table);
+}
+
+/// Of two objects whose table is closed.
+fn give_out_closed(rt: &impl Abort, table: &mut CleanTable<u64, u64>) {
+    let (seven, eight) = (ObjNo(7), ObjNo(8));
+    assert!(rt; table.register(seven, 70, 1) == Ok(()));
     assert!(rt; table.register(eight, 80, 2) == Ok(()));
     table.close();
     // The closed table is told of first.
@@ -52,6 +56,12 @@ fn a_closed_table_still_gives_out_what_it_has(rt: HostRuntime) {
     assert!(rt; table.take(eight) == None);
     // One is left.
     assert!(rt; table.take_any().is_some() && table.take_any() == None);
+}
+
+#[test]
+fn a_closed_table_still_gives_out_what_it_has(rt: HostRuntime) {
+    let mut table = CleanTable::new(rt.alloc());
+    give_out_closed(&rt, &mut table);
     end(&rt, table);
 }
 

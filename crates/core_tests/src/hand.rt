@@ -1,15 +1,22 @@
 //! The hand of a story, which has one hold at most, and what becomes of holds that are tried.
 
 use crate::objects::config;
-use ref_base::{Fault, MutNo, ObjNo, SlotNo};
+use crate::steps::{M, agree};
+use ref_base::{Fault, ObjNo, SlotNo};
 use ref_objects::{Hold, Objects};
 use std::alloc::Global;
+use std::process::Abort;
 
 /// A hold of object 1 of a heap of number 2, where the heaps of stories have number 1.
-pub fn foreign(alloc: Global) -> Result<Hold, Fault> {
-    let mut heap = Objects::new(alloc, config(1), 2)?;
-    heap.alloc_obj(MutNo(0), SlotNo(0), 0)?;
-    heap.hold(MutNo(0), SlotNo(0))
+pub fn foreign(rt: &impl Abort, alloc: Global) -> Hold {
+    let Ok(mut heap) = Objects::new(alloc, config(1), 2) else {
+        panic!(rt; "there is no heap");
+    };
+    agree(rt, &mut heap, "m0 new s0 0 : object 1");
+    match heap.hold(M, SlotNo(0)) {
+        Ok(hold) => hold,
+        Err(fault) => panic!(rt; "{fault}"),
+    }
 }
 
 /// Gives up what the hand had.

@@ -1,6 +1,5 @@
 //! A heap in its cycles: the steps that it knows, and what the layer above calls.
 
-ghost use Rattle.std.specs.Prelude.{IfOk};
 ghost use Rattle.core_tests.specs.Healing.{IsHealing};
 
 mod cycles;
@@ -11,12 +10,12 @@ mod refusals;
 use crate::closed::{is_closed, known};
 use crate::hand::{adopted, leak};
 use crate::objects::config;
-use crate::steps::{M, Steps, Told, done, looked, made, value};
+use crate::steps::{M, Steps, Told, agree, done, looked, made, value};
 use ref_base::{Fault, ObjNo, Phase, PlainStep, Reply, SlotNo, Step, WorkerNo};
 use ref_mark::Marker;
 use ref_objects::{Entry, Hold, Start, Worklist};
 use std::alloc::Global;
-use std::test::Fail;
+use std::process::Abort;
 
 impl Steps for Marker {
     ghost is_ready = { λ m. IsHealing m };
@@ -38,17 +37,20 @@ pub struct Bench {
 
 impl Bench {
     /// A heap of so many cells that starts so.
-    fn starting(alloc: Global, cells: u32, start: Start) -> Result<Bench, Fail>
-        ensures { IfOk result (λ bench. IsHealing bench.heap) }
+    fn starting(rt: &impl Abort, alloc: Global, cells: u32, start: Start) -> Bench
+        ensures { IsHealing result.heap }
     {
-        let heap = Marker::starting(alloc, config(cells), 1, start)?;
-        let condemned = Worklist::new(alloc, cells as usize)?;
-        let hand = None;
-        Ok(Bench {
-            heap,
-            condemned,
-            hand,
-        })
+        let Ok(heap) = Marker::starting(alloc, config(cells), 1, start) else {
+            panic!(rt; "there is no heap");
+        };
+        match Worklist::new(alloc, cells as usize) {
+            Ok(condemned) => Bench {
+                heap,
+                condemned,
+                hand: None,
+            },
+            Err(fault) => panic!(rt; "{fault}"),
+        }
     }
 
     /// What is still held is given up.
@@ -72,6 +74,13 @@ impl Steps for Bench {
     fn own(&mut self, name: &str, numbers: (u32, u64)) -> Told {
         own::collected(self, name, numbers)
     }
+}
+
+/// A story of a heap of so many cells that starts so.
+fn tell(rt: &impl Abort, alloc: Global, (cells, start): (u32, Start), story: &str) {
+    let mut bench = Bench::starting(rt, alloc, cells, start);
+    agree(rt, &mut bench, story);
+    bench.end();
 }
 
 // What a mutator asks, or else the collector.

@@ -11,6 +11,7 @@ use crate::steps::{Steps, Told, done, made, value};
 use ref_base::{Config, Fault, ObjNo, PlainStep, SpanRule, Step};
 use ref_objects::{Colour, Entry, Hold, Objects, Stage, Worklist};
 use std::alloc::{Allocator, Global};
+use std::process::Abort;
 
 /// The heap of a story, a list for its condemned, and its hand, which has one hold at most.
 pub struct Bench<A: Allocator + Copy = Global> {
@@ -21,14 +22,15 @@ pub struct Bench<A: Allocator + Copy = Global> {
 
 impl<A: Allocator + Copy> Bench<A> {
     /// A heap of so many cells, where numbers begin at one.
-    fn new(alloc: A, cells: u32) -> Result<Self, Fault> {
-        let (heap, condemned) = heap_of(alloc, cells)?;
-        let hand = None;
-        Ok(Bench {
-            heap,
-            condemned,
-            hand,
-        })
+    fn new(rt: &impl Abort, alloc: A, cells: u32) -> Self {
+        match heap_of(alloc, cells) {
+            Ok((heap, condemned)) => Bench {
+                heap,
+                condemned,
+                hand: None,
+            },
+            Err(fault) => panic!(rt; "{fault}"),
+        }
     }
 
     /// What is still held is given up.

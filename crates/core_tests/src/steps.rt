@@ -3,7 +3,7 @@
 //! in lines, or apart by semicolons. A line that begins with `#` is a comment.
 
 use arrayvec::ArrayString;
-use ref_base::{Fault, MutNo, ObjNo, Phase, Reply, Row, Step, Strength};
+use ref_base::{Fault, MOST_IN_BATCH, MutNo, Nos, ObjNo, Phase, Reply, Row, Step, Strength};
 use ref_objects::{Kind, Look};
 use ref_script::{ScriptStep, step_of};
 use std::fmt;
@@ -15,7 +15,10 @@ use std::process::Abort;
 pub const M: MutNo = MutNo(0);
 
 /// The most bytes that a row takes.
-const ROOM: usize = 256;
+pub const ROOM: usize = 256;
+
+/// What stands between rows.
+pub const BREAKS: [char; 2] = ['\n', ';'];
 
 /// What a call is answered.
 #[derive(Clone, Copy)]
@@ -29,6 +32,21 @@ pub enum Told {
     Phase(Phase),
     /// An object, and the number of the heap that it is of.
     Of(u32, u64),
+    Numbers(Nos),
+}
+
+impl Told {
+    /// These numbers, 32 at most.
+    pub fn numbers(list: &[ObjNo]) -> Self {
+        let mut numbers = Nos::new();
+        for no in list {
+            if numbers.as_slice().len() == MOST_IN_BATCH {
+                return Told::Unknown;
+            }
+            numbers.push(*no);
+        }
+        Told::Numbers(numbers)
+    }
 }
 
 impl fmt::Display for Told {
@@ -43,8 +61,18 @@ impl fmt::Display for Told {
             Told::Kind(kind) => f.write_str(kind_name(*kind)),
             Told::Phase(phase) => f.write_str(phase_name(*phase)),
             Told::Of(object, heap) => write!(f, "{object} of {heap}"),
+            Told::Numbers(numbers) => say_numbers(f, numbers.as_slice()),
         }
     }
+}
+
+fn say_numbers<W: fmt::Write>(f: &mut fmt::Formatter<W>, numbers: &[ObjNo]) -> fmt::Result {
+    let mut mark = "";
+    for no in numbers {
+        write!(f, "{mark}{no}")?;
+        mark = " ";
+    }
+    Ok(())
 }
 
 fn kind_name(kind: Option<Kind>) -> &'static str {
@@ -137,17 +165,14 @@ fn answered<S: Steps>(subject: &mut S, call: &str) -> Told
     }
 }
 
-/// Makes the call of a row, which has its answer.
-fn tell<S: Steps>(rt: &impl Abort, subject: &mut S, row: &str)
-    requires { S.is_ready subject.old }
-    ensures { S.is_ready subject.new }
-{
+/// The call of a row and its answer, unless the row is a comment or says nothing.
+pub fn parts_of(row: &str) -> Option<(&str, &str)> {
+    let row = row.trim();
     if row.is_empty() || row.starts_with('#') {
-        return;
+        return None;
     }
-    let (call, want) = row.split_once(" : ").unwrap_or((row, ""));
-    let told = answered(subject, call);
-    assert!(rt; is_so(told, want), "{row}: {told}");
+    let (call, want) = row.split_once(" :").unwrap_or((row, ""));
+    Some((call, want.trim_start()))
 }
 
 /// Does the steps of a story in turn, each of which has its reply.
@@ -155,9 +180,24 @@ pub fn agree<S: Steps>(rt: &impl Abort, subject: &mut S, story: &str)
     requires { S.is_ready subject.old }
     ensures { S.is_ready subject.new }
 {
-    for row in story.split(['\n', ';']) {
-        tell(rt, subject, row.trim());
+    for row in story.split(BREAKS) {
+        if let Some((call, want)) = parts_of(row) {
+            let told = answered(subject, call);
+            assert!(rt; is_so(told, want), "{row}: {told}");
+        }
     }
+}
+
+/// A story with these numbers in the places of its dollars, in order.
+pub fn filled(rt: &impl Abort, story: &str, numbers: &[u32]) -> ArrayString<ROOM> {
+    let (first, behind) = story.split_once('$').unwrap_or((story, ""));
+    let mut filled = ArrayString::new();
+    let mut is_whole = filled.try_push_str(first).is_ok();
+    for (number, piece) in numbers.iter().zip(behind.split('$')) {
+        is_whole = is_whole && write!(filled, "{number}{piece}").is_ok();
+    }
+    assert!(rt; is_whole, "too long: {story}");
+    filled
 }
 
 /// Does the steps of a story with these numbers in the places of its dollars, in order.
@@ -165,27 +205,7 @@ pub fn agree_with<S: Steps>(rt: &impl Abort, subject: &mut S, story: &str, numbe
     requires { S.is_ready subject.old }
     ensures { S.is_ready subject.new }
 {
-    let (first, behind) = story.split_once('$').unwrap_or((story, ""));
-    let mut filled = ArrayString::<ROOM>::new();
-    let mut is_whole = filled.try_push_str(first).is_ok();
-    for (number, piece) in numbers.iter().zip(behind.split('$')) {
-        is_whole = is_whole && write!(filled, "{number}{piece}").is_ok();
-    }
-    assert!(rt; is_whole, "too long: {story}");
-    agree(rt, subject, filled.as_str());
-}
-
-/// Makes objects 1, 2 and so on, with so many fields each, in slots 0, 1 and so on.
-pub fn make<S: Steps>(rt: &impl Abort, subject: &mut S, fields: &[u32])
-    requires { S.is_ready subject.old }
-    ensures { S.is_ready subject.new }
-{
-    let mut slot = 0u32;
-    for &count in fields {
-        let no = slot.saturating_add(1);
-        agree_with(rt, subject, "m0 new s$ $ : object $", &[slot, count, no]);
-        slot = no;
-    }
+    agree(rt, subject, filled(rt, story, numbers).as_str());
 }
 
 /// Makes the objects of these numbers in turn, without fields, in this slot.

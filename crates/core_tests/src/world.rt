@@ -11,6 +11,7 @@ use crate::steps::{Steps, Told};
 use ref_base::{Config, SpanRule, Step};
 use ref_world::World;
 use std::alloc::Allocator;
+use std::process::Abort;
 
 /// One mutator, one worker, one queue, 8 cells, and a span of 10.
 const CONFIG: Config = Config {
@@ -27,6 +28,14 @@ const TWO_WORKERS: Config = Config {
     workers: 2,
     ..CONFIG
 };
+
+/// A world with this memory.
+fn world_of<A: Allocator + Copy>(rt: &impl Abort, alloc: A, config: Config) -> World<A> {
+    match World::new(alloc, config) {
+        Ok(world) => world,
+        Err(fault) => panic!(rt; "{fault}"),
+    }
+}
 
 impl<A: Allocator + Copy> Steps for World<A> {
     fn step(&mut self, step: Step) -> Told {

@@ -1,5 +1,5 @@
 -- How the judging of a log goes on by one row.
-use Rattle.std.proofs.Common.{◌≡◌, ℕ, ◌+◌, Bool, true, false, List, [], ◌∷◌, ◌++◌, Option, Some, None}
+use Rattle.std.proofs.Common.{◌≡◌, ℕ, ◌+◌, Bool, true, false, List, [], ◌∷◌, ◌++◌, Option, Some, None, Result, Ok}
 use Rattle.std.proofs.Common.{Err, inl, inr, refl, sym, ap, ◌∙◌, subst, arith, append_assoc, append-nil, length-append}
 use Rattle.ref_base.specs.Graphs.{is_there}
 use Rattle.ref_base.specs.declared.config.Config.{Config}
@@ -19,7 +19,7 @@ use Rattle.ref_log.proofs.NameLemmas.{given_alike, numbered_alike}
 use Rattle.ref_log.proofs.NamedLines.{front_legal, names_alone, rows_apart, rows_more}
 use Rattle.ref_log.proofs.PlacedBatches.{parts_same}
 use Rattle.ref_log.proofs.ReadLines.{at_read, open_is_last, told_append, told_one, told_silent}
-use Rattle.ref_log.specs.Checking.{IsLog, IsLogOf, AreLegalLines, IsIllegalAt, Fails, IsNoRowOf}
+use Rattle.ref_log.specs.Checking.{IsLog, IsLogOf, AreLegalLines, IsIllegalAt, Fails, IsNoRowOf, Tells, TellsOfRow}
 use Rattle.ref_log.specs.Failures.{is_unread}
 use Rattle.ref_log.specs.HeadReading.{IsBehindHead, IsNoRowIn}
 use Rattle.ref_log.specs.JudgedRows.{AreSameNames, JudgesNone, ReadsPart, TakesPart, names_judged, part_of}
@@ -33,6 +33,7 @@ use Rattle.ref_log.specs.declared.failure.Finding.{Finding}
 use Rattle.ref_log.specs.declared.failure.LogFailure.{LogFailure}
 use Rattle.ref_log.specs.declared.failure.LogFailure.TheVariants.{Line, CutOff, CannotRead, NoMemory}
 use Rattle.ref_log.specs.declared.failure.Verdict.{Verdict}
+use Rattle.ref_log.specs.declared.failure.Verdict.TheVariants as verdicts
 use Rattle.ref_log.specs.declared.fault.LogFault.{LogFault}
 use Rattle.ref_script.specs.Lines.{TextLine, lines_of}
 use Rattle.ref_script.specs.ToldLines.{told, line_words, says_nothing}
@@ -64,6 +65,12 @@ none_unread judge names s rows (Line k fault) none = refl
 none_unread judge names s rows (CutOff count k) none = refl
 none_unread judge names s rows CannotRead none = absurd none
 none_unread judge names s rows NoMemory none = refl
+
+-- nor where a row is told of
+pub told_unread : (rows line : ℕ) (row : Row) (objection : Objection) (result : Result Verdict LogFailure)
+    → TellsOfRow rows line row objection result → is_unread result ≡ false
+told_unread rows line row objection (Ok verdict) tells = refl
+told_unread rows line row objection (Err failure) tells = rw tells refl
 
 -- whether a read failed doesn't depend on what was to be answered
 pub same_unread : (failure : LogFailure)
@@ -442,3 +449,13 @@ module _ (given : Option Config) (lines : List TextLine) (left : Option (List �
               instead = taken_named profile config front judge way.taken finding.row.step finding.breach.instead
                   objected_to.1;
             }
+
+        -- so what is told of that row is told of the log
+        pub way_told : (refused : Row) (objection : Objection) (result : Result Verdict LogFailure)
+            → row ≡ Some refused → ObjectsTo judge refused objection new
+            → TellsOfRow (count + 1) s.number refused objection result → Tells given lines result
+        way_told refused objection (Ok (verdicts.Legal rows)) row_is objects told = absurd told
+        way_told refused objection (Ok (verdicts.Illegal finding)) row_is objects told =
+            way_illegal finding told.0 told.1 (row_is ∙ ap (λ (r : Row). Some r) (sym told.2)) objection told.3
+            (subst (λ (r : Row). ObjectsTo judge r objection new) (sym told.2) objects)
+        way_told refused objection (Err failure) row_is objects told = rw told tt

@@ -1,7 +1,7 @@
 -- Lines of a log that one can read off by hand.
 use Rattle.ref_script.proofs.Common.{◌≡◌, ℕ, true, false, [], ◌∷◌, Some, None, codes, refl, words_of, arith, inl, inr}
 use Rattle.ref_script.proofs.Common.{ap, ◌∙◌}
-use Rattle.std.proofs.Common.{Ok, Err}
+use Rattle.std.proofs.Common.{Ok, Err, ◌+◌}
 use Rattle.std.specs.List.{list_any}
 use Rattle.ref_base.specs.Outs.{Outs as Batch, is_added}
 use Rattle.ref_base.specs.declared.actor.Actor.{Actor}
@@ -16,14 +16,18 @@ use Rattle.ref_base.specs.declared.step.Step.TheVariants.{Plain, Puts}
 use Rattle.ref_judge.specs.Judged.{Judged}
 use Rattle.ref_judge.specs.ProfiledRows.{strict}
 use Rattle.ref_judge.specs.declared.order.Order.TheVariants.{Last}
+use Rattle.ref_judge.specs.declared.rule.Objection.TheVariants as objections
 use Rattle.ref_script.proofs.ReplyAnswers.{jobs_answer}
 use Rattle.ref_script.specs.declared.script_step.ScriptReply.TheVariants as said
 use Rattle.ref_script.specs.declared.script_step.ScriptRow.{ScriptRow}
 use Rattle.ref_script.specs.declared.script_step.ScriptStep.TheVariants as steps
 use Rattle.ref_log.proofs.RowLaws.{none_padded, none_unanswered, none_unparted}
+use Rattle.ref_log.specs.Checking.{TellsOfRow}
 use Rattle.ref_log.specs.LogHeads.{profile_of, rule_of}
 use Rattle.ref_log.specs.LogRows.{SpellsNoRow, SpellsRow, row_fault}
 use Rattle.ref_log.specs.RowTexts.{IsPlacedRow, IsSameRow}
+use Rattle.ref_log.specs.declared.failure.Finding.{Finding}
+use Rattle.ref_log.specs.declared.failure.Verdict.TheVariants as verdicts
 use Rattle.ref_log.specs.declared.fault.LogFault.TheVariants as faults
 
 -- ---- rows
@@ -167,3 +171,15 @@ no_other_place : (j : Judged) → ¬ IsPlacedRow (behind_five j) (put_row 0)
 no_other_place j placed =
     let before : (batch 0 Already).before ≡ 5 = placed (Mutator 0) (batch 0 Already) refl refl refl in
     absurd (omega (arith, before))
+
+-- ---- what is told of a row
+
+a_finding_is_of_its_row : (finding : Finding) → TellsOfRow finding.number finding.line finding.row
+    (objections.Illegal finding.breach) (Ok (verdicts.Illegal finding))
+a_finding_is_of_its_row finding = (refl, refl, refl, refl)
+
+no_other_line : (finding : Finding) → ¬ TellsOfRow finding.number (finding.line + 1) finding.row
+    (objections.Illegal finding.breach) (Ok (verdicts.Illegal finding))
+no_other_line finding told =
+    let line : finding.line ≡ finding.line + 1 = told.1 in
+    absurd (omega (arith, line))

@@ -8,6 +8,8 @@ use Rattle.ref_base.specs.declared.span_rule.SpanRule.TheVariants.{Scaled}
 use Rattle.ref_judge.specs.ProfiledRows.{IsLegalAs, strict}
 use Rattle.ref_judge.specs.Verdicts.{NamesAnswerBehind}
 use Rattle.ref_judge.specs.declared.profile.Profile.{Profile}
+use Rattle.ref_judge.specs.declared.rule.Objection.{Objection}
+use Rattle.ref_judge.specs.declared.rule.Objection.TheVariants as objections
 use Rattle.ref_log.specs.LogHeads.{begins_config, rule_of, profile_of, is_naming_line, first_names}
 use Rattle.ref_log.specs.NamedRows.{AreRows, SpellsNone}
 use Rattle.ref_log.specs.Names.{Given}
@@ -204,6 +206,14 @@ Fails given lines (Line k fault) =
 Fails given lines (CutOff rows line) = IsCutOff given lines rows line
 Fails given lines CannotRead = Unit {0}
 Fails given lines NoMemory = Unit {0}
+
+-- what is told of the row that a judge objects to, the last of so many, in a line of this number
+abbrev pub TellsOfRow : (count line : ℕ) → Row → Objection → Result Verdict LogFailure → Type 0
+TellsOfRow count line row objection (Ok (Legal rows)) = ⊥
+TellsOfRow count line row objection (Ok (Illegal finding)) =
+    (finding.number ≡ count) × (finding.line ≡ line) × (finding.row ≡ row)
+    × (objection ≡ objections.Illegal finding.breach)
+TellsOfRow count line row objection (Err failure) = failure ≡ NoMemory
 
 -- what is answered of a log of these lines
 abbrev pub Tells : Option Config → List TextLine → Result Verdict LogFailure → Type 0

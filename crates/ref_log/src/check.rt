@@ -2,7 +2,7 @@
 
 ghost use Rattle.std.specs.Prelude.{◌≡◌, ◌||◌, ◌<◌, ◌^◌, ℕ, List, Option, Some, IfOk, IfSome, MatchResult, OnOk};
 ghost use Rattle.ref_base.specs.declared.config.Config.{Config as Configuration};
-ghost use Rattle.ref_log.specs.Checking.{Tells};
+ghost use Rattle.ref_log.specs.Checking.{Tells, TellsOfRow};
 ghost use Rattle.ref_log.specs.Failures.{is_unread};
 ghost use Rattle.ref_judge.specs.Standing.{ObjectsTo};
 ghost use Rattle.ref_log.specs.HeadReading.{IsBehindHead, IsNoRowIn};
@@ -76,23 +76,30 @@ fn verdict_behind<R: TextSource, A: Allocator + Copy>(
         rows += 1;
         match taken(&mut judge, row) {
             Ok(row) => history.note(rows, row),
-            Err((row, objection)) => {
-                let Objection::Illegal(breach) = objection else {
-                    return Err(LogFailure::NoMemory);
-                };
-                let finding = Finding::bare(rows, stream.number(), row, breach);
-                return Ok(Verdict::Illegal(explained(
-                    &judge,
-                    &history,
-                    &names,
-                    content(stream),
-                    finding,
-                )));
-            }
+            Err(refused) => return told_of(&judge, &history, &names, stream, rows, refused),
         }
         has_row = next_told(stream, reader)?;
     }
     Ok(Verdict::Legal { rows })
+}
+
+/// What is told of a row that the judge didn't take: it is the last of so many, and the last line that was read.
+fn told_of<A: Allocator + Copy>(
+    judge: &Judge<A>,
+    history: &History,
+    names: &Option<Names<A>>,
+    stream: &LineStream<A>,
+    rows: u64,
+    refused: (Row, Objection),
+) -> Result<Verdict, LogFailure>
+    ensures { TellsOfRow rows stream.now.number refused.0 refused.1 result }
+{
+    let (row, objection) = refused;
+    let Objection::Illegal(breach) = objection else {
+        return Err(LogFailure::NoMemory);
+    };
+    let finding = Finding::bare(rows, stream.number(), row, breach);
+    Ok(Verdict::Illegal(explained(judge, history, names, content(stream), finding)))
 }
 
 /// The names that were given at first, where objects have names.

@@ -8,7 +8,6 @@ use refrun::{Parts, TextFault, ToWriter, random_script};
 use std::alloc::{AllocError, Allocator, Global};
 use std::io::ErrorKind;
 use std::process::Abort;
-use std::test::Fail;
 
 /// How many seeds are tried.
 const SEEDS: u64 = 1_000;
@@ -98,6 +97,21 @@ pub fn script<A: Allocator + Copy>(
     (answer, output)
 }
 
+/// The script of a seed, which is drawn whole.
+fn drawn(rt: &impl Abort, alloc: Global, seed: u64, steps: u32, parts: Parts) -> Vec<u8> {
+    let (answer, text) = script(alloc, alloc, seed, steps, parts);
+    assert_eq!(rt; answer, Ok(()), "seed {seed}");
+    text
+}
+
+/// What the bytes spell.
+fn spelled<'a>(rt: &impl Abort, bytes: &'a [u8]) -> &'a str {
+    match std::str::from_utf8(bytes) {
+        Ok(text) => text,
+        Err(_) => panic!(rt; "it is no text"),
+    }
+}
+
 /// The words of a row: the name of its step, and how it was answered.
 fn words_of(row: &str) -> Option<(&str, &str)> {
     let (step, reply) = row.split_once(" : ")?;
@@ -178,21 +192,19 @@ pub fn are_met(rt: &impl Abort, counts: &Counts, from: usize, but: &str) {
 #[test]
 fn over_1000_seeds_each_script_is_read_and_each_step_is_answered_in_each_of_its_ways(
     rt: HostRuntime,
-) -> Result<(), Fail> {
+) {
     let alloc = rt.alloc();
     let mut counts = NO_COUNTS;
     for seed in 0..SEEDS {
         let steps = if seed % 20 == 0 { MORE_STEPS } else { STEPS };
-        let (answer, text) = script(alloc, alloc, seed, steps, Parts::ALL);
-        assert_eq!(rt; answer, Ok(()), "seed {seed}");
+        let text = drawn(&rt, alloc, seed, steps, Parts::ALL);
         let (answer, trace) = printed(Task::RunWithJobs, alloc, alloc, text.as_slice());
         assert_eq!(rt; answer, Ok(()), "seed {seed}");
-        let trace = std::str::from_utf8(trace.as_slice())?;
+        let trace = spelled(&rt, trace.as_slice());
         assert_eq!(rt; trace.lines().count(), 1 + steps as usize, "seed {seed}");
         count(&rt, &mut counts, seed, trace);
     }
     are_met(&rt, &counts, 0, "AddressesSpent");
-    Ok(())
 }
 
 /// Two draws of these seeds, of these many steps, give the same script, or another.
@@ -205,20 +217,16 @@ const PAIRS: [((u64, u32), (u64, u32), bool); 5] = [
 ];
 
 #[test]
-fn a_seed_gives_one_script(rt: HostRuntime) -> Result<(), Fail> {
+fn a_seed_gives_one_script(rt: HostRuntime) {
     let alloc = rt.alloc();
     for ((seed, steps), (other, others), is_same) in PAIRS {
-        let (answer, first) = script(alloc, alloc, seed, steps, Parts::ALL);
-        assert_eq!(rt; answer, Ok(()));
-        let (answer, second) = script(alloc, alloc, other, others, Parts::ALL);
-        assert_eq!(rt; answer, Ok(()));
-        assert_eq!(rt;
-            first.as_slice() == second.as_slice(),
-            is_same,
+        let first = drawn(&rt, alloc, seed, steps, Parts::ALL);
+        let second = drawn(&rt, alloc, other, others, Parts::ALL);
+        assert!(rt;
+            (first.as_slice() == second.as_slice()) == is_same,
             "{seed} and {other}"
         );
     }
-    Ok(())
 }
 
 /// Parts, and words that stand in no script without them, or at the begin of none.
@@ -250,21 +258,26 @@ static WITHOUT: [(Parts, &'static str); 4] = [
     ),
 ];
 
+/// None of these words stands in the text, or at its begin.
+fn are_missing(rt: &impl Abort, text: &str, words: &str) {
+    for word in words.split('|') {
+        let is_there = text.split([' ', '\n']).any(|other| other == word);
+        assert!(rt;
+            !is_there && !text.starts_with(word),
+            "{word} stands in {text}"
+        );
+    }
+}
+
 #[test]
-fn a_part_that_is_left_out_is_not_there(rt: HostRuntime) -> Result<(), Fail> {
+fn a_part_that_is_left_out_is_not_there(rt: HostRuntime) {
     let alloc = rt.alloc();
     for &(parts, words) in &WITHOUT {
         for seed in 0..20 {
-            let (answer, text) = script(alloc, alloc, seed, 300, parts);
-            assert_eq!(rt; answer, Ok(()));
-            let text = std::str::from_utf8(text.as_slice())?;
-            for word in words.split('|') {
-                let is_there = text.split([' ', '\n']).any(|other| other == word);
-                assert!(rt; !is_there && !text.starts_with(word), "{word}, seed {seed}");
-            }
+            let text = drawn(&rt, alloc, seed, 300, parts);
+            are_missing(&rt, spelled(&rt, text.as_slice()), words);
         }
     }
-    Ok(())
 }
 
 #[test]
@@ -292,11 +305,10 @@ fn a_script_that_can_not_be_written_is_told_of(rt: HostRuntime) {
 const MOST_REQUESTS: u64 = 1_000;
 
 #[test]
-fn a_script_is_drawn_whole_or_memory_ran_out(rt: HostRuntime) -> Result<(), Fail> {
+fn a_script_is_drawn_whole_or_memory_ran_out(rt: HostRuntime) {
     let alloc = rt.alloc();
     let memory = Rationed::new(alloc);
-    let (answer, whole) = script(alloc, alloc, 7, 300, Parts::ALL);
-    assert_eq!(rt; answer, Ok(()));
+    let whole = drawn(&rt, alloc, 7, 300, Parts::ALL);
     for met in 0..MOST_REQUESTS {
         memory.ration(met);
         let (answer, output) = script(&memory, alloc, 7, 300, Parts::ALL);
@@ -304,7 +316,7 @@ fn a_script_is_drawn_whole_or_memory_ran_out(rt: HostRuntime) -> Result<(), Fail
             assert_eq!(rt; answer, Ok(()));
             assert_eq!(rt; output.as_slice(), whole.as_slice());
             assert!(rt; met > 4, "a drawing takes memory");
-            return Ok(());
+            return;
         }
         assert_eq!(rt; answer, Err(TextFault::NoMemory), "{met}");
         assert!(rt; output.is_empty(), "{met}");
@@ -313,21 +325,18 @@ fn a_script_is_drawn_whole_or_memory_ran_out(rt: HostRuntime) -> Result<(), Fail
         false,
         "random_script makes more requests than {MOST_REQUESTS}"
     );
-    Ok(())
 }
 
 /// The most bytes of a line of a script that is drawn: 100,000 of them are no longer than a script may be.
 const LINE: usize = 40;
 
 #[test]
-fn a_script_of_100_000_steps_is_not_too_long(rt: HostRuntime) -> Result<(), Fail> {
+fn a_script_of_100_000_steps_is_not_too_long(rt: HostRuntime) {
     let alloc = rt.alloc();
     for seed in 0..20 {
-        let (answer, text) = script(alloc, alloc, seed, 1_000, Parts::ALL);
-        assert_eq!(rt; answer, Ok(()));
-        for line in std::str::from_utf8(text.as_slice())?.lines() {
+        let text = drawn(&rt, alloc, seed, 1_000, Parts::ALL);
+        for line in spelled(&rt, text.as_slice()).lines() {
             assert!(rt; line.len() <= LINE, "seed {seed}: {line}");
         }
     }
-    Ok(())
 }

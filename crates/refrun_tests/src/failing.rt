@@ -2,12 +2,11 @@
 
 use crate::cases::{CASES, Case, Task};
 use crate::fakes::{Failing, FailingReader, FailingWriter, ReadsThenFails, WriteFailure};
-use crate::texts::{agree, answer};
+use crate::texts::{agree, answer, whole};
 use refrun::{FromReader, TextFault, ToWriter};
-use std::alloc::{AllocError, Global};
+use std::alloc::Global;
 use std::io::{ErrorKind, Read};
 use std::process::Abort;
-use std::test::Fail;
 
 /// More calls than a run of a case makes.
 const MOST: usize = 1_000;
@@ -53,7 +52,7 @@ fn is_read_failed(
     case: &Case,
     (failure, piece, want): (ErrorKind, usize, Option<TextFault>),
     before: usize,
-) -> Result<bool, AllocError> {
+) -> bool {
     let mut bytes = FailingReader {
         bytes: case.text,
         piece,
@@ -67,9 +66,9 @@ fn is_read_failed(
             assert_eq!(rt; answer, Err(fault), "{}: read {before}", case.name);
             assert!(rt; output.is_empty(), "{}: read {before}", case.name);
         }
-        _ => agree(rt, alloc, case, answer, output.as_slice())?,
+        _ => agree(rt, alloc, case, answer, output.as_slice()),
     }
-    Ok(has_failed)
+    has_failed
 }
 
 /// Each read of a text fails so in turn.
@@ -78,11 +77,11 @@ fn fail_each_read(
     alloc: Global,
     case: &Case,
     failure: (ErrorKind, usize, Option<TextFault>),
-) -> Result<(), AllocError> {
+) {
     let (_, piece, _) = failure;
     let mut reads = 0;
     for before in 0..MOST {
-        if !is_read_failed(rt, alloc, case, failure, before)? {
+        if !is_read_failed(rt, alloc, case, failure, before) {
             break;
         }
         reads = before + 1;
@@ -93,17 +92,15 @@ fn fail_each_read(
         "{}",
         case.name
     );
-    Ok(())
 }
 
 #[test]
-fn a_read_that_fails_is_told_of_and_nothing_is_printed(rt: HostRuntime) -> Result<(), Fail> {
+fn a_read_that_fails_is_told_of_and_nothing_is_printed(rt: HostRuntime) {
     for failure in READ_FAILURES {
         for case in &CASES {
-            fail_each_read(&rt, rt.alloc(), case, failure)?;
+            fail_each_read(&rt, rt.alloc(), case, failure);
         }
     }
-    Ok(())
 }
 
 /// Interruptions of reading: how many reads come before the first, how many interruptions there are, how many reads
@@ -120,22 +117,16 @@ const INTERRUPTIONS: [(usize, u32, usize, bool); 8] = [
 ];
 
 /// The text of a case, with so many empty lines behind it that thousands of reads come before its end.
-fn lengthened(alloc: Global, case: &Case) -> Result<Vec<u8>, AllocError> {
-    let mut text = Vec::from_slice(alloc, case.text)?;
-    let blank = vec![in alloc; b'\n'; 4_000]?;
-    text.extend_from_slice(blank.as_slice())?;
-    Ok(text)
+fn lengthened(rt: &impl Abort, alloc: Global, case: &Case) -> Vec<u8> {
+    let mut text = whole(rt, Vec::from_slice(alloc, case.text));
+    let blank = whole(rt, vec![in alloc; b'\n'; 4_000]);
+    whole(rt, text.extend_from_slice(blank.as_slice()));
+    text
 }
 
 /// What becomes of a case whose reader is interrupted so.
-fn survive(
-    rt: &impl Abort,
-    alloc: Global,
-    case: &Case,
-    failing: Failing,
-    is_read: bool,
-) -> Result<(), AllocError> {
-    let text = lengthened(alloc, case)?;
+fn survive(rt: &impl Abort, alloc: Global, case: &Case, failing: Failing, is_read: bool) {
+    let text = lengthened(rt, alloc, case);
     let reader = FailingReader {
         bytes: text.as_slice(),
         piece: 1,
@@ -144,32 +135,31 @@ fn survive(
     };
     let (answer, output) = read_from(alloc, case.task, reader);
     if is_read {
-        return agree(rt, alloc, case, answer, output.as_slice());
+        agree(rt, alloc, case, answer, output.as_slice());
+    } else {
+        assert_eq!(rt; answer, Err(TextFault::CannotRead), "{}", case.name);
+        assert!(rt; output.is_empty(), "{}", case.name);
     }
-    assert_eq!(rt; answer, Err(TextFault::CannotRead), "{}", case.name);
-    assert!(rt; output.is_empty(), "{}", case.name);
-    Ok(())
 }
 
 #[test]
-fn the_thousandth_interruption_is_a_failure(rt: HostRuntime) -> Result<(), Fail> {
+fn the_thousandth_interruption_is_a_failure(rt: HostRuntime) {
     for (before, times, between, is_read) in INTERRUPTIONS {
         for case in &CASES {
             let failing = Failing::often(before, times, between);
-            survive(&rt, rt.alloc(), case, failing, is_read)?;
+            survive(&rt, rt.alloc(), case, failing, is_read);
         }
     }
-    Ok(())
 }
 
 #[test]
-fn reading_stops_once_a_text_is_too_long(rt: HostRuntime) -> Result<(), Fail> {
+fn reading_stops_once_a_text_is_too_long(rt: HostRuntime) {
     let alloc = rt.alloc();
     for (length, want) in [
         (4_194_304, TextFault::CannotRead),
         (4_194_305, TextFault::TooLong),
     ] {
-        let text = vec![in alloc; b'\n'; length]?;
+        let text = whole(&rt, vec![in alloc; b'\n'; length]);
         for task in [Task::Run, Task::List] {
             let reader = ReadsThenFails {
                 bytes: text.as_slice(),
@@ -180,7 +170,6 @@ fn reading_stops_once_a_text_is_too_long(rt: HostRuntime) -> Result<(), Fail> {
             assert!(rt; output.is_empty(), "{length}");
         }
     }
-    Ok(())
 }
 
 /// The most bytes that a write takes: one at a time, a few, all.
@@ -207,7 +196,7 @@ fn is_write_failed(
     piece: usize,
     before: usize,
     failure: WriteFailure,
-) -> Result<bool, AllocError> {
+) -> bool {
     let mut writer = FailingWriter {
         taken: Vec::new(alloc),
         piece,
@@ -221,8 +210,8 @@ fn is_write_failed(
     let taken = writer.taken.as_slice();
     let has_failed = writer.failing.has_failed();
     if !has_failed {
-        agree(rt, alloc, case, answer, taken)?;
-        return Ok(false);
+        agree(rt, alloc, case, answer, taken);
+        return false;
     }
     assert_eq!(rt;
         answer,
@@ -231,7 +220,7 @@ fn is_write_failed(
         case.name
     );
     assert!(rt; case.prints.starts_with(taken), "{}: {before}", case.name);
-    Ok(true)
+    true
 }
 
 /// Each write or flush of a text's output fails so in turn.
@@ -241,10 +230,10 @@ fn fail_each_write(
     case: &Case,
     piece: usize,
     failure: WriteFailure,
-) -> Result<(), AllocError> {
+) {
     let mut calls = 0;
     for before in 0..MOST {
-        if !is_write_failed(rt, alloc, case, piece, before, failure)? {
+        if !is_write_failed(rt, alloc, case, piece, before, failure) {
             break;
         }
         calls = before + 1;
@@ -256,17 +245,15 @@ fn fail_each_write(
     };
     let is_enough = calls < MOST && calls.saturating_mul(piece) >= wanted;
     assert!(rt; is_enough, "{}: {calls}", case.name);
-    Ok(())
 }
 
 #[test]
-fn a_write_that_fails_is_told_of_and_a_prefix_went_out(rt: HostRuntime) -> Result<(), Fail> {
+fn a_write_that_fails_is_told_of_and_a_prefix_went_out(rt: HostRuntime) {
     for failure in WRITE_FAILURES {
         for case in &CASES {
             for piece in PIECES {
-                fail_each_write(&rt, rt.alloc(), case, piece, failure)?;
+                fail_each_write(&rt, rt.alloc(), case, piece, failure);
             }
         }
     }
-    Ok(())
 }

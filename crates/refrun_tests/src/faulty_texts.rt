@@ -2,15 +2,14 @@
 //! be. Faults of a step's words stand in `step_lines`.
 
 use crate::cases::Task;
-use crate::texts::printed;
+use crate::texts::{printed, whole};
 use refrun::LineFault::{
     self, BadConfig, BadHeader, BadWord, DoubleObject, ExtraWord, LineTooLong, MissingWord,
     NotAscii, UnknownLine, UnknownStep,
 };
 use refrun::TextFault;
-use std::alloc::{AllocError, Global};
+use std::alloc::Global;
 use std::process::Abort;
-use std::test::Fail;
 
 /// The line and the fault that are told of each of these texts, which bars divide.
 type Row = (u64, LineFault, &'static [u8]);
@@ -110,23 +109,28 @@ fn have_faults(
     alloc: Global,
     (task, before, behind): (Task, &[u8], &[u8]),
     rows: &[Row],
-) -> Result<(), AllocError> {
+) {
     for (place, &(line, fault, texts)) in rows.iter().enumerate() {
         for (nth, told) in texts.split(|byte| *byte == b'|').enumerate() {
-            let mut text = Vec::from_slice(alloc, before)?;
-            text.extend_from_slice(told)?;
-            text.extend_from_slice(behind)?;
+            let text = joined(rt, alloc, before, told, behind);
             let (answer, output) = printed(task, alloc, alloc, text.as_slice());
             let want = Err(TextFault::Line(line, fault));
-            assert_eq!(rt; answer, want, "row {place}, text {nth}");
+            assert!(rt; answer == want, "row {place}, text {nth}");
             assert!(rt; output.is_empty(), "row {place}, text {nth}");
         }
     }
-    Ok(())
+}
+
+/// These bytes, one behind the other.
+fn joined(rt: &impl Abort, alloc: Global, first: &[u8], second: &[u8], third: &[u8]) -> Vec<u8> {
+    let mut text = whole(rt, Vec::from_slice(alloc, first));
+    whole(rt, text.extend_from_slice(second));
+    whole(rt, text.extend_from_slice(third));
+    text
 }
 
 #[test]
-fn the_fault_of_the_first_faulty_line_is_told(rt: HostRuntime) -> Result<(), Fail> {
+fn the_fault_of_the_first_faulty_line_is_told(rt: HostRuntime) {
     let none = b"".as_slice();
     let graph = b"refgraph 1\n".as_slice();
     let config = b"\nconfig 1 1 1 1 0\n".as_slice();
@@ -139,9 +143,8 @@ fn the_fault_of_the_first_faulty_line_is_told(rt: HostRuntime) -> Result<(), Fai
         ((Task::List, graph, none), GRAPH_LINES.as_slice()),
     ];
     for (around, rows) in tables {
-        have_faults(&rt, rt.alloc(), around, rows)?;
+        have_faults(&rt, rt.alloc(), around, rows);
     }
-    Ok(())
 }
 
 const TITLE: &[u8] = b"refscript 1\n";
@@ -171,37 +174,35 @@ const ENDS: [&[u8]; 3] = [b"", b"\n", b"\r\n"];
 
 /// What a text answers whose last line begins so and is filled up to this length, a CR counted.
 fn answer_at(
+    rt: &impl Abort,
     alloc: Global,
     (task, before, start): (Task, &[u8], &[u8]),
     byte: u8,
     end: &[u8],
     length: usize,
-) -> Result<Result<(), TextFault>, AllocError> {
+) -> Result<(), TextFault> {
     let counted = start.len() + end.len().saturating_sub(1);
-    let filling = vec![in alloc; byte; length.saturating_sub(counted)]?;
-    let mut text = Vec::from_slice(alloc, before)?;
-    text.extend_from_slice(start)?;
-    text.extend_from_slice(filling.as_slice())?;
-    text.extend_from_slice(end)?;
+    let filling = vec![in alloc; byte; length.saturating_sub(counted)];
+    let front = joined(rt, alloc, before, start, whole(rt, filling).as_slice());
+    let text = joined(rt, alloc, front.as_slice(), end, b"");
     let (answer, _) = printed(task, alloc, alloc, text.as_slice());
-    Ok(answer)
+    answer
 }
 
 #[test]
-fn a_line_may_have_200_bytes(rt: HostRuntime) -> Result<(), Fail> {
+fn a_line_may_have_200_bytes(rt: HostRuntime) {
     for (task, before, line, start, byte, fault) in LAST_LINES {
         for end in ENDS {
             let text = (task, before, start);
-            let answer = answer_at(rt.alloc(), text, byte, end, 200)?;
+            let answer = answer_at(&rt, rt.alloc(), text, byte, end, 200);
             let want = match fault {
                 Some(fault) => Err(TextFault::Line(line, fault)),
                 None => Ok(()),
             };
-            assert_eq!(rt; answer, want, "line {line} of 200 bytes");
-            let answer = answer_at(rt.alloc(), text, byte, end, 201)?;
+            assert!(rt; answer == want, "line {line} of 200 bytes");
+            let answer = answer_at(&rt, rt.alloc(), text, byte, end, 201);
             let want = Err(TextFault::Line(line, LineTooLong));
-            assert_eq!(rt; answer, want, "line {line} of 201 bytes");
+            assert!(rt; answer == want, "line {line} of 201 bytes");
         }
     }
-    Ok(())
 }

@@ -1,5 +1,6 @@
 //! The checks of a queue's lists, against lists that were worked out by hand.
 
+use crate::texts::whole;
 use rationed::Rationed;
 use ref_base::{Fault, ObjNo};
 use refrun::{Check, JobFate, StressLists, check_lists};
@@ -133,17 +134,19 @@ fn shown_by(alloc: Global, lists: &StressLists) -> Result<String, Fail> {
     }
 }
 
+/// The check that fails first is told, and so is what shows it.
+fn is_told(rt: &impl Abort, alloc: Global, case: &Case, row: &str) -> Result<(), Fail> {
+    assert!(rt; checked(alloc, &case.lists) == Ok(case.fails), "{row}");
+    let shown = shown_by(alloc, &case.lists)?;
+    let is_so = case.shown.is_empty() || shown.as_str() == case.shown;
+    assert!(rt; is_so, "{row}: {shown}");
+    Ok(())
+}
+
 #[test]
 fn the_first_check_that_fails_is_told_and_what_shows_it(rt: HostRuntime) -> Result<(), Fail> {
-    let alloc = rt.alloc();
     for row in CASES {
-        let case = case_of(alloc, row)?;
-        assert_eq!(rt; checked(alloc, &case.lists), Ok(case.fails), "{row}");
-        let shown = shown_by(alloc, &case.lists)?;
-        assert!(rt;
-            case.shown.is_empty() || shown.as_str() == case.shown,
-            "{row}: {shown}"
-        );
+        is_told(&rt, rt.alloc(), &case_of(rt.alloc(), row)?, row)?;
     }
     Ok(())
 }
@@ -170,13 +173,12 @@ fn refuse_each(rt: &impl Abort, memory: &Rationed<Global>, case: &Case, row: &st
         memory.ration(met);
         let answer = checked(memory, &case.lists);
         if !memory.lift() {
-            assert_eq!(rt; answer, Ok(case.fails), "{row}: {met}");
+            assert!(rt; answer == Ok(case.fails), "{row}: {met}");
             return met;
         }
-        assert_eq!(rt; answer, Err(Fault::NoMemory), "{row}: {met}");
-        assert_eq!(rt;
-            checked(memory, &case.lists),
-            Ok(case.fails),
+        let again = checked(memory, &case.lists);
+        assert!(rt;
+            answer == Err(Fault::NoMemory) && again == Ok(case.fails),
             "{row}: {met}"
         );
     }
@@ -197,9 +199,9 @@ fn each_refused_request_of_a_check_is_told(rt: HostRuntime) -> Result<(), Fail> 
 }
 
 #[test]
-fn each_check_prints_as_its_name(rt: HostRuntime) -> Result<(), Fail> {
+fn each_check_prints_as_its_name(rt: HostRuntime) {
     for (check, name) in CHECKS {
-        assert_eq!(rt; format!(in rt.alloc(); "{check}")?.as_str(), name);
+        let printed = whole(&rt, format!(in rt.alloc(); "{check}"));
+        assert!(rt; printed.as_str() == name, "{printed}");
     }
-    Ok(())
 }

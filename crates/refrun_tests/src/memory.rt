@@ -2,12 +2,11 @@
 //! run meets no refusal.
 
 use crate::cases::{CASES, Case, Task};
-use crate::texts::{agree, printed};
+use crate::texts::{agree, printed, whole};
 use rationed::Rationed;
 use refrun::TextFault;
-use std::alloc::{AllocError, Global};
+use std::alloc::Global;
 use std::process::Abort;
-use std::test::Fail;
 
 /// More requests than a run makes.
 const MOST: u64 = 2_000;
@@ -114,7 +113,7 @@ enum Came {
 }
 
 /// A trace with these rows in place of those with their numbers.
-fn with_rows(alloc: Global, trace: &[u8], rows: &[&str]) -> Result<Vec<u8>, AllocError> {
+fn with_rows(rt: &impl Abort, alloc: Global, trace: &[u8], rows: &[&str]) -> Vec<u8> {
     let mut text = Vec::new(alloc);
     for line in trace.split_inclusive(|byte| *byte == b'\n') {
         let mut told = line;
@@ -123,10 +122,10 @@ fn with_rows(alloc: Global, trace: &[u8], rows: &[&str]) -> Result<Vec<u8>, Allo
                 told = row.as_bytes();
             }
         }
-        text.extend_from_slice(told.trim_ascii())?;
-        text.push(b'\n')?;
+        whole(rt, text.extend_from_slice(told.trim_ascii()));
+        assert!(rt; text.push(b'\n').is_ok(), "no memory");
     }
-    Ok(text)
+    text
 }
 
 /// What stands in front of a row's first space.
@@ -136,33 +135,27 @@ fn number_of(row: &[u8]) -> Option<&[u8]> {
 
 /// Runs a text with so many requests for memory met. Where one was refused the same text is answered as ever once there
 /// is memory.
-fn come(
-    rt: &impl Abort,
-    memory: &Rationed<Global>,
-    alloc: Global,
-    case: &Case,
-    met: u64,
-) -> Result<Came, AllocError> {
+fn come(rt: &impl Abort, memory: &Rationed<Global>, alloc: Global, case: &Case, met: u64) -> Came {
     memory.ration(met);
     let (answer, output) = printed(case.task, memory, alloc, case.text);
     if !memory.lift() {
-        agree(rt, alloc, case, answer, output.as_slice())?;
-        return Ok(Came::Whole);
+        agree(rt, alloc, case, answer, output.as_slice());
+        return Came::Whole;
     }
     let (again, all) = printed(case.task, memory, alloc, case.text);
-    agree(rt, alloc, case, again, all.as_slice())?;
+    agree(rt, alloc, case, again, all.as_slice());
     if let Err(fault) = answer {
         assert_eq!(rt; fault, TextFault::NoMemory, "{}: {met}", case.name);
         assert!(rt; output.is_empty(), "{}: {met}", case.name);
-        return Ok(Came::Nothing);
+        return Came::Nothing;
     }
     for (place, rows) in case.scarce.iter().enumerate() {
-        if with_rows(alloc, case.prints, rows)?.as_slice() == output.as_slice() {
-            return Ok(Came::Partly(place));
+        if with_rows(rt, alloc, case.prints, rows).as_slice() == output.as_slice() {
+            return Came::Partly(place);
         }
     }
     assert!(rt; false, "{}: {met}", case.name);
-    Ok(Came::Nothing)
+    Came::Nothing
 }
 
 /// The call that does a task.
@@ -174,12 +167,12 @@ fn call_of(task: Task) -> &'static str {
 }
 
 /// Each request for memory of a text is refused in turn. Of what it may then print, each comes in its turn.
-fn refuse_each(rt: &impl Abort, alloc: Global, case: &Case) -> Result<(), AllocError> {
+fn refuse_each(rt: &impl Abort, alloc: Global, case: &Case) {
     let memory = Rationed::new(alloc);
     let name = case.name;
     let mut stage = 0;
     for met in 0..MOST {
-        match come(rt, &memory, alloc, case, met)? {
+        match come(rt, &memory, alloc, case, met) {
             Came::Nothing => {}
             Came::Partly(place) => {
                 let next = place.saturating_add(1);
@@ -189,21 +182,19 @@ fn refuse_each(rt: &impl Abort, alloc: Global, case: &Case) -> Result<(), AllocE
             Came::Whole => {
                 assert_eq!(rt; stage, case.scarce.len(), "{name}: {met}");
                 assert!(rt; met > 0, "{name}: a run takes memory");
-                return Ok(());
+                return;
             }
         }
     }
     let call = call_of(case.task);
     assert!(rt; false, "{name}: {call} makes more requests than {MOST}");
-    Ok(())
 }
 
 #[test]
-fn a_text_is_answered_whole_or_memory_ran_out(rt: HostRuntime) -> Result<(), Fail> {
+fn a_text_is_answered_whole_or_memory_ran_out(rt: HostRuntime) {
     for cases in [CASES.as_slice(), SCARCE.as_slice()] {
         for case in cases {
-            refuse_each(&rt, rt.alloc(), case)?;
+            refuse_each(&rt, rt.alloc(), case);
         }
     }
-    Ok(())
 }

@@ -1,6 +1,7 @@
 //! The texts of numbers, faults, strengths, counts, and replies with numbers that no script comes to. All other steps
 //! and replies stand in the traces of `refrun_cases`.
 
+use crate::texts::whole;
 use ref_base::{
     Done, Fault, MutNo, Nos, ObjNo, Outs, PlainStep, QueueNo, Reach, Reply, Row, SlotNo, Step,
     WorkerNo,
@@ -9,14 +10,16 @@ use refrun::Counts;
 use std::alloc::Global;
 use std::fmt;
 use std::process::Abort;
-use std::test::Fail;
 
 /// Each prints so.
-fn agree<T: fmt::Display>(rt: &impl Abort, alloc: Global, table: &[(T, &str)]) -> Result<(), Fail> {
+fn agree<T: fmt::Display>(rt: &impl Abort, alloc: Global, table: &[(T, &str)]) {
     for (row, (value, want)) in table.iter().enumerate() {
-        assert_eq!(rt; format!(in alloc; "{value}")?.as_str(), *want, "row {row}");
+        assert_eq!(rt;
+            whole(rt, format!(in alloc; "{value}")).as_str(),
+            *want,
+            "row {row}"
+        );
     }
-    Ok(())
 }
 
 /// Each strength, and its name.
@@ -29,20 +32,18 @@ const STRENGTHS: [(Reach, &str); 5] = [
 ];
 
 #[test]
-fn each_number_prints_behind_its_letter_and_each_strength_as_its_name(
-    rt: HostRuntime,
-) -> Result<(), Fail> {
+fn each_number_prints_behind_its_letter_and_each_strength_as_its_name(rt: HostRuntime) {
     let alloc = rt.alloc();
-    agree(&rt, alloc, &[(ObjNo(4_294_967_295), "4294967295")])?;
-    agree(&rt, alloc, &[(QueueNo(0), "q0")])?;
-    agree(&rt, alloc, &[(MutNo(0), "m0")])?;
-    agree(&rt, alloc, &[(WorkerNo(3), "w3")])?;
-    agree(&rt, alloc, &[(SlotNo(15), "s15")])?;
-    agree(&rt, alloc, &STRENGTHS)
+    agree(&rt, alloc, &[(ObjNo(4_294_967_295), "4294967295")]);
+    agree(&rt, alloc, &[(QueueNo(0), "q0")]);
+    agree(&rt, alloc, &[(MutNo(0), "m0")]);
+    agree(&rt, alloc, &[(WorkerNo(3), "w3")]);
+    agree(&rt, alloc, &[(SlotNo(15), "s15")]);
+    agree(&rt, alloc, &STRENGTHS);
 }
 
 #[test]
-fn the_counts_of_a_stress_run_print_in_one_line(rt: HostRuntime) -> Result<(), Fail> {
+fn the_counts_of_a_stress_run_print_in_one_line(rt: HostRuntime) {
     let counts = Counts {
         rounds: 7,
         cycles: 4,
@@ -55,7 +56,7 @@ fn the_counts_of_a_stress_run_print_in_one_line(rt: HostRuntime) -> Result<(), F
     };
     let line = "7 rounds, 4 cycles, 1 urgent, 3 notices, 6 and 5 batches, 2 moves, 8 jobs";
     let table = [(counts, line)];
-    agree(&rt, rt.alloc(), &table)
+    agree(&rt, rt.alloc(), &table);
 }
 
 /// Each fault, its number and its name.
@@ -88,18 +89,17 @@ const FAULTS: [(Fault, u32, &str); 25] = [
 ];
 
 /// Each fault has this number and this name, and prints as the name.
-fn faults_agree(rt: &impl Abort, alloc: Global, table: &[(Fault, u32, &str)]) -> Result<(), Fail> {
+fn faults_agree(rt: &impl Abort, alloc: Global, table: &[(Fault, u32, &str)]) {
     for &(fault, number, name) in table {
         assert_eq!(rt; fault.number(), number, "the number of {name}");
         assert_eq!(rt; fault.name(), name);
-        agree(rt, alloc, &[(fault, name)])?;
+        agree(rt, alloc, &[(fault, name)]);
     }
-    Ok(())
 }
 
 #[test]
-fn each_fault_has_its_number_and_prints_as_its_name(rt: HostRuntime) -> Result<(), Fail> {
-    faults_agree(&rt, rt.alloc(), &FAULTS)
+fn each_fault_has_its_number_and_prints_as_its_name(rt: HostRuntime) {
+    faults_agree(&rt, rt.alloc(), &FAULTS);
 }
 
 /// What became of five notices, where nine were put in before.
@@ -120,7 +120,7 @@ fn outs() -> Outs {
 }
 
 #[test]
-fn replies_of_several_notices_and_a_row_print_as_in_a_trace(rt: HostRuntime) -> Result<(), Fail> {
+fn replies_of_several_notices_and_a_row_print_as_in_a_trace(rt: HostRuntime) {
     let alloc = rt.alloc();
     let mut objects = Nos::new();
     objects.push(ObjNo(2));
@@ -136,13 +136,13 @@ fn replies_of_several_notices_and_a_row_print_as_in_a_trace(rt: HostRuntime) -> 
         &rt,
         alloc,
         &[(notices, "notices 2 4294967295 3 q15 cycle 7 w1")],
-    )?;
+    );
     let outs = Reply::Outs(outs());
     let row = [(
         outs,
         "added 9, already, added 10, closed, refused 3 NoMemory",
     )];
-    agree(&rt, alloc, &row)?;
+    agree(&rt, alloc, &row);
     let step = Step::Plain(PlainStep::New {
         mutator: MutNo(0),
         slot: SlotNo(0),
@@ -153,5 +153,5 @@ fn replies_of_several_notices_and_a_row_print_as_in_a_trace(rt: HostRuntime) -> 
         &rt,
         alloc,
         &[(Row { step, reply }, "m0 new s0 0 : object 1")],
-    )
+    );
 }

@@ -2,11 +2,10 @@
 //! table a bar stands between two lines.
 
 use crate::cases::Task;
-use crate::texts::printed;
+use crate::texts::{printed, whole};
 use refrun::{LineFault, TextFault};
-use std::alloc::{AllocError, Global};
+use std::alloc::Global;
 use std::process::Abort;
-use std::test::Fail;
 
 /// A line of each step; actors, slots and queues may be outside the configuration.
 const READ: [&str; 7] = [
@@ -67,36 +66,29 @@ const EXTRA: [&str; 6] = [
 ];
 
 /// What a script answers whose third line is this one, and whose fourth is no step.
-fn answer_to(alloc: Global, line: &str) -> Result<Result<(), TextFault>, AllocError> {
-    let text = format!(in alloc; "refscript 1\nconfig 1 1 1 8 10\n{line}\nx\n")?;
-    let (answer, _) = printed(Task::Run, alloc, alloc, text.as_bytes());
-    Ok(answer)
+fn answer_to(rt: &impl Abort, alloc: Global, line: &str) -> Result<(), TextFault> {
+    let text = format!(in alloc; "refscript 1\nconfig 1 1 1 8 10\n{line}\nx\n");
+    let (answer, _) = printed(Task::Run, alloc, alloc, whole(rt, text).as_bytes());
+    answer
 }
 
 /// Each of these lines, as the third of a script, makes it answer so.
-fn agree(
-    rt: &impl Abort,
-    alloc: Global,
-    lines: &[&str],
-    want: TextFault,
-) -> Result<(), AllocError> {
+fn agree(rt: &impl Abort, alloc: Global, lines: &[&str], want: TextFault) {
     for row in lines {
         for line in row.split('|') {
-            assert_eq!(rt; answer_to(alloc, line)?, Err(want), "{line}");
+            assert_eq!(rt; answer_to(rt, alloc, line), Err(want), "{line}");
         }
     }
-    Ok(())
 }
 
 #[test]
-fn a_line_of_each_step_is_read(rt: HostRuntime) -> Result<(), Fail> {
+fn a_line_of_each_step_is_read(rt: HostRuntime) {
     let behind = TextFault::Line(4, LineFault::UnknownStep);
-    agree(&rt, rt.alloc(), READ.as_slice(), behind)?;
-    Ok(())
+    agree(&rt, rt.alloc(), READ.as_slice(), behind);
 }
 
 #[test]
-fn each_fault_of_a_step_is_told(rt: HostRuntime) -> Result<(), Fail> {
+fn each_fault_of_a_step_is_told(rt: HostRuntime) {
     let tables = [
         (UNKNOWN.as_slice(), LineFault::UnknownStep),
         (MISSING.as_slice(), LineFault::MissingWord),
@@ -104,7 +96,6 @@ fn each_fault_of_a_step_is_told(rt: HostRuntime) -> Result<(), Fail> {
         (EXTRA.as_slice(), LineFault::ExtraWord),
     ];
     for (lines, want) in tables {
-        agree(&rt, rt.alloc(), lines, TextFault::Line(3, want))?;
+        agree(&rt, rt.alloc(), lines, TextFault::Line(3, want));
     }
-    Ok(())
 }

@@ -6,7 +6,6 @@ use ref_script::strength_text;
 use refrun::{FromReader, LineFault, TextFault, TextSink, TextSource, ToWriter, run_script};
 use std::alloc::{AllocError, Allocator, Global};
 use std::process::Abort;
-use std::test::Fail;
 
 /// A graph with each kind of line.
 pub const GRAPH: &[u8] =
@@ -53,9 +52,17 @@ pub fn printed<A: Allocator + Copy>(
     (answer, output)
 }
 
+/// What was made: a test ends where there was no memory for it.
+pub fn whole<T: Drop>(rt: &impl Abort, made: Result<T, AllocError>) -> T {
+    match made {
+        Ok(made) => made,
+        Err(_) => panic!(rt; "no memory"),
+    }
+}
+
 /// What the program says of a fault.
-pub fn message(alloc: Global, fault: TextFault) -> Result<String, AllocError> {
-    format!(in alloc; "refrun: {fault}\n")
+pub fn message(rt: &impl Abort, alloc: Global, fault: TextFault) -> String {
+    whole(rt, format!(in alloc; "refrun: {fault}\n"))
 }
 
 /// The answer to the text of a case is what it must be, and so is what was printed.
@@ -65,32 +72,30 @@ pub fn agree(
     case: &Case,
     answer: Result<(), TextFault>,
     output: &[u8],
-) -> Result<(), AllocError> {
+) {
     let name = case.name;
     assert_eq!(rt; output, case.prints, "{name}");
     let error = match answer {
         Ok(()) => String::new(alloc),
         Err(fault) => {
             assert_eq!(rt; fault.exit_status(), 3, "{name}");
-            message(alloc, fault)?
+            message(rt, alloc, fault)
         }
     };
     assert_eq!(rt; error.as_str(), case.error, "{name}");
-    Ok(())
 }
 
 #[test]
-fn each_text_prints_what_it_must_or_its_fault(rt: HostRuntime) -> Result<(), Fail> {
+fn each_text_prints_what_it_must_or_its_fault(rt: HostRuntime) {
     let alloc = rt.alloc();
     for case in &CASES {
         let (answer, output) = printed(case.task, alloc, alloc, case.text);
-        agree(&rt, alloc, case, answer, output.as_slice())?;
+        agree(&rt, alloc, case, answer, output.as_slice());
     }
-    Ok(())
 }
 
 #[test]
-fn each_fault_of_no_line_has_its_message_and_its_status(rt: HostRuntime) -> Result<(), Fail> {
+fn each_fault_of_no_line_has_its_message_and_its_status(rt: HostRuntime) {
     let faults = [
         (TextFault::CannotRead, "refrun: cannot read\n", 3),
         (TextFault::CannotWrite, "refrun: cannot write\n", 3),
@@ -98,10 +103,9 @@ fn each_fault_of_no_line_has_its_message_and_its_status(rt: HostRuntime) -> Resu
         (TextFault::NoMemory, "refrun: no memory\n", 5),
     ];
     for (fault, want, status) in faults {
-        assert_eq!(rt; message(rt.alloc(), fault)?.as_str(), want);
+        assert_eq!(rt; message(&rt, rt.alloc(), fault).as_str(), want);
         assert_eq!(rt; fault.exit_status(), status);
     }
-    Ok(())
 }
 
 /// A text as long as a text may be, which begins so and goes on with one byte, answers and prints this; with one byte
@@ -112,22 +116,21 @@ fn may_be_so_long(
     (task, start, byte): (Task, &[u8], u8),
     want: Result<(), TextFault>,
     prints: &[u8],
-) -> Result<(), AllocError> {
-    let mut text = Vec::from_slice(alloc, start)?;
-    let rest = vec![in alloc; byte; 4_194_304usize.saturating_sub(text.len())]?;
-    text.extend_from_slice(rest.as_slice())?;
+) {
+    let mut text = whole(rt, Vec::from_slice(alloc, start));
+    let rest = vec![in alloc; byte; 4_194_304usize.saturating_sub(text.len())];
+    whole(rt, text.extend_from_slice(whole(rt, rest).as_slice()));
     let (answer, output) = printed(task, alloc, alloc, text.as_slice());
     assert_eq!(rt; answer, want);
     assert_eq!(rt; output.as_slice(), prints);
-    text.push(byte)?;
+    assert!(rt; text.push(byte).is_ok(), "no memory");
     let (answer, output) = printed(task, alloc, alloc, text.as_slice());
     assert_eq!(rt; answer, Err(TextFault::TooLong), "{want:?}");
     assert!(rt; output.is_empty());
-    Ok(())
 }
 
 #[test]
-fn a_text_may_have_4194304_bytes(rt: HostRuntime) -> Result<(), Fail> {
+fn a_text_may_have_4194304_bytes(rt: HostRuntime) {
     let script = b"refscript 1\nconfig 1 1 1 1 0\n".as_slice();
     let graph = b"refgraph 1\nplain 1\n".as_slice();
     let good = [
@@ -135,7 +138,7 @@ fn a_text_may_have_4194304_bytes(rt: HostRuntime) -> Result<(), Fail> {
         ((Task::List, graph, b'\n'), b"1 unreachable\n".as_slice()),
     ];
     for (text, prints) in good {
-        may_be_so_long(&rt, rt.alloc(), text, Ok(()), prints)?;
+        may_be_so_long(&rt, rt.alloc(), text, Ok(()), prints);
     }
     let faulty = [
         ((Task::Run, script, 0), 3, LineFault::LineTooLong),
@@ -147,7 +150,6 @@ fn a_text_may_have_4194304_bytes(rt: HostRuntime) -> Result<(), Fail> {
     ];
     for (text, line, fault) in faulty {
         let want = Err(TextFault::Line(line, fault));
-        may_be_so_long(&rt, rt.alloc(), text, want, b"".as_slice())?;
+        may_be_so_long(&rt, rt.alloc(), text, want, b"".as_slice());
     }
-    Ok(())
 }

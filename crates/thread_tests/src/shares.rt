@@ -1,6 +1,6 @@
 //! A shared heap, its queue and a cleaner: stories of calls, each with its answer.
 
-ghost use Rattle.std.specs.Prelude.{◌≡◌, [], IfOk};
+ghost use Rattle.std.specs.Prelude.{◌≡◌, []};
 ghost use Rattle.ref_share.specs.HeapSeats.{IsHeapSeat};
 ghost use Rattle.ref_share.specs.QueueSeats.{IsQueueSeat};
 ghost use Rattle.std.specs.Mem.{FitsInMemory};
@@ -15,7 +15,6 @@ use rows::{BREAKS, call_of, is_comment, parts_of};
 use std::alloc::{Allocator, Global};
 use std::process::Abort;
 use std::sync::Wait;
-use std::test::Fail;
 use told::expect;
 
 mod batches;
@@ -72,19 +71,24 @@ pub const STARTS: Starts = Starts {
 
 /// A new heap and a new queue, with a seat of each.
 pub fn start<A: Allocator + Copy>(
+    rt: &impl Abort,
     alloc: A,
     starts: Starts,
-) -> Result<(SharedHeap<A>, SharedQueue<A>, Seats<A>), Fault>
-    ensures { IfOk result (λ made. IsHeapSeat made.0 made.2.heap × IsQueueSeat made.1 made.2.queue) }
+) -> (SharedHeap<A>, SharedQueue<A>, Seats<A>)
+    ensures { IsHeapSeat result.0 result.2.heap × IsQueueSeat result.1 result.2.queue }
 {
-    let (heap, heap_seat) = SharedHeap::starting(alloc, CONFIG, 0, starts.heap)?;
-    let (queue, queue_seat) = SharedQueue::starting(alloc, starts.number, starts.queue)?;
+    let Ok((heap, heap_seat)) = SharedHeap::starting(alloc, CONFIG, 0, starts.heap) else {
+        panic!(rt; "there is no heap");
+    };
+    let Ok((queue, queue_seat)) = SharedQueue::starting(alloc, starts.number, starts.queue) else {
+        panic!(rt; "there is no queue");
+    };
     let seats = Seats {
         heap: heap_seat,
         queue: queue_seat,
         alloc,
     };
-    Ok((heap, queue, seats))
+    (heap, queue, seats)
 }
 
 /// A batch of no notices.
@@ -148,12 +152,12 @@ fn agree<R: Wait + Abort>(
     first: &str,
     then: &str,
     left: Left,
-) -> Result<(), Fail> {
-    let (heap, queue, mut seats) = start(alloc, starts)?;
+) {
+    let (heap, queue, mut seats) = start(rt, alloc, starts);
     make_calls(rt, &heap, &queue, &mut seats, first);
     make_calls(rt, &heap, &queue, &mut seats, then);
     assert!(rt; heap.config() == CONFIG && queue.number() == starts.number);
-    end(rt, alloc, heap, queue, seats, left)
+    end(rt, alloc, heap, queue, seats, left);
 }
 
 /// Ends heap and queue, of which no turn is open, and looks what is left.
@@ -164,28 +168,29 @@ fn end(
     queue: SharedQueue,
     seats: Seats,
     left: Left,
-) -> Result<(), Fail>
+)
     requires { IsHeapSeat heap seats.heap × IsQueueSeat queue seats.queue }
 {
     let is_over = heap.finish(seats.heap).is_ok();
     assert!(rt; is_over, "no turn of the heap is open");
     match queue.finish(seats.queue) {
         Ok(queue) => {
-            let enqueued = queue.enqueued(alloc);
-            let stands = queue.stands(alloc);
+            have_numbers(rt, queue.enqueued(alloc), left.0);
+            have_numbers(rt, queue.stands(alloc), left.1);
             end_queue(Ok(queue));
-            have_numbers(rt, enqueued?.as_slice(), left.0);
-            have_numbers(rt, stands?.as_slice(), left.1);
         }
         Err(back) => {
             end_queue(Err(back));
             assert!(rt; false, "no turn of the queue is open");
         }
     }
-    Ok(())
 }
 
-fn have_numbers(rt: &impl Abort, found: &[ObjNo], want: &[u32]) {
+fn have_numbers(rt: &impl Abort, found: Result<Vec<ObjNo>, Fault>, want: &[u32]) {
+    let found = match found {
+        Ok(found) => found,
+        Err(fault) => panic!(rt; "{fault}"),
+    };
     assert!(rt; found.len() == want.len());
     for (place, &no) in want.iter().enumerate() {
         assert!(rt; found.get(place) == Some(&ObjNo(no)), "place {place}");

@@ -5,19 +5,18 @@ use super::stories::bench_of;
 use crate::steps::{M, agree, is_so};
 use ref_base::{HeapStep, SlotNo};
 use std::process::Abort;
-use std::test::Fail;
 
 /// A hold of what this slot holds is taken into the hand, which is answered so.
-fn take(rt: &impl Abort, bench: &mut Bench, slot: u32, want: &str) {
+pub fn take(rt: &impl Abort, bench: &mut Bench, slot: u32, want: &str) {
     let (mutator, slot) = (M, SlotNo(slot));
     let told = bench.asked(HeapStep::Hold { mutator, slot });
     assert!(rt; is_so(told, want), "{slot} is held");
 }
 
 #[test]
-fn holds_and_notices_are_given_and_taken_back(rt: HostRuntime) -> Result<(), Fail> {
+fn holds_and_notices_are_given_and_taken_back(rt: HostRuntime) {
     let one = Some((1, 1));
-    let mut bench = bench_of(rt.alloc())?;
+    let mut bench = bench_of(&rt, rt.alloc());
     agree(&rt, &mut bench, "m0 new s0 0 : object 1");
     take(&rt, &mut bench, 0, "object 1");
     bench.has(&rt, one);
@@ -46,13 +45,12 @@ fn holds_and_notices_are_given_and_taken_back(rt: HostRuntime) -> Result<(), Fai
     agree(&rt, &mut bench, "m0 adopt s0 : object 3");
     bench.has(&rt, None);
     bench.end();
-    Ok(())
 }
 
 /// References 2, 3 and 4 to object 1, which the mark cleared, are handed on at once: the first two, then the last.
 #[test]
-fn notices_are_given_in_a_batch(rt: HostRuntime) -> Result<(), Fail> {
-    let mut bench = bench_of(rt.alloc())?;
+fn notices_are_given_in_a_batch(rt: HostRuntime) {
+    let mut bench = bench_of(&rt, rt.alloc());
     let story = "
         m0 new s0 0 : object 1; m0 weak s1 s0 q0 0 : object 2; m0 weak s2 s0 q0 0 : object 3
         m0 weak s3 s0 q0 0 : object 4; m0 drop s0 : ok; w0 hands 32 : none; begin 5 normal : cycle 1
@@ -64,5 +62,4 @@ fn notices_are_given_in_a_batch(rt: HostRuntime) -> Result<(), Fail> {
     agree(&rt, &mut bench, story);
     bench.has(&rt, None);
     bench.end();
-    Ok(())
 }

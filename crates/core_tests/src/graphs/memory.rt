@@ -1,57 +1,80 @@
 //! Graphs and searches whose memory runs out.
 
-use super::Call::{Plain, Refer, Root};
-use super::{BEFORE, Call, NEW, added, agree, reach};
+use super::agree;
 use crate::scarce::{MOST, Trial, refuse_each};
+use crate::steps::filled;
 use rationed::Rationed;
 use ref_base::{Fault, ObjNo, Reach, Strength};
 use ref_graph::{Graph, strength_of, strengths};
 use std::alloc::{Allocator, Global};
 use std::process::Abort;
-use std::test::Fail;
+
+/// What adds an object, whose one field leads to 0, or makes it a root.
+#[derive(Clone, Copy)]
+enum Adding {
+    Root,
+    Plain,
+    /// A weak reference to 0.
+    Weak,
+}
 
 /// A call that adds to a graph.
 #[derive(Drop)]
 struct Add<'a> {
     graph: Graph<&'a Rationed<Global>>,
     alloc: Global,
-    call: Call,
+    adding: Adding,
+    no: u32,
     /// How many objects there are without it.
     count: u32,
-    /// The object that it is about, and how strongly that is reachable without it.
-    object: (u32, Option<Reach>),
+    /// How strongly its object is reachable without it.
+    reach: Result<Reach, Fault>,
+}
+
+/// A call of a graph where there is nothing yet.
+fn made_ready<'a>(alloc: Global, memory: &'a Rationed<Global>) -> Add<'a> {
+    Add {
+        graph: Graph::new(memory),
+        alloc,
+        adding: Adding::Root,
+        no: 0,
+        count: 0,
+        reach: Err(Fault::NoSuchObject),
+    }
 }
 
 impl<'a> Trial for Add<'a> {
     fn call(&self) -> &'static str {
-        match self.call {
-            Root(_) => "Graph::add_root",
-            Plain(..) => "Graph::add_object",
-            Refer(..) => "Graph::add_reference",
+        match self.adding {
+            Adding::Root => "Graph::add_root",
+            Adding::Plain => "Graph::add_object",
+            Adding::Weak => "Graph::add_reference",
         }
     }
 
     fn is_made(&mut self, rt: &impl Abort) -> bool {
-        let answer = added(self.alloc, &mut self.graph, self.call);
-        assert!(rt; answer == NEW || answer == Err(Fault::NoMemory));
-        answer == NEW
+        let (no, to_0) = (ObjNo(self.no), Some(ObjNo(0)));
+        let answer = match self.adding {
+            Adding::Root => self.graph.add_root(no),
+            Adding::Plain => self.graph.add_object(no, &[to_0]),
+            Adding::Weak => self.graph.add_reference(no, Strength::Weak, to_0, &[to_0]),
+        };
+        assert!(rt; answer == Ok(true) || answer == Err(Fault::NoMemory));
+        answer == Ok(true)
     }
 
     fn stays(&self, rt: &impl Abort) {
-        let listed = strengths(self.alloc, &self.graph);
-        assert!(rt; listed.is_ok_and(|listed| listed.len() == self.count as usize));
-        reach(rt, self.alloc, &self.graph, &[self.object]);
+        are(rt, self.alloc, &self.graph, self.count);
+        let reach = strength_of(self.alloc, &self.graph, ObjNo(self.no));
+        assert!(rt; reach == self.reach);
     }
 }
 
-/// A call of a graph where there is nothing yet.
-fn adding<'a>(alloc: Global, memory: &'a Rationed<Global>) -> Add<'a> {
-    Add {
-        graph: Graph::new(memory),
-        alloc,
-        call: Root(0),
-        count: 0,
-        object: (0, None),
+/// The graph has so many objects.
+fn are<A: Allocator + Copy>(rt: &impl Abort, alloc: Global, graph: &Graph<A>, count: u32) {
+    match strengths(alloc, graph) {
+        Ok(listed) => assert!(rt; listed.len() == count as usize, "{count} of them"),
+        Err(fault) => panic!(rt; "{fault}"),
     }
 }
 
@@ -64,23 +87,19 @@ fn number_at(place: u32) -> u32 {
     }
 }
 
-/// The field of each object leads to 0.
-const TO_0: [Option<u32>; 1] = [Some(0)];
-
 #[test]
 fn an_add_without_memory_changes_nothing(rt: HostRuntime) {
     let memory = Rationed::new(rt.alloc());
-    let mut trial = adding(rt.alloc(), &memory);
+    let mut trial = made_ready(rt.alloc(), &memory);
     let mut requests = 0u64;
     for place in 0..60 {
-        let no = number_at(place);
+        trial.no = number_at(place);
         trial.count = place;
-        trial.object = (no, None);
         // Every third is a reference.
-        trial.call = if no % 3 == 2 {
-            Refer(no, Strength::Weak, Some(0), &TO_0)
+        trial.adding = if trial.no % 3 == 2 {
+            Adding::Weak
         } else {
-            Plain(no, &TO_0)
+            Adding::Plain
         };
         requests = requests.saturating_add(refuse_each(&rt, &memory, &mut trial));
     }
@@ -90,20 +109,18 @@ fn an_add_without_memory_changes_nothing(rt: HostRuntime) {
 #[test]
 fn a_root_without_memory_changes_nothing(rt: HostRuntime) {
     let memory = Rationed::new(rt.alloc());
-    let mut trial = adding(rt.alloc(), &memory);
+    let mut trial = made_ready(rt.alloc(), &memory);
+    trial.reach = Ok(Reach::Unreachable);
     let mut requests = 0u64;
     for place in 0..60 {
-        let no = number_at(place);
-        agree(&rt, rt.alloc(), &mut trial.graph, &[(Plain(no, &[]), NEW)]);
+        trial.no = number_at(place);
+        let story = filled(&rt, "plain $ : new", &[trial.no]);
+        agree(&rt, rt.alloc(), &mut trial.graph, story.as_str());
         trial.count = place + 1;
-        trial.object = (no, Some(Reach::Unreachable));
-        trial.call = Root(no);
         requests = requests.saturating_add(refuse_each(&rt, &memory, &mut trial));
     }
     assert!(rt; 1 < requests && requests < MOST, "{requests} requests");
 }
-
-const NINE: [Option<u32>; 9] = [None; 9];
 
 /// Adds plain objects from 0 on, until there is no memory for one more. How many were added.
 fn fill<A: Allocator + Copy>(graph: &mut Graph<A>) -> u32 {
@@ -116,37 +133,22 @@ fn fill<A: Allocator + Copy>(graph: &mut Graph<A>) -> u32 {
 }
 
 #[test]
-fn want_of_memory_is_told_last(rt: HostRuntime) -> Result<(), Fail> {
+fn want_of_memory_is_told_last(rt: HostRuntime) {
     let memory = Rationed::new(rt.alloc());
     let mut graph = Graph::new(&memory);
     memory.ration(8);
     let count = fill(&mut graph);
     assert!(rt; 0 < count && count < 1_000, "{count} were added");
-    assert!(rt; strengths(rt.alloc(), &graph)?.len() == count as usize);
-    let story = [
-        (
-            Refer(count, Strength::Weak, None, &[]),
-            Err(Fault::NoMemory),
-        ),
-        (Plain(count, &NINE), Err(Fault::BadField)),
-        // That the number is there is told first.
-        (Plain(0, &[]), BEFORE),
-    ];
-    agree(&rt, rt.alloc(), &mut graph, &story);
-    Ok(())
+    are(&rt, rt.alloc(), &graph, count);
+    let story = "
+        weak $ - : refused NoMemory; plain $ - - - - - - - - - : refused BadField
+        # That the number is there is told first.
+        plain 0 : known";
+    let story = filled(&rt, story, &[count, count]);
+    agree(&rt, rt.alloc(), &mut graph, story.as_str());
 }
 
-/// A graph of 200 objects, each with a field that leads to the next, from a root on.
-fn line(alloc: Global) -> Result<Graph, Fault> {
-    let mut graph = Graph::new(alloc);
-    graph.add_root(ObjNo(0))?;
-    for no in 0..200 {
-        graph.add_object(ObjNo(no), &[Some(ObjNo(no + 1))])?;
-    }
-    Ok(graph)
-}
-
-/// A search of such a graph.
+/// A search of a graph of 200 objects, each with a field that leads to the next, from a root on.
 #[derive(Drop)]
 struct Search<'a> {
     graph: Graph,
@@ -177,13 +179,18 @@ impl<'a> Trial for Search<'a> {
 }
 
 #[test]
-fn a_search_without_memory_is_refused(rt: HostRuntime) -> Result<(), Fail> {
+fn a_search_without_memory_is_refused(rt: HostRuntime) {
     let memory = Rationed::new(rt.alloc());
     let mut trial = Search {
-        graph: line(rt.alloc())?,
+        graph: Graph::new(rt.alloc()),
         memory: &memory,
         is_of_all: false,
     };
+    agree(&rt, rt.alloc(), &mut trial.graph, "root 0 : new");
+    for no in 0..200 {
+        let story = filled(&rt, "plain $ $ : new", &[no, no + 1]);
+        agree(&rt, rt.alloc(), &mut trial.graph, story.as_str());
+    }
     for is_of_all in [false, true] {
         trial.is_of_all = is_of_all;
         let requests = refuse_each(&rt, &memory, &mut trial);
@@ -192,5 +199,4 @@ fn a_search_without_memory_is_refused(rt: HostRuntime) -> Result<(), Fail> {
     // That there is no such object takes no memory to tell.
     memory.ration(0);
     assert!(rt; strength_of(&memory, &trial.graph, ObjNo(200)) == Err(Fault::NoSuchObject));
-    Ok(())
 }

@@ -1,6 +1,6 @@
 //! Heaps whose memory runs out.
 
-use super::{Bench, begun, freed, heap_of};
+use super::{Bench, begun, freed};
 use crate::closed::condemn_if_closed;
 use crate::steps::{M, agree};
 use rationed::Rationed;
@@ -8,7 +8,6 @@ use ref_base::{Fault, ObjNo, SlotNo};
 use ref_objects::{Objects, Worklist};
 use std::alloc::{Allocator, Global};
 use std::process::Abort;
-use std::test::Fail;
 
 /// Each step once, and then each call of the layers above.
 const EACH_CALL: &'static str = "
@@ -21,14 +20,13 @@ const EACH_CALL: &'static str = "
     condemn : yes; free 1 : no; free_next : none; begin_marks : ok; end_cycle : ok; objects : 2";
 
 #[test]
-fn after_new_no_call_takes_memory(rt: HostRuntime) -> Result<(), Fail> {
+fn after_new_no_call_takes_memory(rt: HostRuntime) {
     let memory = Rationed::new(rt.alloc());
-    let mut bench = Bench::new(&memory, 3)?;
+    let mut bench = Bench::new(&rt, &memory, 3);
     memory.ration(0);
     agree(&rt, &mut bench, EACH_CALL);
     assert!(rt; !memory.lift(), "no request is refused");
     bench.end();
-    Ok(())
 }
 
 /// Makes plain objects in slot 0 until no cell is free.
@@ -61,33 +59,31 @@ fn free_all_but_one<A: Allocator + Copy>(heap: &mut Objects<A>, condemned: &mut 
 /// fills with gaps again and again.
 fn fill_again_and_again<A: Allocator + Copy>(
     rt: &impl Abort,
-    heap: &mut Objects<A>,
-    condemned: &mut Worklist<A>,
+    bench: &mut Bench<A>,
     cells: u32,
     rounds: u32,
 ) {
-    fill(rt, heap, cells);
+    fill(rt, &mut bench.heap, cells);
     for _round in 0..rounds {
-        free_all_but_one(heap, condemned);
-        fill(rt, heap, cells);
-        assert!(rt; heap.object_count() == cells as usize && heap.has_object(ObjNo(1)));
+        free_all_but_one(&mut bench.heap, &mut bench.condemned);
+        fill(rt, &mut bench.heap, cells);
+        assert!(rt; bench.heap.object_count() == cells as usize && bench.heap.has_object(ObjNo(1)));
     }
 }
 
 /// Fills a heap of so many cells again and again, without a request for memory.
-fn fill_without_memory(rt: &impl Abort, alloc: Global, cells: u32) -> Result<(), Fail> {
+fn fill_without_memory(rt: &impl Abort, alloc: Global, cells: u32) {
     let memory = Rationed::new(alloc);
-    let (mut heap, mut condemned) = heap_of(&memory, cells)?;
+    let mut bench = Bench::new(rt, &memory, cells);
     memory.ration(0);
-    fill_again_and_again(rt, &mut heap, &mut condemned, cells, 20);
+    fill_again_and_again(rt, &mut bench, cells, 20);
     assert!(rt; !memory.lift(), "no request is refused, with {cells} cells");
-    Ok(())
+    bench.end();
 }
 
 #[test]
-fn after_new_no_memory_is_taken(rt: HostRuntime) -> Result<(), Fail> {
+fn after_new_no_memory_is_taken(rt: HostRuntime) {
     for cells in 1..70 {
-        fill_without_memory(&rt, rt.alloc(), cells)?;
+        fill_without_memory(&rt, rt.alloc(), cells);
     }
-    Ok(())
 }

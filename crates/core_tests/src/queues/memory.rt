@@ -1,20 +1,29 @@
 //! Queues whose memory runs out.
 
-use super::Call::{Close, Poll, Put};
-use super::{Slip, agree, lists, of, put};
-use crate::rows::{refused, took};
+use super::{Bench, Slip, of, put};
+use crate::rows::refused;
 use crate::scarce::{MOST, Trial, refuse_each};
+use crate::steps::{agree, agree_with};
 use rationed::Rationed;
-use ref_base::{Fault, ObjNo, QueueNo, Reply};
+use ref_base::{Fault, ObjNo, Reply};
 use ref_queue::Queue;
 use std::alloc::{Allocator, Global};
 use std::process::Abort;
-use std::test::Fail;
+
+/// Puts a slip in that may find no memory. Whether it is added, behind so many.
+fn is_added<A: Allocator + Copy>(rt: &impl Abort, queue: &mut Queue<Slip, A>, object: u32) -> bool {
+    let reply = put(queue, of(object));
+    if reply != Some(Reply::Added(u64::from(object))) {
+        assert!(rt; reply == Some(refused(Fault::NoMemory)), "object {object}");
+        return false;
+    }
+    true
+}
 
 /// A slip that is put in behind all that were numbered from 0 on, of which none was taken.
 #[derive(Drop)]
 struct PutLast<'a> {
-    queue: Queue<Slip, &'a Rationed<Global>>,
+    bench: Bench<&'a Rationed<Global>>,
     alloc: Global,
     object: u32,
 }
@@ -25,53 +34,38 @@ impl<'a> Trial for PutLast<'a> {
     }
 
     fn is_made(&mut self, rt: &impl Abort) -> bool {
-        let reply = put(rt, &mut self.queue, of(self.object));
-        if reply != Reply::Added(u64::from(self.object)) {
-            assert_eq!(rt; reply, refused(Fault::NoMemory));
-            return false;
-        }
-        true
+        is_added(rt, &mut self.bench.queue, self.object)
     }
 
     fn stays(&self, rt: &impl Abort) {
-        have(rt, self.queue.enqueued(self.alloc), self.object);
-        have(rt, self.queue.taken(self.alloc), 0);
-        have(rt, self.queue.stands(self.alloc), self.object);
+        let queue = &self.bench.queue;
+        have(rt, queue.enqueued(self.alloc), (0, self.object));
+        have(rt, queue.taken(self.alloc), (0, 0));
+        have(rt, queue.stands(self.alloc), (0, self.object));
     }
 }
 
-/// The list has so many.
-fn have<B: Allocator>(rt: &impl Abort, list: Result<Vec<ObjNo, B>, Fault>, count: u32) {
-    match list {
-        Ok(list) => assert!(rt; list.len() == count as usize, "{count} of them"),
-        Err(fault) => panic!(rt; "{fault}"),
-    }
-}
-
-/// Just so many slips were put in, numbered from 0, and all of them stand: they are taken one by one.
-fn drain<A: Allocator + Copy>(
+/// The list has so many numbers, from the first on.
+fn have<B: Allocator>(
     rt: &impl Abort,
-    alloc: Global,
-    queue: &mut Queue<Slip, A>,
-    count: u32,
-) -> Result<(), Fail> {
-    let mut numbers = Vec::new(alloc);
-    for object in 0..count {
-        numbers.push(object)?;
+    list: Result<Vec<ObjNo, B>, Fault>,
+    (first, count): (u32, u32),
+) {
+    let list = match list {
+        Ok(list) => list,
+        Err(fault) => panic!(rt; "{fault}"),
+    };
+    assert!(rt; list.len() == count as usize, "{count} of them");
+    for (place, no) in (0..count).zip(list.iter()) {
+        assert!(rt; no.0 == first.saturating_add(place), "place {place}");
     }
-    lists(rt, alloc, queue, (&[], &numbers))?;
-    for object in 0..count {
-        agree(rt, queue, &[(Poll, took(object))]);
-    }
-    agree(rt, queue, &[(Poll, Reply::Empty)]);
-    Ok(())
 }
 
 #[test]
-fn a_put_without_memory_changes_nothing(rt: HostRuntime) -> Result<(), Fail> {
+fn a_put_without_memory_changes_nothing(rt: HostRuntime) {
     let memory = Rationed::new(rt.alloc());
     let mut trial = PutLast {
-        queue: Queue::new(&memory, QueueNo(0)),
+        bench: Bench::new(&rt, &memory, rt.alloc()),
         alloc: rt.alloc(),
         object: 0,
     };
@@ -81,15 +75,19 @@ fn a_put_without_memory_changes_nothing(rt: HostRuntime) -> Result<(), Fail> {
         requests = requests.saturating_add(refuse_each(&rt, &memory, &mut trial));
     }
     assert!(rt; 1 < requests && requests < MOST, "{requests} requests");
-    drain(&rt, rt.alloc(), &mut trial.queue, 100)
+    // Just these were put in, and all of them stand: they are taken one by one.
+    trial.object = 100;
+    trial.stays(&rt);
+    for object in 0..100 {
+        agree_with(&rt, &mut trial.bench, "poll : took $", &[object]);
+    }
+    agree(&rt, &mut trial.bench, "poll : empty");
 }
 
 /// Puts slips in, numbered from 0, until there is no memory for one more. Answers how many were added.
 fn fill<A: Allocator + Copy>(rt: &impl Abort, queue: &mut Queue<Slip, A>) -> u32 {
     for object in 0..1_000 {
-        let reply = put(rt, queue, of(object));
-        if reply != Reply::Added(u64::from(object)) {
-            assert_eq!(rt; reply, refused(Fault::NoMemory));
+        if !is_added(rt, queue, object) {
             return object;
         }
     }
@@ -100,25 +98,19 @@ fn fill<A: Allocator + Copy>(rt: &impl Abort, queue: &mut Queue<Slip, A>) -> u32
 #[test]
 fn want_of_memory_is_told_last(rt: HostRuntime) {
     let memory = Rationed::new(rt.alloc());
-    let mut queue = Queue::new(&memory, QueueNo(0));
+    let mut bench = Bench::new(&rt, &memory, rt.alloc());
     memory.ration(8);
-    let count = fill(&rt, &mut queue);
+    let count = fill(&rt, &mut bench.queue);
     assert!(rt; count > 0, "some were added");
-    let next = of(count);
-    let story = [
-        (Put(next), refused(Fault::NoMemory)),
-        (Put(Slip { queue: 1, ..next }), refused(Fault::WrongQueue)),
-        (Put(of(0)), Reply::Already),
-        (Close, Reply::Done),
-        (Put(next), Reply::Closed),
-    ];
-    agree(&rt, &mut queue, &story);
+    let story = "
+        put $ : refused 3 NoMemory; put $ 1 : refused 20 WrongQueue; put 0 : already; close : ok; put $ : closed";
+    agree_with(&rt, &mut bench, story, &[count, count, count]);
 }
 
 /// A list of a queue, which makes one request.
 #[derive(Drop)]
 struct List<'a> {
-    queue: Queue<Slip, &'a Rationed<Global>>,
+    bench: Bench<&'a Rationed<Global>>,
     memory: &'a Rationed<Global>,
     alloc: Global,
     name: Name,
@@ -141,10 +133,11 @@ impl<'a> Trial for List<'a> {
     }
 
     fn is_made(&mut self, rt: &impl Abort) -> bool {
+        let queue = &self.bench.queue;
         let (list, first) = match self.name {
-            Name::Enqueued => (self.queue.enqueued(self.memory), 0),
-            Name::Taken => (self.queue.taken(self.memory), 0),
-            Name::Stands => (self.queue.stands(self.memory), 5),
+            Name::Enqueued => (queue.enqueued(self.memory), 0),
+            Name::Taken => (queue.taken(self.memory), 0),
+            Name::Stands => (queue.stands(self.memory), 5),
         };
         match list {
             Ok(list) => {
@@ -159,28 +152,25 @@ impl<'a> Trial for List<'a> {
     }
 
     fn stays(&self, rt: &impl Abort) {
-        have(rt, self.queue.enqueued(self.alloc), 10);
-        have(rt, self.queue.taken(self.alloc), 5);
-        have(rt, self.queue.stands(self.alloc), 5);
+        let queue = &self.bench.queue;
+        have(rt, queue.enqueued(self.alloc), (0, 10));
+        have(rt, queue.taken(self.alloc), (0, 5));
+        have(rt, queue.stands(self.alloc), (5, 5));
     }
 }
 
 #[test]
 fn a_list_without_memory_is_refused(rt: HostRuntime) {
     let memory = Rationed::new(rt.alloc());
-    let mut queue = Queue::new(&memory, QueueNo(0));
+    let mut bench = Bench::new(&rt, &memory, rt.alloc());
     for object in 0..10 {
-        agree(
-            &rt,
-            &mut queue,
-            &[(Put(of(object)), Reply::Added(u64::from(object)))],
-        );
+        agree_with(&rt, &mut bench, "put $ : added $", &[object, object]);
     }
     for object in 0..5 {
-        agree(&rt, &mut queue, &[(Poll, took(object))]);
+        agree_with(&rt, &mut bench, "poll : took $", &[object]);
     }
     let mut trial = List {
-        queue,
+        bench,
         memory: &memory,
         alloc: rt.alloc(),
         name: Name::Enqueued,

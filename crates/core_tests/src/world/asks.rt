@@ -3,23 +3,18 @@
 ghost use Rattle.std.specs.Prelude.{◌≡◌, IfOk, length};
 ghost use Rattle.ref_world.specs.Cores.{core_queue_at};
 
-use super::{CONFIG, THREE_CLEARED, TWO_WORKERS};
-use crate::steps::{M, agree};
-use ref_base::{Config, Fault, MutNo, ObjNo, QueueNo, SlotNo};
+use super::{CONFIG, THREE_CLEARED, TWO_WORKERS, world_of};
+use crate::queues::listed;
+use crate::steps::{Steps, Told, agree, made};
+use ref_base::{Config, Fault, MutNo, QueueNo, Reply, SlotNo, Step};
 use ref_world::World;
 use std::alloc::{Allocator, Global};
 use std::process::Abort;
-use std::test::Fail;
 
-/// What a queue has, by the numbers of the references.
-#[derive(Clone, Copy)]
-struct Lists<'a> {
-    /// All that was ever put in.
-    enqueued: &'a [u32],
-    /// What of it was taken.
-    taken: &'a [u32],
-    /// What of it stands.
-    stands: &'a [u32],
+/// A world, and where lists have their memory from.
+struct Asked {
+    world: World,
+    alloc: Global,
 }
 
 /// How many notices stand in the queue of this number.
@@ -34,94 +29,76 @@ fn standing_in<A: Allocator + Copy>(
     Ok(standing.len())
 }
 
-/// Just these numbers, in this order.
-fn are(rt: &impl Abort, list: &[ObjNo], want: &[u32]) {
-    assert!(rt; list.len() == want.len(), "so many");
-    for (place, &no) in want.iter().enumerate() {
-        assert!(rt; list.get(place) == Some(&ObjNo(no)), "place {place}");
+/// Calls name a queue, or a slot and its mutator.
+impl Steps for Asked {
+    fn step(&mut self, step: Step) -> Told {
+        Told::Reply(World::step(&mut self.world, step))
+    }
+
+    fn own(&mut self, name: &str, numbers: (u32, u64)) -> Told {
+        let Ok(mutator) = u32::try_from(numbers.1) else {
+            return Told::Unknown;
+        };
+        match name {
+            "ref_in" => made(self.world.ref_in(MutNo(mutator), SlotNo(numbers.0))),
+            "standing" => match standing_in(self.alloc, &self.world, QueueNo(numbers.0)) {
+                Ok(count) => Told::Number(Some(count as u64)),
+                Err(fault) => Told::Reply(Reply::Refused(fault)),
+            },
+            _ => match self.world.queue(QueueNo(numbers.0)) {
+                Ok(queue) => listed(queue, self.alloc, name),
+                Err(fault) => Told::Reply(Reply::Refused(fault)),
+            },
+        }
     }
 }
 
-/// The queues have these, in the order of their numbers, and there are no more. Lists take this memory.
-fn have_lists<A: Allocator + Copy>(
-    rt: &impl Abort,
-    alloc: Global,
-    world: &World<A>,
-    queues: &[Lists],
-) -> Result<(), Fail> {
-    let mut number = QueueNo(0);
-    for want in queues {
-        let count = standing_in(alloc, world, number)?;
-        assert!(rt; count == want.stands.len(), "so many stand");
-        let queue = world.queue(number)?;
-        are(rt, &queue.enqueued(alloc)?, want.enqueued);
-        are(rt, &queue.taken(alloc)?, want.taken);
-        are(rt, &queue.stands(alloc)?, want.stands);
-        number = QueueNo(number.0.saturating_add(1));
-    }
-    assert!(rt; world.queue(number).err() == Some(Fault::BadQueue));
-    Ok(())
-}
-
-#[test]
-fn a_slot_tells_its_reference(rt: HostRuntime) -> Result<(), Fail> {
-    let story = "m0 new s0 0 : object 1; m0 weak s1 s0 q0 0 : object 2";
-    let mut world = World::new(rt.alloc(), CONFIG)?;
-    agree(&rt, &mut world, story);
-    // The mutator, the slot, and what is there.
-    let table = [
-        (M, 1, Ok(ObjNo(2))),
-        (M, 0, Err(Fault::NotAReference)),
-        (M, 2, Err(Fault::EmptySlot)),
-        (M, 16, Err(Fault::NoSuchActor)),
-        (MutNo(1), 1, Err(Fault::NoSuchActor)),
-    ];
-    for (row, &(mutator, slot, want)) in table.iter().enumerate() {
-        assert!(rt; world.ref_in(mutator, SlotNo(slot)) == want, "row {row}");
-    }
+/// A story of a world in two parts.
+fn tell(rt: &impl Abort, alloc: Global, config: Config, first: &str, then: &str) {
+    let world = world_of(rt, alloc, config);
+    let mut asked = Asked { world, alloc };
+    agree(rt, &mut asked, first);
+    agree(rt, &mut asked, then);
+    let Asked {
+        world,
+        alloc: _alloc,
+    } = asked;
     world.end();
-    Ok(())
-}
-
-/// A queue with all of this.
-const fn queue_of<'a>(enqueued: &'a [u32], taken: &'a [u32], stands: &'a [u32]) -> Lists<'a> {
-    Lists {
-        enqueued,
-        taken,
-        stands,
-    }
 }
 
 #[test]
-fn each_queue_has_its_own(rt: HostRuntime) -> Result<(), Fail> {
+fn a_slot_tells_its_reference(rt: HostRuntime) {
+    let made = "m0 new s0 0 : object 1; m0 weak s1 s0 q0 0 : object 2";
+    let story = "
+        ref_in 1 : object 2; ref_in 0 : refused 8 NotAReference; ref_in 2 : refused 6 EmptySlot
+        ref_in 16 : refused 9 NoSuchActor; ref_in 1 1 : refused 9 NoSuchActor";
+    tell(&rt, rt.alloc(), CONFIG, made, story);
+}
+
+#[test]
+fn each_queue_has_its_own(rt: HostRuntime) {
     let two_queues = Config {
         queues: 2,
         ..CONFIG
     };
-    let story = "
+    let put_in = "
         m0 new s0 0 : object 1; m0 weak s1 s0 q1 0 : object 2; m0 weak s2 s0 q0 0 : object 3
         m0 weak s3 s0 q1 0 : object 4; m0 unhook s3 : notice 4 q1 own; m0 put : added 0
         m0 unhook s2 : notice 3 q0 own; m0 put : added 0; m0 unhook s1 : notice 2 q1 own; m0 put : added 1
         m0 poll q1 : took 4; m0 release : ok";
-    let mut world = World::new(rt.alloc(), two_queues)?;
-    agree(&rt, &mut world, story);
-    let queues = [queue_of(&[3], &[], &[3]), queue_of(&[4, 2], &[4], &[2])];
-    let checked = have_lists(&rt, rt.alloc(), &world, &queues);
-    world.end();
-    checked
+    let story = "
+        enqueued 0 : 3; taken 0 :; stands 0 : 3; standing 0 : 1
+        enqueued 1 : 4 2; taken 1 : 4; stands 1 : 2; standing 1 : 1
+        enqueued 2 : refused 10 BadQueue; standing 2 : refused 10 BadQueue";
+    tell(&rt, rt.alloc(), two_queues, put_in, story);
 }
 
 #[test]
-fn two_workers_put_in_what_each_cleared_in_its_order(rt: HostRuntime) -> Result<(), Fail> {
-    let put_in = "
+fn two_workers_put_in_what_each_cleared_in_its_order(rt: HostRuntime) {
+    let story = "
         w0 hand : notice 2 q0 cycle 1 w0; w1 hand : notice 4 q0 cycle 1 w1; w0 put : added 0
         w0 hand : notice 6 q0 cycle 1 w0; w0 put : added 1; w1 put : added 2; m0 poll q0 : took 2
-        m0 release : ok; m0 poll q0 : took 6; m0 release : ok; m0 poll q0 : took 4";
-    let mut world = World::new(rt.alloc(), TWO_WORKERS)?;
-    agree(&rt, &mut world, THREE_CLEARED);
-    agree(&rt, &mut world, put_in);
-    let queue = queue_of(&[2, 6, 4], &[2, 6, 4], &[]);
-    let checked = have_lists(&rt, rt.alloc(), &world, &[queue]);
-    world.end();
-    checked
+        m0 release : ok; m0 poll q0 : took 6; m0 release : ok; m0 poll q0 : took 4
+        enqueued 0 : 2 6 4; taken 0 : 2 6 4; stands 0 :; standing 0 : 0; enqueued 1 : refused 10 BadQueue";
+    tell(&rt, rt.alloc(), TWO_WORKERS, THREE_CLEARED, story);
 }

@@ -1,21 +1,19 @@
 //! Several notices that are put in at once, where memory runs out. Worked traces of batches are scripts, files of the
 //! program `refrun_cases`.
 
-use super::{THREE_CLEARED, TWO_WORKERS};
+use super::{THREE_CLEARED, TWO_WORKERS, world_of};
 use crate::rows::outs;
 use crate::scarce::MOST;
 use crate::steps::agree;
 use rationed::Rationed;
 use ref_base::{Actor, Done, Fault, Step, WorkerNo};
-use ref_world::World;
 use std::alloc::Global;
 use std::process::Abort;
-use std::test::Fail;
 
 /// Two notices are put in at once with so many requests for memory met. What finds none stays in the hand, and a second
 /// put adds it, and what is behind it. Answers whether a request was refused.
-fn is_refused_within(rt: &impl Abort, memory: &Rationed<Global>, met: u64) -> Result<bool, Fail> {
-    let mut world = World::new(memory, TWO_WORKERS)?;
+fn is_refused_within(rt: &impl Abort, memory: &Rationed<Global>, met: u64) -> bool {
+    let mut world = world_of(rt, memory, TWO_WORKERS);
     agree(rt, &mut world, THREE_CLEARED);
     agree(rt, &mut world, "w0 hands 32 : notices 2 6 q0 cycle 1 w0");
     let wanting = Done::Refused(Fault::NoMemory);
@@ -36,15 +34,15 @@ fn is_refused_within(rt: &impl Abort, memory: &Rationed<Global>, met: u64) -> Re
     let story = "w0 puts : refused 24 HandEmpty; m0 polls q0 2 : took 2 6";
     agree(rt, &mut world, story);
     world.end();
-    Ok(is_refused)
+    is_refused
 }
 
 #[test]
-fn what_finds_no_memory_in_a_batch_stays_in_the_hand(rt: HostRuntime) -> Result<(), Fail> {
+fn what_finds_no_memory_in_a_batch_stays_in_the_hand(rt: HostRuntime) {
     let memory = Rationed::new(rt.alloc());
     let mut requests = 0;
     for met in 0..MOST {
-        if !is_refused_within(&rt, &memory, met)? {
+        if !is_refused_within(&rt, &memory, met) {
             break;
         }
         requests = met + 1;
@@ -53,5 +51,4 @@ fn what_finds_no_memory_in_a_batch_stays_in_the_hand(rt: HostRuntime) -> Result<
         1 < requests && requests < MOST,
         "a put of two makes {requests} requests"
     );
-    Ok(())
 }

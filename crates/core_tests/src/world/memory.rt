@@ -1,6 +1,6 @@
 //! Worlds whose memory runs out.
 
-use super::CONFIG;
+use super::{CONFIG, world_of};
 use crate::rows::outs;
 use crate::scarce::MOST;
 use crate::steps::{M, Steps, Told, agree, is_row, make_in, step_in};
@@ -51,7 +51,7 @@ fn is_run_refused(
     story: &str,
 ) -> Result<bool, Fail> {
     let steps = steps_of(rt, memory, story)?;
-    let world = World::new(memory, CONFIG)?;
+    let world = world_of(rt, memory, CONFIG);
     let call = "run";
     memory.ration(met);
     match run(memory, world, steps) {
@@ -91,9 +91,9 @@ fn a_run_without_room_gives_world_and_steps_back(rt: HostRuntime) -> Result<(), 
 }
 
 #[test]
-fn a_put_without_memory_leaves_its_notice_in_the_hand(rt: HostRuntime) -> Result<(), Fail> {
+fn a_put_without_memory_leaves_its_notice_in_the_hand(rt: HostRuntime) {
     let memory = Rationed::new(rt.alloc());
-    let mut world = World::new(&memory, CONFIG)?;
+    let mut world = world_of(&rt, &memory, CONFIG);
     agree(&rt, &mut world, IN_HAND);
     let put = Step::Put {
         actor: Actor::Mutator(M),
@@ -121,14 +121,13 @@ fn a_put_without_memory_leaves_its_notice_in_the_hand(rt: HostRuntime) -> Result
     let story = "m0 poll q0 : took 2; m0 adopt s3 : object 2";
     agree(&rt, &mut world, story);
     world.end();
-    Ok(())
 }
 
 /// Two references are enqueued, and the first put finds no memory, but the second does.
 #[test]
-fn a_refused_put_succeeds_once_there_is_memory(rt: HostRuntime) -> Result<(), Fail> {
+fn a_refused_put_succeeds_once_there_is_memory(rt: HostRuntime) {
     let memory = Rationed::new(rt.alloc());
-    let mut world = World::new(&memory, CONFIG)?;
+    let mut world = world_of(&rt, &memory, CONFIG);
     let enqueued = "
         m0 new s0 0 : object 1; m0 weak s1 s0 q0 0 : object 2; m0 weak s2 s0 q0 0 : object 3
         m0 unhook s1 : notice 2 q0 own";
@@ -141,7 +140,6 @@ fn a_refused_put_succeeds_once_there_is_memory(rt: HostRuntime) -> Result<(), Fa
         m0 poll q0 : empty; m0 release : refused 24 HandEmpty; m0 poll q0 : empty";
     agree(&rt, &mut world, rest);
     world.end();
-    Ok(())
 }
 
 /// Cells that fill two pages: so there are four.
@@ -168,16 +166,15 @@ const MOVES: &'static str = "
     m0 load s6 s0 0 : object 66; m0 get s7 s6 : object 65";
 
 #[test]
-fn no_step_takes_memory_while_objects_move(rt: HostRuntime) -> Result<(), Fail> {
+fn no_step_takes_memory_while_objects_move(rt: HostRuntime) {
     let memory = Rationed::new(rt.alloc());
-    let mut world = World::new(&memory, TWO_PAGES)?;
+    let mut world = world_of(&rt, &memory, TWO_PAGES);
     memory.ration(0);
     agree(&rt, &mut world, "m0 new s0 1 : object 1");
     make_in(&rt, &mut world, 1, 2..66);
     agree(&rt, &mut world, MOVES);
     assert!(rt; !memory.lift(), "no request is refused");
     world.end();
-    Ok(())
 }
 
 /// The reply to a step, which is asked in fewer bytes where it is of the heap alone.
@@ -217,9 +214,9 @@ const EACH_STEP: &'static str = "
     w0 hands 32 : notices 6 q1 cycle 1 w0";
 
 /// Its rows are so with no memory, where each step is done, and where it is asked.
-fn take_no_memory(rt: &impl Abort, alloc: Global, is_asked: bool) -> Result<(), Fail> {
+fn take_no_memory(rt: &impl Abort, alloc: Global, is_asked: bool) {
     let memory = Rationed::new(alloc);
-    let world = World::new(&memory, TWO_QUEUES)?;
+    let world = world_of(rt, &memory, TWO_QUEUES);
     let mut asked = Asked { world, is_asked };
     agree(rt, &mut asked, IN_HAND);
     agree(rt, &mut asked, "m0 put : added 0");
@@ -240,11 +237,10 @@ fn take_no_memory(rt: &impl Abort, alloc: Global, is_asked: bool) -> Result<(), 
         is_asked: _is_asked,
     } = asked;
     world.end();
-    Ok(())
 }
 
 #[test]
-fn no_step_takes_memory_but_a_put(rt: HostRuntime) -> Result<(), Fail> {
-    take_no_memory(&rt, rt.alloc(), false)?;
-    take_no_memory(&rt, rt.alloc(), true)
+fn no_step_takes_memory_but_a_put(rt: HostRuntime) {
+    take_no_memory(&rt, rt.alloc(), false);
+    take_no_memory(&rt, rt.alloc(), true);
 }

@@ -1,16 +1,14 @@
 //! A heap that lives longer than the numbers of its rounds last.
 
-use super::CONFIG;
+use super::{CONFIG, world_of};
 use crate::steps::{agree, agree_with};
-use ref_world::World;
-use std::test::Fail;
 
 /// More than twice as many as the numbers that rounds have.
 const CYCLES: u32 = 600;
 
 #[test]
-fn numbers_of_rounds_begin_anew_and_no_reply_tells_it(rt: HostRuntime) -> Result<(), Fail> {
-    let mut world = World::new(rt.alloc(), CONFIG)?;
+fn numbers_of_rounds_begin_anew_and_no_reply_tells_it(rt: HostRuntime) {
+    let mut world = world_of(&rt, rt.alloc(), CONFIG);
     // Object 2 is in the field of object 1, which stays in slot 0.
     let story = "m0 new s0 1 : object 1; m0 new s1 0 : object 2; m0 store s0 0 s1 : ok";
     agree(&rt, &mut world, story);
@@ -25,5 +23,4 @@ fn numbers_of_rounds_begin_anew_and_no_reply_tells_it(rt: HostRuntime) -> Result
         agree(&rt, &mut world, story);
     }
     world.end();
-    Ok(())
 }

@@ -1,11 +1,10 @@
 //! A heap of as many cells as there may be.
 
-use super::CONFIG;
+use super::{CONFIG, world_of};
 use crate::steps::{agree, agree_with, make_in};
 use ref_base::{Config, SpanRule};
 use ref_world::World;
 use std::process::Abort;
-use std::test::Fail;
 
 /// How many cells the heap has, and how long its span is.
 const CELLS: u32 = 65_536;
@@ -44,8 +43,8 @@ fn free(rt: &impl Abort, world: &mut World) {
 }
 
 #[test]
-fn a_heap_of_65536_cells_fills_and_is_swept(rt: HostRuntime) -> Result<(), Fail> {
-    let mut world = World::new(rt.alloc(), LARGEST)?;
+fn a_heap_of_65536_cells_fills_and_is_swept(rt: HostRuntime) {
+    let mut world = world_of(&rt, rt.alloc(), LARGEST);
     fill(&rt, &mut world);
     // Nothing is free, so that the span is none; but no time has passed.
     keep(&rt, &mut world, 0, 1);
@@ -59,5 +58,4 @@ fn a_heap_of_65536_cells_fills_and_is_swept(rt: HostRuntime) -> Result<(), Fail>
         endmark : doomed 1; w0 clearnext : cleared 2";
     agree(&rt, &mut world, past);
     world.end();
-    Ok(())
 }

@@ -18,7 +18,6 @@ use std::collections::VecDeque;
 use std::process::Abort;
 use std::sync::atomic::{AtomicU64, Ordering};
 use std::sync::{Arc, Wait};
-use std::test::Fail;
 use std::thread::Threads;
 
 mod acts;
@@ -96,16 +95,17 @@ fn do_all<R: Wait + Abort>(
 
 impl<'a> Story<'a> {
     /// Tells the story, whose jobs count how often their actions are called, and looks what is left then.
-    fn agree<R: Threads + Wait + Abort + Sync>(&self, rt: &R, alloc: Global) -> Result<(), Fail> {
-        let called = Arc::new(alloc, AtomicU64::new(0))?;
-        let jobs = counting_jobs(alloc, self.jobs, &called)?;
-        let left = left_behind(rt, alloc, jobs, self)?;
+    fn agree<R: Threads + Wait + Abort + Sync>(&self, rt: &R, alloc: Global) {
+        let Ok(called) = Arc::new(alloc, AtomicU64::new(0)) else {
+            panic!(rt; "no memory for a count");
+        };
+        let jobs = counting_jobs(rt, alloc, self.jobs, &called);
+        let left = left_behind(rt, alloc, jobs, self);
         assert!(rt;
             called.load(Ordering::SeqCst) == self.called,
             "actions called"
         );
         assert!(rt; left == self.left, "jobs registered in the end");
-        Ok(())
     }
 }
 
@@ -119,7 +119,7 @@ fn agree<R: Threads + Wait + Abort + Sync>(
     jobs: &[u32],
     calls: &str,
     (heard, called, left): ((u64, u64), u64, u64),
-) -> Result<(), Fail> {
+) {
     let story = Story {
         heap_first,
         first,
@@ -129,7 +129,7 @@ fn agree<R: Threads + Wait + Abort + Sync>(
         left,
         ..story_of(calls)
     };
-    story.agree(rt, alloc)
+    story.agree(rt, alloc);
 }
 
 /// The story with these jobs.
@@ -176,27 +176,41 @@ pub fn adding(alloc: Global, number: u64) -> Result<Job, AllocError>
 
 /// Jobs of these numbers, in order, which count how often their actions are called.
 fn counting_jobs(
+    rt: &impl Abort,
     alloc: Global,
     numbers: &[u32],
     called: &Arc<AtomicU64>,
-) -> Result<VecDeque<Job>, Fail> {
+) -> VecDeque<Job> {
     let mut jobs = VecDeque::new(alloc);
     for &number in numbers {
-        let calls = Arc::try_clone(called)?;
-        let action: Action = Box::new(
-            alloc,
-            move |number: u64| -> u64
-                requires { number < 2 ^ 32 }
-                ensures { result ≡ number + 1000 }
-            {
-                calls.fetch_add(1, Ordering::SeqCst);
-                number + 1000
-            },
-        )?;
-        let number = u64::from(number);
-        jobs.push_back(Job::new(number, number + 1000, action))?;
+        let job = counting_job(rt, alloc, u64::from(number), called);
+        assert!(rt; jobs.push_back(job).is_ok(), "no memory for job {number}");
     }
-    Ok(jobs)
+    jobs
+}
+
+/// A job of this number.
+fn counting_job(rt: &impl Abort, alloc: Global, number: u64, called: &Arc<AtomicU64>) -> Job
+    requires { number < 2 ^ 32 }
+{
+    let Ok(calls) = Arc::try_clone(called) else {
+        panic!(rt; "too many jobs");
+    };
+    let boxed = Box::new(
+        alloc,
+        move |number: u64| -> u64
+            requires { number < 2 ^ 32 }
+            ensures { result ≡ number + 1000 }
+        {
+            calls.fetch_add(1, Ordering::SeqCst);
+            number + 1000
+        },
+    );
+    let Ok(boxed) = boxed else {
+        panic!(rt; "no memory for a job");
+    };
+    let action: Action = boxed;
+    Job::new(number, number + 1000, action)
 }
 
 /// The story with these jobs, and how many of them are registered in the end.
@@ -205,19 +219,15 @@ fn left_behind<R: Threads + Wait + Abort + Sync>(
     alloc: Global,
     jobs: VecDeque<Job>,
     story: &Story,
-) -> Result<u64, Fail> {
-    let (cleaner, seat) = SharedCleaner::starting(alloc, Q, story.first)?;
+) -> u64 {
+    let Ok((cleaner, seat)) = SharedCleaner::starting(alloc, Q, story.first) else {
+        panic!(rt; "there is no cleaner");
+    };
     let starts = Starts {
         heap: story.heap_first,
         ..STARTS
     };
-    let (heap, queue, seats) = match start(alloc, starts) {
-        Ok(made) => made,
-        Err(fault) => {
-            left_in(cleaner.finish(seat));
-            return Err(fault.into());
-        }
-    };
+    let (heap, queue, seats) = start(rt, alloc, starts);
     let shared = Shared {
         heap: &heap,
         queue: &queue,
@@ -234,8 +244,10 @@ fn left_behind<R: Threads + Wait + Abort + Sync>(
     } = tell(rt, shared, chair, jobs, story);
     end_queue(queue.finish(seats.queue));
     let left = left_in(cleaner.finish(seat));
-    assert!(rt; left.is_some(), "no turn of the cleaner is open");
-    Ok(left.unwrap_or(0))
+    match left {
+        Some(count) => count,
+        None => panic!(rt; "a turn of the cleaner is open"),
+    }
 }
 
 /// How many jobs a finished cleaner gives, each of which is dropped, not run.

@@ -13,7 +13,6 @@ use ref_share::{HeapSeat, SharedHeap};
 use std::alloc::Global;
 use std::process::Abort;
 use std::sync::Wait;
-use std::test::Fail;
 
 /// How a heap with two queues starts, where an object is made, and a weak reference to it for each of the queues.
 #[derive(Clone, Copy)]
@@ -76,12 +75,14 @@ fn answer<R: Wait + Abort>(
 }
 
 /// Makes the calls of a story in turn, and looks what is in the queues then.
-fn agree<R: Wait + Abort>(rt: &R, alloc: Global, starts: Starts, story: &str) -> Result<(), Fail> {
+fn agree<R: Wait + Abort>(rt: &R, alloc: Global, starts: Starts, story: &str) {
     let config = Config {
         cells: starts.cells,
         ..with(2)
     };
-    let (heap, mut seat) = SharedHeap::starting(alloc, config, 0, starts.heap)?;
+    let Ok((heap, mut seat)) = SharedHeap::starting(alloc, config, 0, starts.heap) else {
+        panic!(rt; "there is no heap");
+    };
     let mut lists = Lists::new(rt, alloc, 2, starts.queues);
     make_references(rt, &heap, &mut seat, 2);
     for row in story.split(BREAKS) {
@@ -92,59 +93,56 @@ fn agree<R: Wait + Abort>(rt: &R, alloc: Global, starts: Starts, story: &str) ->
         }
     }
     lists.end(rt, starts.is_told);
-    Ok(())
 }
 
 #[test]
-fn all_that_was_cleared_is_told_to_its_queue(rt: HostRuntime) -> Result<(), Fail> {
+fn all_that_was_cleared_is_told_to_its_queue(rt: HostRuntime) {
     // By whole cycles.
     let calls = "cycle 0 5 : ok; cycle 0 5 : ok; deliver_all 0 : ok";
-    agree(&rt, rt.alloc(), STARTS, calls)?;
+    agree(&rt, rt.alloc(), STARTS, calls);
     // By deliveries of all that is pending.
     let calls = "
         perform begin 5 normal : cycle 1; perform w0 scan : scanned 3; perform w0 scan : scanned 2
         perform endmark : doomed 1; perform w0 clearnext : cleared 3; perform w0 clearnext : cleared 2
         deliver_all 1 : refused: NoSuchActor; deliver_all 0 : ok; deliver_all 0 : ok";
-    agree(&rt, rt.alloc(), STARTS, calls)
+    agree(&rt, rt.alloc(), STARTS, calls);
 }
 
 #[test]
-fn what_the_heap_refuses_in_a_cycle_is_told(rt: HostRuntime) -> Result<(), Fail> {
+fn what_the_heap_refuses_in_a_cycle_is_told(rt: HostRuntime) {
     let calls = "
         cycle 0 5 : ok; cycle 0 4 : refused: ClockBack; cycle 1 5 : refused: NoSuchActor
         cycle 0 5 : refused: WrongPhase; perform begin 5 normal : refused: WrongPhase";
-    agree(&rt, rt.alloc(), STARTS, calls)?;
+    agree(&rt, rt.alloc(), STARTS, calls);
     // No turn is left behind a begin and a scan.
     let calls = "cycle 0 5 : refused: TurnsSpent; deliver_all 0 : refused: TurnsSpent";
-    agree(&rt, rt.alloc(), in_vain(u64::MAX - 5, 0), calls)
+    agree(&rt, rt.alloc(), in_vain(u64::MAX - 5, 0), calls);
 }
 
 #[test]
-fn a_cycle_stops_where_a_notice_comes_back(rt: HostRuntime) -> Result<(), Fail> {
+fn a_cycle_stops_where_a_notice_comes_back(rt: HostRuntime) {
     // With no queue in the lists. The notice of the last queue's reference comes first.
     let calls = "
         nowhere cycle 0 5 : refused: BadQueue left 3; nowhere deliver_all 0 : refused: BadQueue left 2
         nowhere deliver_all 0 : ok; cycle 0 5 : refused: WrongPhase";
-    agree(&rt, rt.alloc(), in_vain(0, 0), calls)?;
+    agree(&rt, rt.alloc(), in_vain(0, 0), calls);
     let calls = "
         cycle 0 5 : refused: TurnsSpent left 3; deliver_all 0 : refused: TurnsSpent left 2; deliver_all 0 : ok";
-    agree(&rt, rt.alloc(), in_vain(0, u64::MAX), calls)
+    agree(&rt, rt.alloc(), in_vain(0, u64::MAX), calls);
 }
 
 #[test]
-fn an_urgent_cycle_keeps_no_soft_reference(rt: HostRuntime) -> Result<(), Fail> {
+fn an_urgent_cycle_keeps_no_soft_reference(rt: HostRuntime) {
     let calls = "
         perform m0 new s4 0 : object 4; perform m0 soft s5 s4 - 0 : object 5; perform m0 drop s4 : ok
         cycle 0 6 : ok; perform m0 get s7 s5 : object 4; perform m0 weak s6 s7 - 0 : object 6
         perform m0 drop s7 : ok; urgent_cycle 0 6 : ok; perform m0 get s7 s5 : null
         perform m0 weak s6 s7 - 0 : refused: EmptySlot; urgent_cycle 0 5 : refused: ClockBack";
-    agree(&rt, rt.alloc(), STARTS, calls)
+    agree(&rt, rt.alloc(), STARTS, calls);
 }
 
 #[test]
-fn where_a_heap_is_full_a_cycle_comes_first_and_then_an_urgent_one(
-    rt: HostRuntime,
-) -> Result<(), Fail> {
+fn where_a_heap_is_full_a_cycle_comes_first_and_then_an_urgent_one(rt: HostRuntime) {
     let calls = "
         perform m0 new s4 0 : object 4; perform m0 soft s5 s4 - 0 : object 5; perform m0 new s4 0 : object 6
         perform m0 soft s6 s4 - 0 : object 7; perform m0 new s4 0 : object 8
@@ -157,5 +155,5 @@ fn where_a_heap_is_full_a_cycle_comes_first_and_then_an_urgent_one(
         make_or_collect 6 m0 new s11 0 : refused: NoCell; perform m0 drop s10 : ok
         make_or_collect 6 m0 new s11 0 : object 12; make_or_collect 6 m0 new s16 0 : refused: NoSuchActor";
     let starts = Starts { cells: 8, ..STARTS };
-    agree(&rt, rt.alloc(), starts, calls)
+    agree(&rt, rt.alloc(), starts, calls);
 }

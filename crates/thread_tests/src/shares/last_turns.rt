@@ -13,7 +13,6 @@ use ref_share::{HeapSeat, QueueSeat, SharedHeap, SharedQueue, end_queue};
 use std::alloc::Global;
 use std::process::Abort;
 use std::sync::Wait;
-use std::test::Fail;
 use std::thread;
 use std::thread::Threads;
 
@@ -39,10 +38,12 @@ fn polled(queue: &SharedQueue, mut seat: QueueSeat) -> Told
 }
 
 /// What two threads are told that try the heap at its last turn.
-fn both_try<R: Threads + Wait + Sync>(rt: &R, alloc: Global) -> Result<(Told, Told), Fail> {
-    let (heap, mut left) = SharedHeap::starting(alloc, CONFIG, 0, u64::MAX - 1)?;
+fn both_try<R: Threads + Wait + Abort + Sync>(rt: &R, alloc: Global) -> (Told, Told) {
+    let Ok((heap, mut left)) = SharedHeap::starting(alloc, CONFIG, 0, u64::MAX - 1) else {
+        panic!(rt; "there is no heap");
+    };
     let right = heap.split(&mut left);
-    Ok(tried_by_both(rt, &heap, left, right))
+    tried_by_both(rt, &heap, left, right)
 }
 
 fn tried_by_both<R: Threads + Wait + Sync>(
@@ -66,13 +67,15 @@ fn tried_by_both<R: Threads + Wait + Sync>(
 }
 
 /// What two threads are told that poll the queue at its last turn.
-fn both_poll<R: Threads + Wait + Sync>(rt: &R, alloc: Global) -> Result<(Told, Told), Fail> {
-    let (queue, mut seat) = SharedQueue::starting(alloc, Q, u64::MAX - 1)?;
+fn both_poll<R: Threads + Wait + Abort + Sync>(rt: &R, alloc: Global) -> (Told, Told) {
+    let Ok((queue, mut seat)) = SharedQueue::starting(alloc, Q, u64::MAX - 1) else {
+        panic!(rt; "there is no queue");
+    };
     let left = queue.split(&mut seat);
     let right = queue.split(&mut seat);
     let told = polled_by_both(rt, &queue, left, right);
     end_queue(queue.finish(seat));
-    Ok(told)
+    told
 }
 
 fn polled_by_both<R: Threads + Wait + Sync>(
@@ -106,18 +109,16 @@ fn one_came_second(rt: &impl Abort, alloc: Global, left: Told, right: Told, want
 }
 
 /// Two threads meet at the last turn of a heap, and of a queue.
-fn meet<R: Threads + Wait + Sync + Abort>(rt: &R, alloc: Global) -> Result<(), Fail> {
-    let (left, right) = both_try(rt, alloc)?;
+fn meet<R: Threads + Wait + Sync + Abort>(rt: &R, alloc: Global) {
+    let (left, right) = both_try(rt, alloc);
     one_came_second(rt, alloc, left, right, "object 1");
-    let (left, right) = both_poll(rt, alloc)?;
+    let (left, right) = both_poll(rt, alloc);
     one_came_second(rt, alloc, left, right, "empty");
-    Ok(())
 }
 
 #[test]
-fn at_the_last_turn_of_a_heap_or_a_queue_one_comes_second(rt: HostRuntime) -> Result<(), Fail> {
+fn at_the_last_turn_of_a_heap_or_a_queue_one_comes_second(rt: HostRuntime) {
     for _ in 0..ROUNDS {
-        meet(&rt, rt.alloc())?;
+        meet(&rt, rt.alloc());
     }
-    Ok(())
 }

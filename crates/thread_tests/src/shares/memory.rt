@@ -16,7 +16,6 @@ use ref_share::{SharedCleaner, SharedHeap, SharedQueue, end_queue, run_jobs_left
 use std::alloc::{Allocator, Global};
 use std::process::Abort;
 use std::sync::Wait;
-use std::test::Fail;
 
 /// More requests than any call makes.
 const MOST: u64 = 1_000;
@@ -95,12 +94,11 @@ fn are_few(rt: &impl Abort, name: &str, requests: u64) {
 }
 
 #[test]
-fn what_finds_no_memory_is_not_made(rt: HostRuntime) -> Result<(), Fail> {
+fn what_finds_no_memory_is_not_made(rt: HostRuntime) {
     let memory = Rationed::new(rt.alloc());
     for (name, made) in EACH {
         are_few(&rt, name, make_each(&rt, &memory, name, made));
     }
-    Ok(())
 }
 
 /// What a call behind a death is told, a second call that shows what stands then, and the first once more.
@@ -178,14 +176,10 @@ fn place_of(rt: &impl Abort, alloc: &Rationed<Global>, trial: &Trial, told: &[To
 }
 
 /// Makes the calls with each request refused in turn. Answers the place of what they were told at the last refusal.
-fn refuse_each<R: Wait + Abort>(
-    rt: &R,
-    memory: &Rationed<Global>,
-    trial: &Trial,
-) -> Result<usize, Fail> {
+fn refuse_each<R: Wait + Abort>(rt: &R, memory: &Rationed<Global>, trial: &Trial) -> usize {
     let mut place = 0;
     for met in 0..MOST {
-        let (heap, queue, mut seats) = start(memory, STARTS)?;
+        let (heap, queue, mut seats) = start(rt, memory, STARTS);
         let (told, was_refused) = told_on(rt, &heap, &queue, &mut seats, trial, met);
         end_queue(queue.finish(seats.queue));
         if !was_refused {
@@ -195,7 +189,7 @@ fn refuse_each<R: Wait + Abort>(
                 "{name} with {met} requests met"
             );
             are_few(rt, name, met);
-            return Ok(place);
+            return place;
         }
         place = place_of(rt, memory, trial, &told);
     }
@@ -203,7 +197,7 @@ fn refuse_each<R: Wait + Abort>(
 }
 
 #[test]
-fn a_notice_that_finds_no_memory_comes_back(rt: HostRuntime) -> Result<(), Fail> {
+fn a_notice_that_finds_no_memory_comes_back(rt: HostRuntime) {
     // The call, its answer, that to it once more behind a poll, and that where the first was refused.
     let table = [
         ("put 1", "added 0", "already", "added 0"),
@@ -225,14 +219,13 @@ fn a_notice_that_finds_no_memory_comes_back(rt: HostRuntime) -> Result<(), Fail>
             done: [done, "took 2", once_more],
             refusals: &[["not put 2: NoMemory", "empty", then]],
         };
-        refuse_each(&rt, &memory, &trial)?;
+        refuse_each(&rt, &memory, &trial);
     }
-    Ok(())
 }
 
 /// Nothing of what comes back is handed on once more.
 #[test]
-fn notices_of_a_batch_that_find_no_memory_come_back(rt: HostRuntime) -> Result<(), Fail> {
+fn notices_of_a_batch_that_find_no_memory_come_back(rt: HostRuntime) {
     let trial = Trial {
         death: DEATH,
         call: "deliver_batch 0 32",
@@ -243,8 +236,7 @@ fn notices_of_a_batch_that_find_no_memory_come_back(rt: HostRuntime) -> Result<(
             ["refused: NoMemory left 3", "took 2", "none"],
         ],
     };
-    refuse_each(&rt, &Rationed::new(rt.alloc()), &trial)?;
-    Ok(())
+    refuse_each(&rt, &Rationed::new(rt.alloc()), &trial);
 }
 
 /// A cycle finds object 1 dead. References 2 to 6 to it are in slots 1 to 5, and pending in this order.
@@ -257,7 +249,7 @@ const DEATH_OF_FIVE: &'static str = "
     w0 clearnext : cleared 6; endclear : ok";
 
 #[test]
-fn where_memory_ends_in_the_middle_what_came_before_stands(rt: HostRuntime) -> Result<(), Fail> {
+fn where_memory_ends_in_the_middle_what_came_before_stands(rt: HostRuntime) {
     let trial = Trial {
         death: DEATH_OF_FIVE,
         call: "deliver_all 0",
@@ -272,23 +264,26 @@ fn where_memory_ends_in_the_middle_what_came_before_stands(rt: HostRuntime) -> R
         ],
     };
     assert!(rt;
-        refuse_each(&rt, &Rationed::new(rt.alloc()), &trial)? > 0,
+        refuse_each(&rt, &Rationed::new(rt.alloc()), &trial) > 0,
         "none is in the middle"
     );
-    Ok(())
 }
 
 /// What a register, or a register apart, is told on a new heap with object 1 in slot 0 and a new cleaner, with `met`
 /// requests for memory met, and whether a request was refused.
-fn register_with<R: Wait>(
+fn register_with<R: Wait + Abort>(
     rt: &R,
     memory: &Rationed<Global>,
     is_apart: bool,
     met: u64,
     job: Job,
-) -> Result<(Told, bool), Fail> {
-    let (heap, mut heap_seat) = SharedHeap::new(memory, CONFIG, 0)?;
-    let (cleaner, mut seat) = SharedCleaner::new(memory, Q)?;
+) -> (Told, bool) {
+    let Ok((heap, mut heap_seat)) = SharedHeap::new(memory, CONFIG, 0) else {
+        panic!(rt; "there is no heap");
+    };
+    let Ok((cleaner, mut seat)) = SharedCleaner::new(memory, Q) else {
+        panic!(rt; "there is no cleaner");
+    };
     let _object = heap.ask(rt, &mut heap_seat, new(0));
     let (from, to) = (SlotNo(0), SlotNo(1));
     memory.ration(met);
@@ -303,7 +298,7 @@ fn register_with<R: Wait>(
         Err((fault, job)) => refusal(rt, &heap, &mut heap_seat, fault).with_job(job.number()),
     };
     run_jobs_left(cleaner.finish(seat));
-    Ok((told, was_refused))
+    (told, was_refused)
 }
 
 /// Registers job 1 with each request refused in turn: each time it comes back. Then it is registered. Answers how many
@@ -313,9 +308,12 @@ fn register_each<R: Wait + Abort>(
     alloc: Global,
     memory: &Rationed<Global>,
     is_apart: bool,
-) -> Result<u64, Fail> {
+) -> u64 {
     for met in 0..MOST {
-        let (told, was_refused) = register_with(rt, memory, is_apart, met, adding(alloc, 1)?)?;
+        let Ok(job) = adding(alloc, 1) else {
+            panic!(rt; "no memory for a job");
+        };
+        let (told, was_refused) = register_with(rt, memory, is_apart, met, job);
         let want = if was_refused {
             "refused: NoMemory job 1"
         } else {
@@ -323,18 +321,17 @@ fn register_each<R: Wait + Abort>(
         };
         expect(rt, alloc, told, want, "register");
         if !was_refused {
-            return Ok(met);
+            return met;
         }
     }
-    Ok(MOST)
+    MOST
 }
 
 #[test]
-fn a_job_that_finds_no_memory_comes_back(rt: HostRuntime) -> Result<(), Fail> {
+fn a_job_that_finds_no_memory_comes_back(rt: HostRuntime) {
     let memory = Rationed::new(rt.alloc());
     for is_apart in [false, true] {
-        let requests = register_each(&rt, rt.alloc(), &memory, is_apart)?;
+        let requests = register_each(&rt, rt.alloc(), &memory, is_apart);
         are_few(&rt, "register", requests);
     }
-    Ok(())
 }

@@ -12,7 +12,6 @@ use ref_share::{QueueSeat, SharedHeap, SharedQueue};
 use std::alloc::Global;
 use std::process::Abort;
 use std::sync::Wait;
-use std::test::Fail;
 use std::thread;
 use std::thread::Threads;
 
@@ -147,29 +146,29 @@ fn agree_while_two_wait<R: Threads + Wait + Abort + Sync>(
     story: (&str, &str),
     (one, other): (&str, &str),
     left: Left,
-) -> Result<(), Fail> {
-    let (heap, queue, seats) = start(alloc, STARTS)?;
+) {
+    let (heap, queue, seats) = start(rt, alloc, STARTS);
     let (first, second, seats) = told_meanwhile(rt, &heap, &queue, seats, story);
     assert!(rt;
         first.is(alloc, one) && second.is(alloc, other)
             || second.is(alloc, one) && first.is(alloc, other),
         "{first}, {second}"
     );
-    end(rt, alloc, heap, queue, seats, left)
+    end(rt, alloc, heap, queue, seats, left);
 }
 
 #[test]
-fn who_waits_is_told_what_comes_or_of_the_close(rt: HostRuntime) -> Result<(), Fail> {
+fn who_waits_is_told_what_comes_or_of_the_close(rt: HostRuntime) {
     let alloc = rt.alloc();
     // A close wakes all that wait.
     let story = ("close : was open", "");
-    agree_while_two_wait(&rt, alloc, story, ("closed", "closed"), NOTHING)?;
+    agree_while_two_wait(&rt, alloc, story, ("closed", "closed"), NOTHING);
     // What is put later goes to those that wait.
     let calls = "deliver_one 0 : delivered 2 0 0; deliver_one 0 : delivered 3 0 1";
     let (story, told) = ((DEATH, calls), ("took 2", "took 3"));
-    agree_while_two_wait(&rt, alloc, story, told, (&[2, 3], &[]))?;
+    agree_while_two_wait(&rt, alloc, story, told, (&[2, 3], &[]));
     // Who waits for more than comes is told of the close.
     let calls = "enqueue 1 : enqueued; close : was open";
     let (story, told) = ((TWO_REFERENCES, calls), ("took 2", "closed"));
-    agree_while_two_wait(&rt, alloc, story, told, (&[2], &[]))
+    agree_while_two_wait(&rt, alloc, story, told, (&[2], &[]));
 }

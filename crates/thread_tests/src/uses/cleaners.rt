@@ -151,23 +151,16 @@ fn cleaned_anew<R: Wait + Abort>(
     rt: &R,
     alloc: Global,
     jobs: (Job, Job),
-) -> Result<
-    (
-        [Option<Cleanable>; 2],
-        Option<bool>,
-        Option<bool>,
-        Option<u64>,
-    ),
-    Fault,
-> {
-    let (cleaner, mut seat) = SharedCleaner::new(alloc, Q)?;
-    let (heap, queue, mut seats) = match start(alloc, STARTS) {
-        Ok(made) => made,
-        Err(fault) => {
-            left_in(cleaner.finish(seat));
-            return Err(fault);
-        }
+) -> (
+    [Option<Cleanable>; 2],
+    Option<bool>,
+    Option<bool>,
+    Option<u64>,
+) {
+    let Ok((cleaner, mut seat)) = SharedCleaner::new(alloc, Q) else {
+        panic!(rt; "there is no cleaner");
     };
+    let (heap, queue, mut seats) = start(rt, alloc, STARTS);
     let (held, retired, enough) = cleaned_twice(
         rt,
         (&heap, &queue, &cleaner),
@@ -176,7 +169,7 @@ fn cleaned_anew<R: Wait + Abort>(
         jobs,
     );
     end_queue(queue.finish(seats.queue));
-    Ok((held, retired, enough, left_in(cleaner.finish(seat))))
+    (held, retired, enough, left_in(cleaner.finish(seat)))
 }
 
 #[test]
@@ -186,7 +179,7 @@ fn a_cleaner_makes_its_calls_of_the_heap(rt: HostRuntime) -> Result<(), Fail> {
         Some(Cleanable { obj: ObjNo(2) }),
         Some(Cleanable { obj: ObjNo(3) }),
     ];
-    assert!(rt; cleaned_anew(&rt, rt.alloc(), jobs)? == (want, Some(true), Some(true), Some(0)));
+    assert!(rt; cleaned_anew(&rt, rt.alloc(), jobs) == (want, Some(true), Some(true), Some(0)));
     Ok(())
 }
 

@@ -162,13 +162,12 @@ fn sent_without_memory<'a, R: Wait + Abort>(
 }
 
 #[test]
-fn what_finds_no_memory_is_not_given_up(rt: HostRuntime) -> Result<(), Fail> {
+fn what_finds_no_memory_is_not_given_up(rt: HostRuntime) {
     let memory = &Rationed::new(rt.alloc());
-    let (heap, queue, mut seats) = start(memory, STARTS)?;
+    let (heap, queue, mut seats) = start(&rt, memory, STARTS);
     let sent = sent_without_memory(&rt, memory, &heap, &queue, &mut seats);
     end_queue(queue.finish(seats.queue));
     assert!(rt; sent == Ok((false, Some(true), true)));
-    Ok(())
 }
 
 /// The references for queues 1 and 0 are delivered, once their referent is dead, or enqueued. Whether the queue of each

@@ -208,13 +208,9 @@ fn a_loop_without_a_turn_of_its_queue_takes_no_job(rt: HostRuntime) -> Result<()
         queue: u64::MAX - 2,
         ..STARTS
     };
-    let (heap, queue, mut seats) = start(rt.alloc(), starts)?;
-    let (cleaner, mut seat) = match SharedCleaner::new(rt.alloc(), Q) {
-        Ok(made) => made,
-        Err(fault) => {
-            end_queue(queue.finish(seats.queue));
-            return Err(fault.into());
-        }
+    let (heap, queue, mut seats) = start(&rt, rt.alloc(), starts);
+    let Ok((cleaner, mut seat)) = SharedCleaner::new(rt.alloc(), Q) else {
+        panic!(rt; "there is no cleaner");
     };
     let told = looped(&rt, &cleaner, &mut seat, (&heap, &queue), &mut seats, job);
     end_queue(queue.finish(seats.queue));

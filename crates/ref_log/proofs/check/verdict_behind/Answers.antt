@@ -1,13 +1,10 @@
-use Rattle.std.proofs.Common.{Some, refl, sym, ap, ◌∙◌, subst}
+use Rattle.std.proofs.Common.{refl, sym, ◌∙◌, subst}
 use Rattle.std.proofs.Math.Bool.{or-false}
 use Rattle.std.proofs.lemmas.Result.{err_from_is_err_and}
 use Rattle.ref_judge.specs.Judged.{Judged}
-use Rattle.ref_base.specs.declared.row.Row.{Row}
-use Rattle.ref_judge.specs.Standing.{IsOfSomeState, IsSettled, ObjectsTo}
-use Rattle.ref_judge.specs.declared.rule.Breach.{Breach}
-use Rattle.ref_judge.specs.declared.rule.Objection.TheVariants.{Illegal}
-use Rattle.ref_log.proofs.JudgedLines.{none_unread, way_breaks, way_ends, way_first, way_illegal}
-use Rattle.ref_log.proofs.JudgedLines.{same_unread, way_more, way_stops}
+use Rattle.ref_judge.specs.Standing.{IsOfSomeState, IsSettled}
+use Rattle.ref_log.proofs.JudgedLines.{none_unread, way_breaks, way_ends, way_first}
+use Rattle.ref_log.proofs.JudgedLines.{same_unread, told_unread, way_more, way_stops, way_told}
 use Rattle.ref_log.proofs.check.verdict_behind.Goals as goal
 
 pub loop-has_row-init : goal.loop-has_row-init
@@ -50,19 +47,15 @@ returns-in_err-has_row-clause-failed g c =
 
 pub returns-in-Err-clause-verdict : goal.returns-in-Err-clause-verdict
 returns-in-Err-clause-verdict g c =
-    let finding = c.explained.result in
-    let told = c.explained.ensures in
-    let bare = c.bare-finding.ensures in
-    let row_is = told.row ∙ bare.row in
     let sound = subst (λ (j : Judged). IsOfSomeState j) c.judge.view_is c.judge.invariant in
     λ given lines behind.
     let way = c.loop-has_row.invariant.0 given lines behind in
-    way_illegal _ _ _ _ _ _ _ _ _ _ way c.loop-has_row-test.true c.in_ok-row.row _ c.in_ok-row.ensures sound
-    c.taken.new.judge finding (told.number ∙ bare.number) (told.line ∙ bare.line ∙ c.number.ensures.number)
-    (c.in-Err.ensures.0 ∙ ap (λ (r : Row). Some r) (sym row_is)) c.in-Err.objection
-    (c.in-Illegal.is ∙ ap (λ (b : Breach). Illegal b) (sym (told.breach ∙ bare.breach)))
-    (subst (λ (r : Row). ObjectsTo c.loop-has_row.judge r c.in-Err.objection c.taken.new.judge) (sym row_is)
-    c.in-Err.ensures.1)
+    way_told _ _ _ _ _ _ _ _ _ _ way c.loop-has_row-test.true c.in_ok-row.row _ c.in_ok-row.ensures sound
+    c.taken.new.judge _ _ c.told_of.result c.in-Err.ensures.0 c.in-Err.ensures.1 c.told_of.ensures
+
+pub returns-in-Err-clause-failed : goal.returns-in-Err-clause-failed
+returns-in-Err-clause-failed g c =
+    rw (told_unread _ _ _ _ c.told_of.result c.told_of.ensures) (c.loop-has_row.invariant.1 ∙ sym (or-false _))
 
 pub loop-has_row-preserved : goal.loop-has_row-preserved
 loop-has_row-preserved g c =

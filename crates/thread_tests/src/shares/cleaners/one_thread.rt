@@ -17,7 +17,6 @@ use std::collections::VecDeque;
 use std::process::Abort;
 use std::sync::atomic::{AtomicU64, Ordering};
 use std::sync::{Arc, Wait};
-use std::test::Fail;
 
 /// A step that is asked by a call of its own.
 fn asked<R: Wait>(rt: &R, heap: &mut CleanedHeap, step: PlainStep) -> Told
@@ -207,9 +206,11 @@ fn use_all<R: Wait + Abort>(
     jobs: VecDeque<Job>,
     hearing: &Hearing,
     calls: &str,
-) -> Result<usize, Fail> {
+) -> usize {
     let mut jobs = jobs;
-    let mut heap = CleanedHeap::new(alloc, CONFIG)?;
+    let Ok(mut heap) = CleanedHeap::new(alloc, CONFIG) else {
+        panic!(rt; "there is no heap");
+    };
     for row in calls.split(BREAKS) {
         if !is_comment(row) {
             let (call, want) = parts_of(row);
@@ -218,26 +219,27 @@ fn use_all<R: Wait + Abort>(
             expect(rt, alloc, told, want, row);
         }
     }
-    Ok(heap.end())
+    heap.end()
 }
 
 /// The story, and what is left then.
-fn agree<R: Wait + Abort>(rt: &R, alloc: Global, story: &Story) -> Result<(), Fail> {
-    let called = Arc::new(alloc, AtomicU64::new(0))?;
+fn agree<R: Wait + Abort>(rt: &R, alloc: Global, story: &Story) {
+    let Ok(called) = Arc::new(alloc, AtomicU64::new(0)) else {
+        panic!(rt; "no memory for a count");
+    };
     let hearing = Hearing::new(false);
-    let jobs = counting_jobs(alloc, story.jobs, &called)?;
-    let standing = use_all(rt, alloc, jobs, &hearing, story.calls)?;
+    let jobs = counting_jobs(rt, alloc, story.jobs, &called);
+    let standing = use_all(rt, alloc, jobs, &hearing, story.calls);
     assert!(rt; standing == story.standing, "notices in the end");
     assert!(rt; hearing.heard() == (story.heard, 0, 0));
     assert!(rt;
         called.load(Ordering::SeqCst) == story.called,
         "actions called"
     );
-    Ok(())
 }
 
 #[test]
-fn a_program_of_one_thread_runs_the_jobs_of_what_died(rt: HostRuntime) -> Result<(), Fail> {
+fn a_program_of_one_thread_runs_the_jobs_of_what_died(rt: HostRuntime) {
     let story = Story {
         jobs: &[1, 2, 3],
         calls: "
@@ -251,11 +253,11 @@ fn a_program_of_one_thread_runs_the_jobs_of_what_died(rt: HostRuntime) -> Result
         // Job 3 is left, and is run as the heap ends.
         called: 2,
     };
-    agree(&rt, rt.alloc(), &story)
+    agree(&rt, rt.alloc(), &story);
 }
 
 #[test]
-fn a_job_is_cleaned_by_hand_or_taken_out_once(rt: HostRuntime) -> Result<(), Fail> {
+fn a_job_is_cleaned_by_hand_or_taken_out_once(rt: HostRuntime) {
     let story = Story {
         jobs: &[1, 2, 3],
         calls: "
@@ -271,16 +273,11 @@ fn a_job_is_cleaned_by_hand_or_taken_out_once(rt: HostRuntime) -> Result<(), Fai
         standing: 1,
         called: 2,
     };
-    agree(&rt, rt.alloc(), &story)
+    agree(&rt, rt.alloc(), &story);
 }
 
 /// Without a job.
-fn agree_without<R: Wait + Abort>(
-    rt: &R,
-    alloc: Global,
-    standing: usize,
-    calls: &str,
-) -> Result<(), Fail> {
+fn agree_without<R: Wait + Abort>(rt: &R, alloc: Global, standing: usize, calls: &str) {
     let story = Story {
         jobs: &[],
         calls,
@@ -288,13 +285,11 @@ fn agree_without<R: Wait + Abort>(
         standing,
         called: 0,
     };
-    agree(rt, alloc, &story)
+    agree(rt, alloc, &story);
 }
 
 #[test]
-fn a_cache_of_soft_references_is_emptied_before_there_is_no_cell(
-    rt: HostRuntime,
-) -> Result<(), Fail> {
+fn a_cache_of_soft_references_is_emptied_before_there_is_no_cell(rt: HostRuntime) {
     let calls = "
         perform m0 new s0 0 : object 1; ask m0 soft s1 s0 q0 0 : object 2; perform m0 new s0 0 : object 3
         ask m0 soft s2 s0 q0 0 : object 4; perform m0 new s0 0 : object 5; ask m0 soft s3 s0 q0 0 : object 6
@@ -307,13 +302,11 @@ fn a_cache_of_soft_references_is_emptied_before_there_is_no_cell(
         ask m0 refers s3 s15 : true; make_or_collect 6 m0 new s6 0 : object 11
         make_or_collect 6 m0 new s7 0 : object 12; make_or_collect 6 m0 new s8 0 : refused: NoCell
         perform m0 drop s6 : ok; make_or_collect 6 m0 new s8 0 : object 13";
-    agree_without(&rt, rt.alloc(), 4, calls)
+    agree_without(&rt, rt.alloc(), 4, calls);
 }
 
 #[test]
-fn a_soft_reference_is_kept_by_its_span_and_by_no_urgent_cycle(
-    rt: HostRuntime,
-) -> Result<(), Fail> {
+fn a_soft_reference_is_kept_by_its_span_and_by_no_urgent_cycle(rt: HostRuntime) {
     let calls = "
         perform m0 new s0 0 : object 1; ask m0 soft s1 s0 q0 0 : object 2; perform m0 new s0 0 : object 3
         ask m0 soft s2 s0 q0 0 : object 4; perform m0 drop s0 : ok; cycle 0 10 : ok
@@ -321,7 +314,7 @@ fn a_soft_reference_is_kept_by_its_span_and_by_no_urgent_cycle(
         # It gets the clock of now as its stamp.
         perform m0 get s0 s2 : object 3; perform m0 drop s0 : ok; cycle 0 11 : ok; ask m0 refers s1 s15 : true
         ask m0 refers s2 s15 : false; urgent_cycle 0 11 : ok; ask m0 refers s2 s15 : true";
-    agree_without(&rt, rt.alloc(), 2, calls)
+    agree_without(&rt, rt.alloc(), 2, calls);
 }
 
 /// The number of the heap of which a hold of what slot 0 holds is.
@@ -340,15 +333,16 @@ fn number_of_heap<R: Wait>(rt: &R, heap: &mut CleanedHeap) -> Option<u64>
 }
 
 #[test]
-fn a_cleaned_heap_is_heap_0(rt: HostRuntime) -> Result<(), Fail> {
-    let mut heap = CleanedHeap::new(rt.alloc(), CONFIG)?;
+fn a_cleaned_heap_is_heap_0(rt: HostRuntime) {
+    let Ok(mut heap) = CleanedHeap::new(rt.alloc(), CONFIG) else {
+        panic!(rt; "there is no heap");
+    };
     let made = reply_or_fault(heap.make(&rt, SlotNo(0), 0));
     let number = number_of_heap(&rt, &mut heap);
     let standing = heap.end();
     assert!(rt; made.is(rt.alloc(), "object 1"), "{made}");
     assert!(rt; number == Some(0), "the heap has another number");
     assert!(rt; standing == 0, "{standing} notices stand");
-    Ok(())
 }
 
 #[test]
