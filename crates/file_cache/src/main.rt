@@ -60,7 +60,7 @@ fn main(rt: HostRuntime) -> Result<(), Error> {
     }
     let mut heap = CleanedHeap::new(rt.alloc(), CONFIG)?;
     let used = use_cache(&rt, rt.alloc(), &mut heap, jobs);
-    heap.end();
+    heap.end(&Printer { rt: &rt });
     used
 }
 

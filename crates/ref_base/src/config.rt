@@ -38,6 +38,71 @@ impl Config {
             Err(Fault::BadConfig)
         }
     }
+
+    /// With so many mutators. Nothing is checked here, but by `check`.
+    pub fn mutators(self, mutators: u32) -> Config
+        ensures { result ≡ record self { mutators = mutators } }
+    {
+        let mut config = self;
+        config.mutators = mutators;
+        config
+    }
+
+    /// With so many workers. Nothing is checked here, but by `check`.
+    pub fn workers(self, workers: u32) -> Config
+        ensures { result ≡ record self { workers = workers } }
+    {
+        let mut config = self;
+        config.workers = workers;
+        config
+    }
+
+    /// With so many queues. Nothing is checked here, but by `check`.
+    pub fn queues(self, queues: u32) -> Config
+        ensures { result ≡ record self { queues = queues } }
+    {
+        let mut config = self;
+        config.queues = queues;
+        config
+    }
+
+    /// With room for so many objects. Nothing is checked here, but by `check`.
+    pub fn cells(self, cells: u32) -> Config
+        ensures { result ≡ record self { cells = cells } }
+    {
+        let mut config = self;
+        config.cells = cells;
+        config
+    }
+
+    /// With another span, of which a cycle makes what the rule says.
+    pub fn span(self, span: u64, rule: SpanRule) -> Config
+        ensures { result ≡ record self { span = span; rule = rule } }
+    {
+        let mut config = self;
+        config.span = span;
+        config.rule = rule;
+        config
+    }
+}
+
+/// One mutator, one worker and one queue, room for 1,024 objects, and a span of 0: a cycle keeps the soft references
+/// alone that were made or got at its own clock.
+impl Default for Config {
+    ghost use Rattle.ref_base.specs.Limits.{default_config};
+
+    ghost is_default = { λ config. config ≡ default_config };
+
+    fn default() -> Config {
+        Config {
+            mutators: 1,
+            workers: 1,
+            queues: 1,
+            cells: 1024,
+            span: 0,
+            rule: SpanRule::Fixed,
+        }
+    }
 }
 
 // Whether there is one at least, and at most so many.

@@ -1,5 +1,6 @@
 //! Why a call is refused.
 
+use std::alloc::{AllocError, AllocFailed};
 use std::fmt;
 use thiserror::Error;
 
@@ -100,6 +101,30 @@ impl Fault {
             Fault::HandEmpty => "HandEmpty",
             Fault::TurnsSpent => "TurnsSpent",
         }
+    }
+}
+
+/// An allocation that was refused is `NoMemory`, so that `?` passes it on.
+impl From<AllocError> for Fault {
+    ghost use Rattle.std.specs.Prelude.{◌≡◌};
+    ghost use Rattle.ref_base.specs.declared.fault.Fault.TheVariants.{NoMemory};
+
+    ghost from_gives = { λ _ fault. fault ≡ NoMemory };
+
+    fn from(_refused: AllocError) -> Fault {
+        Fault::NoMemory
+    }
+}
+
+/// A push that was refused is `NoMemory` too. What could not be stored is dropped.
+impl<T: Drop> From<AllocFailed<T>> for Fault {
+    ghost use Rattle.std.specs.Prelude.{◌≡◌};
+    ghost use Rattle.ref_base.specs.declared.fault.Fault.TheVariants.{NoMemory};
+
+    ghost from_gives = { λ _ fault. fault ≡ NoMemory };
+
+    fn from(_refused: AllocFailed<T>) -> Fault {
+        Fault::NoMemory
     }
 }
 

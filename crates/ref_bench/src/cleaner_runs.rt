@@ -112,7 +112,7 @@ pub fn jobs_registered_and_run<R: Wait + Clock>(
         heap_seat,
     };
     let sample = register_and_run(rt, user, others, jobs);
-    run_jobs_left(cleaner.finish(seat));
+    run_jobs_left(cleaner.finish(seat), &());
     sample
 }
 

@@ -1,5 +1,6 @@
 -- A shared heap or queue may be seen by several threads, and a seat of one may go to another: by this set a search at a
 -- closure that takes them along need not look into them.
+use denote.Ref.{NamedLft}
 use denote.RattleType.{RattleType}
 use denote.Param.Send.{IsSend, IsSync, sendable}
 use Rattle.std.proofs.Crossing.{crosses}
@@ -14,6 +15,16 @@ use Rattle.ref_objects.specs.contracts.hold.Hold.{the_row as hold_row}
 use Rattle.ref_turn.proofs.turn.SeatOf.TheSendSync.{the_field_send as seat_send}
 use Rattle.ref_turn.proofs.turn.Turn.TheSendSync.{the_field_sync as turn_sync}
 use Rattle.ref_world.specs.contracts.heap_machine.HeapReply.{the_row as heap_reply}
+use Rattle.ref_base.specs.contracts.numbers.QueueNo.{the_row as number_row}
+use Rattle.ref_share.specs.contracts.clean_machine.CleanMachine.{the_row as clean_machine}
+use Rattle.ref_share.specs.contracts.clean_machine.CleanMachineMachine.TheImpl as cleaners
+use Rattle.ref_share.specs.contracts.clean_machine.CleanReply.{the_row as clean_reply}
+use Rattle.ref_share.specs.contracts.clean_machine.CleanStep.{the_row as clean_step}
+use Rattle.ref_share.specs.contracts.clean_user.CleanUser.{the_row as clean_user}
+use Rattle.ref_share.specs.contracts.collector.Collector.{the_row as collector}
+use Rattle.ref_share.specs.contracts.heap_user.HeapUser.{the_row as heap_user}
+use Rattle.ref_share.specs.contracts.queue_user.QueueUser.{the_row as queue_user}
+use Rattle.ref_share.specs.contracts.queue_users.QueueUsers.{the_row as queue_users}
 use Rattle.ref_share.specs.contracts.heap_machine.HeapMachine.{the_row as heap_machine}
 use Rattle.ref_share.specs.contracts.heap_machine.HeapMachineMachine.TheImpl as heaps
 use Rattle.ref_share.specs.contracts.queue_machine.QueueMachine.{the_row as queue_machine}
@@ -22,6 +33,7 @@ use Rattle.ref_share.specs.contracts.queue_machine.QueueReply.{the_row as queue_
 use Rattle.ref_share.specs.contracts.queue_machine.QueueStep.{the_row as queue_step}
 use Rattle.ref_share.specs.contracts.shared.SeatFor.{the_field as seat_field}
 use Rattle.ref_share.specs.contracts.shared.Shared.{the_field as shared_field}
+use Rattle.ref_share.specs.contracts.task.Numbered.{the_row as task_row}
 use Rattle.ref_share.specs.contracts.shared_heap.HeapFrame.{the_row as heap_frame}
 use Rattle.ref_share.specs.contracts.shared_queue.QueueFrame.{the_row as queue_frame}
 
@@ -67,4 +79,56 @@ queue_sync = search (queue_machine_send, turn_sync, global_send, global_sync, cr
 pub queue_seat_send : IsSend queue_seat_row
 queue_seat_send = search (queue_machine_send, seat_send, crosses, sendable) depth 60 fits 20000
 
-pub ruleset shared = (heap_sync, heap_seat_send, queue_sync, queue_seat_send)
+-- ---- a cleaner of numbered tasks, which go to another thread by themselves
+
+clean_machine_send : IsSend (clean_machine hold_row task_row the_row ghosts)
+clean_machine_send = search (crosses, sendable) depth 60 fits 20000
+
+abbrev pub cleaner_row : RattleType
+cleaner_row =
+    (shared_field (clean_machine hold_row task_row the_row ghosts) the_row (clean_step hold_row task_row)
+    (clean_reply hold_row task_row) number_row
+    (cleaners.ghosts hold_row task_row the_row ghosts cleaners.no_dict (clones the_row) cleaners.no_dict) ghosts).row
+
+abbrev pub clean_seat_row : RattleType
+clean_seat_row =
+    (seat_field (clean_machine hold_row task_row the_row ghosts) (clean_step hold_row task_row)
+    (clean_reply hold_row task_row) number_row).row
+
+pub cleaner_sync : IsSync cleaner_row
+cleaner_sync = search (clean_machine_send, turn_sync, global_send, global_sync, crosses, sendable) depth 60 fits 20000
+
+pub clean_seat_send : IsSend clean_seat_row
+clean_seat_send = search (clean_machine_send, seat_send, crosses, sendable) depth 60 fits 20000
+
+-- ---- users, and a collector
+
+pub heap_user_send : (κ : NamedLft) → IsSend (heap_user κ the_row ghosts (clones the_row))
+heap_user_send κ = search (heap_sync, heap_seat_send, crosses, sendable) depth 60 fits 20000
+
+pub queue_user_send : (κ : NamedLft) → IsSend (queue_user κ the_row ghosts (clones the_row))
+queue_user_send κ = search (queue_sync, queue_seat_send, crosses, sendable) depth 60 fits 20000
+
+pub queue_users_send : (κ : NamedLft) → IsSend (queue_users κ the_row ghosts (clones the_row))
+queue_users_send κ = search (queue_sync, queue_seat_send, crosses, sendable) depth 60 fits 20000
+
+pub clean_user_send : (κ : NamedLft) → IsSend (clean_user κ task_row the_row ghosts (clones the_row))
+clean_user_send κ = search (cleaner_sync, clean_seat_send, crosses, sendable) depth 60 fits 20000
+
+pub collector_send : (κ : NamedLft) → IsSend (collector κ the_row ghosts (clones the_row))
+collector_send κ =
+    search (heap_user_send, queue_users_send, global_send, crosses, sendable) depth 60 fits 20000
+
+pub ruleset shared = (
+  heap_sync,
+  heap_seat_send,
+  queue_sync,
+  queue_seat_send,
+  cleaner_sync,
+  clean_seat_send,
+  heap_user_send,
+  queue_user_send,
+  queue_users_send,
+  clean_user_send,
+  collector_send,
+)

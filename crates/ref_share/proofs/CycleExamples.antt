@@ -4,14 +4,14 @@ use Rattle.ref_share.proofs.Common.{◌≡◌, ℕ, List, [], ◌∷◌, ◌++�
 use Rattle.ref_share.proofs.Common.{arith}
 use Rattle.ref_share.proofs.Common.{length-append, ClearHeap, Idle, entry, Busy, HeapView, HeapEntry}
 use Rattle.ref_share.proofs.Common.{QueueSeat, SharedQueue, Reply}
-use Rattle.ref_base.specs.declared.fault.Fault.TheVariants.{GreyLeft, NoCell, WrongPhase}
+use Rattle.ref_base.specs.declared.fault.Fault.TheVariants.{GreyLeft, NoCell, NoMemory, WrongPhase}
 use Rattle.ref_base.specs.declared.heap_step.HeapStep.TheVariants as heap
 use Rattle.ref_base.specs.declared.plain_step.PlainStep.{PlainStep}
 use Rattle.ref_base.specs.declared.plain_step.PlainStep.TheVariants as plain
 use Rattle.ref_base.specs.declared.reply.Reply.TheVariants as told
 use Rattle.ref_base.specs.declared.urgency.Urgency.TheVariants.{Normal, Urgent}
 use Rattle.ref_world.specs.declared.heap_machine.HeapReply.TheVariants as replies
-use Rattle.ref_share.specs.Cycles.{HasMore, IsLast, GoesThrough, IsBegun, MarksAndClears, Cycles}
+use Rattle.ref_share.specs.Cycles.{HasMore, IsLast, GoesThrough, IsBegun, MarksAndClears, Cycles, CyclesAlone}
 use Rattle.ref_share.specs.Deliveries.{DeliversAll}
 use Rattle.ref_share.specs.WantsOfRoom.{Does, DoesUnlessFull, DoesAfter}
 use Rattle.ref_share.specs.declared.answers.ShareFault.TheVariants.{Refused}
@@ -142,6 +142,29 @@ module _ {A : Type 0} (start : Option ClearHeap) (queues : List (SharedQueue A))
       ),
     ),
   )
+
+  it_is_one_alone : CyclesAlone queues 0 5 Normal (seat []) seats (Ok tt)
+      (seat (cleared ++ hands ∷ sweeps ∷ ends ∷ [])) seats
+  it_is_one_alone = inl ([], it_is_a_cycle)
+
+  no_memory_and_no_call : CyclesAlone queues 0 5 Normal (seat []) seats (Err (Refused NoMemory)) (seat []) seats
+  no_memory_and_no_call = inr (refl, refl, refl)
+
+  -- promise: Collector::cycle: a cycle that ended was begun
+  ended_and_never_begun : (w : HeapView) (after : List QueueSeat)
+      → CyclesAlone queues 0 5 Normal (seat []) seats (Ok tt) w after
+      → ¬ ((u : HeapView) → ¬ (IsBegun 5 Normal (seat []) (Ok tt) u))
+  ended_and_never_begun w after cycles never =
+      elim cycles [
+        | inl is ↦ elim is.1 [
+          | inl begun ↦ elim begun.1.0 [
+            | inl first ↦ never first.0 first.1
+            | inr stops ↦ let not = stops.1 in absurd cc
+          ]
+          | inr stops ↦ let not = stops.1 in absurd cc
+        ]
+        | inr none ↦ let not = none.0 in absurd cc
+      ]
 
   -- promise: cycle: a cycle that never begins is none
   never_begun : ¬ (IsBegun 5 Normal (seat []) (Ok tt) (seat []))

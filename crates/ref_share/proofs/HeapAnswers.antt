@@ -5,19 +5,22 @@ use Rattle.ref_share.proofs.Common.{HeldNotice, Acts, HeapView, Called, ℕ, Lis
 use Rattle.ref_share.proofs.Common.{append-nil, eq-eqb, ◌+◌, length, State, heap_refusal, pending_of}
 use Rattle.std.proofs.Common.{◌-◌, ◌^◌}
 use Rattle.std.specs.Prelude.{nat_le}
-use Rattle.std.proofs.lemmas.Bool.{eqb-true}
+use Rattle.std.proofs.lemmas.Bool.{eqb-true, or_right}
 use Rattle.ref_base.specs.Refusals.{unless, is_counted, hold_refusal, hands_refusal, batch_of, fits, is_worker}
-use Rattle.ref_base.specs.CollectorRows.{all_handed}
+use Rattle.ref_base.specs.CollectorRows.{all_handed, value_reply}
 use Rattle.ref_base.specs.Told.{told_notices}
 use Rattle.ref_base.specs.Heaps.{Heap}
 use Rattle.ref_base.specs.declared.fault.Fault.TheVariants.{BadConfig, ForeignHold, NoSuchActor, NumbersSpent}
-use Rattle.ref_clear.specs.ClearCalls.{held_notices, handed_reply, refusal_in, refusing_state}
+use Rattle.ref_clear.specs.ClearCalls.{held_notices, handed_reply, refusal_in, refusing_state, answer_in}
 use Rattle.ref_clear.specs.ClearHeaps.{pending_at}
 use Rattle.ref_clear.specs.declared.handed.Handed.{Handed}
 use Rattle.ref_world.specs.WorldHeaps.{heap_no_of}
-use Rattle.ref_mark.specs.MarkCalls.{unless_refused}
+use Rattle.ref_mark.specs.MarkCalls.{unless_refused, answer_in_cycle, reply_in, refusal_in_cycle}
 use Rattle.ref_share.specs.HeapCalls.{asks_for_a_notice, TellsOfNone, KeepsBack, GivesNotice, takes_a_hold, Spends}
-use Rattle.ref_share.specs.HeapCalls.{GivesBatch}
+use Rattle.ref_share.specs.HeapCalls.{GivesBatch, is_refusal, tells_of_found, may_answer}
+use Rattle.ref_base.specs.declared.plain_step.PlainStep.{PlainStep}
+use Rattle.ref_base.specs.declared.plain_step.PlainStep.TheVariants as plain
+use Rattle.std.specs.Prelude.{◌||◌}
 use Rattle.ref_world.specs.HeapReplies.{TellsOfBatch}
 use Rattle.ref_base.specs.declared.heap_step.HeapStep.TheVariants as heap
 use Rattle.ref_base.specs.declared.reply.Reply.TheVariants as told
@@ -183,3 +186,43 @@ spends_it v w c d (heap.Adopt m s hold) reply takes acts called = grind arith
 spends_it v w c d (heap.Release hold) reply takes acts called =
     subst (λ (r : Reply). Called v (heap.Release hold) (replies.Told r) w) acts.gives called
 spends_it v w c d step reply takes acts called = absurd (false≢true takes)
+
+-- ---- a step by which nothing changes hands
+
+-- it is refused, or answered as such a step may be
+abbrev is_in_kind : PlainStep → Reply → Bool
+is_in_kind step reply = is_refusal reply || may_answer step reply
+
+refused_or_told : (refused : Option Fault) (step : PlainStep) (reply : Reply) → may_answer step reply ≡ true
+    → is_in_kind step (unless_refused refused told.Refused reply) ≡ true
+refused_or_told None step reply may = or_right (is_refusal reply) (may_answer step reply) may
+refused_or_told (Some fault) step reply may = refl
+
+found_in_kind : (found : Option ℕ) → tells_of_found (value_reply found) ≡ true
+found_in_kind None = refl
+found_in_kind (Some n) = refl
+
+module _ (c d : ClearHeap) where
+  -- a mutator's step is, since what it is answered is so
+  told_in_kind : (step : PlainStep) (reply : Reply) → Acts c (heap.Plain step) (replies.Told reply) d
+      → answer_in c (heap.Plain step) ≡ answer_in_cycle c.mark (heap.Plain step)
+      → may_answer step (reply_in c.mark (heap.Plain step)) ≡ true → is_in_kind step reply ≡ true
+  told_in_kind step reply acts own may =
+      subst (λ (r : Reply). is_in_kind step r ≡ true) (sym (acts.does.answer ∙ own))
+      (refused_or_told (refusal_in_cycle c.mark (heap.Plain step)) step (reply_in c.mark (heap.Plain step)) may)
+
+  pub answers_in_kind : (step : PlainStep) (reply : Reply) → Acts c (heap.Plain step) (replies.Told reply) d
+      → is_in_kind step reply ≡ true
+  answers_in_kind (plain.New m s n) reply acts = told_in_kind (plain.New m s n) reply acts refl refl
+  answers_in_kind (plain.Refer m strength s source q n) reply acts =
+      told_in_kind (plain.Refer m strength s source q n) reply acts refl refl
+  answers_in_kind (plain.Load m t s f) reply acts =
+      told_in_kind (plain.Load m t s f) reply acts refl (found_in_kind _)
+  answers_in_kind (plain.Copy m t s) reply acts =
+      told_in_kind (plain.Copy m t s) reply acts refl (found_in_kind _)
+  answers_in_kind (plain.Get m t s) reply acts = told_in_kind (plain.Get m t s) reply acts refl (found_in_kind _)
+  answers_in_kind (plain.Store m s f v) reply acts = told_in_kind (plain.Store m s f v) reply acts refl refl
+  answers_in_kind (plain.Drop m s) reply acts = told_in_kind (plain.Drop m s) reply acts refl refl
+  answers_in_kind (plain.Clear m s) reply acts = told_in_kind (plain.Clear m s) reply acts refl refl
+  answers_in_kind (plain.RefersTo m s o) reply acts = told_in_kind (plain.RefersTo m s o) reply acts refl refl
+  answers_in_kind step reply acts = or_right (is_refusal reply) true refl

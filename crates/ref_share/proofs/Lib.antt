@@ -38,6 +38,8 @@ pub mod Crossing
 mod HeapExamples
 mod QueueCallExamples
 mod DeliveryExamples
+mod CountedCycles
 mod CycleExamples
+mod UserExamples
 mod CleanerExamples
 mod ApartExamples

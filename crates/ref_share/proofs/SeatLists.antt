@@ -2,9 +2,15 @@
 use Rattle.ref_share.proofs.Common.{◌≡◌, ℕ, zero, suc, List, [], ◌∷◌, ◌++◌, length, get_or, Some, ◌⊎◌, inl, inr, refl}
 use Rattle.ref_share.proofs.Common.{sym, ap, subst, arith, slice_get, slice_get-get_or, slice_get_within, AreSeats}
 use Rattle.ref_share.proofs.Common.{new_queue, IsQueueTurn, IsQueueSeat, IsSeatFrom, QueueSeat, SharedQueue}
+use Rattle.std.proofs.Common.{take, drop}
+use Rattle.std.proofs.lemmas.Bool.Decides.{leb_tells}
+use Rattle.std.proofs.lemmas.Grind.{common_steps}
 use Rattle.std.proofs.lemmas.Option.{same_Some}
 use Rattle.ref_share.specs.Selves.{IsItself}
 use Rattle.ref_share.specs.QueueSeats.{IsNewQueue}
+use Rattle.ref_share.specs.Users.{AreNew, AtEachPlace, HasClosed}
+use Rattle.ref_share.proofs.Common.{◌<◌, ◌≤◌, ◌+◌, ◌∙◌, slice_set}
+use Rattle.ref_share.proofs.Places.{changed_there}
 
 -- what stands in a list with one more stood there before, or is that one
 at_last : {T : Type 0} (xs : List T) (x y : T) (k : ℕ) → slice_get (xs ++ x ∷ []) k ≡ Some y
@@ -35,6 +41,83 @@ only_one : {T : Type 0} (xs : List T) (x : T) → length xs ≡ 1 → xs ≡ get
 only_one [] x one = absurd (omega (arith, one))
 only_one (y ∷ []) x one = refl
 only_one (y ∷ z ∷ xs) x one = absurd (omega (arith, one))
+
+-- what is so at each place is so with one more, which is so to what stands at its place
+pub place_more : {S T : Type 0} (P : S → T → Type 0) (xs : List S) (ys : List T) (y : T) → AtEachPlace P xs ys
+    → ((x : S) → slice_get xs (length ys) ≡ Some x → P x y) → AtEachPlace P xs (ys ++ y ∷ [])
+place_more {S = S} {T = T} P xs ys y are own k x z found placed =
+    elim (at_last ys y z k placed) [
+      | inl before ↦ are k x z found before
+      | inr last ↦
+          subst (λ (t : T). P x t) last.1 (own x (subst (λ (i : ℕ). slice_get xs i ≡ Some x) last.0 found))
+    ]
+
+-- a change of a place adds none
+pub set_length : {T : Type 0} (xs : List T) (k : ℕ) (y : T) → length (slice_set xs k y) ≡ length xs
+set_length [] k y = refl
+set_length (x ∷ xs) zero y = refl
+set_length (x ∷ xs) (suc k) y = ap suc (set_length xs k y)
+
+-- what a list of as many is written over is that list
+pub written_over : {T : Type 0} (after items : List T) (count : ℕ) → count ≡ length items
+    → length after ≡ length items → take count (after ++ drop (length after) items) ≡ after
+written_over after items count all even = grind (arith, common_steps)
+
+-- one place is changed so, and what is there is so to itself
+pub place_changed : {T : Type 0} (P : T → T → Type 0) → ((x : T) → P x x) → (xs : List T) (k : ℕ) (x y : T)
+    → slice_get xs k ≡ Some x → P x y → AtEachPlace P xs (slice_set xs k y)
+place_changed {T = T} P same xs k x y there holds j a b found placed =
+    elim (changed_there xs k j y b placed) [
+      | inl here ↦
+          let is : x ≡ a =
+          same_Some x a (sym there ∙ subst (λ (i : ℕ). slice_get xs i ≡ Some a) here.0 found) in
+          subst (λ (t : T). P a t) (sym here.1) (subst (λ (t : T). P t y) is holds)
+      | inr before ↦ subst (λ (t : T). P a t) (same_Some a b (sym found ∙ before.1)) (same a)
+    ]
+
+-- what is so to the one is so to what is so to it, place by place
+pub each_then : {S T : Type 0} (P : S → T → Type 0) (Q : T → T → Type 0)
+    → ((x : S) (y z : T) → P x y → Q y z → P x z) → (xs : List S) (ys zs : List T) → length ys ≡ length xs
+    → AtEachPlace P xs ys → AtEachPlace Q ys zs → AtEachPlace P xs zs
+each_then {T = T} P Q goes xs ys zs even first second k x z found placed =
+    let y : T = get_or ys k z in
+    let there : slice_get ys k ≡ Some y =
+    slice_get-get_or ys k z (omega (arith, even, slice_get_within xs k x found)) in
+    goes x y z (first k x y found there) (second k y z there placed)
+
+-- the seats before a place have closed their queues, and the others are as they were
+abbrev pub AreClosedTo : ℕ → List QueueSeat → List QueueSeat → Type 0
+AreClosedTo n before now =
+    (k : ℕ) (s t : QueueSeat) → slice_get before k ≡ Some s → slice_get now k ≡ Some t
+    → (k < n → HasClosed s t) × (n ≤ k → t ≡ s)
+
+-- one more has
+pub one_more_closed : (n : ℕ) (before now : List QueueSeat) (s t : QueueSeat) → AreClosedTo n before now
+    → slice_get now n ≡ Some s → HasClosed s t → AreClosedTo (n + 1) before (slice_set now n t)
+one_more_closed n before now s t are there closed k a b found placed =
+    elim (changed_there now n k t b placed) [
+      | inl here ↦
+          let at : slice_get now k ≡ Some s = subst (λ (i : ℕ). slice_get now i ≡ Some s) (sym here.0) there in
+          let is : s ≡ a = (are k a s found at).1 (omega (arith, here.0)) in
+          let has : HasClosed a b =
+          subst (λ (z : QueueSeat). HasClosed a z) (sym here.1)
+          (subst (λ (z : QueueSeat). HasClosed z t) is closed) in
+          ((λ early. has), (λ late. absurd (omega (arith, late, here.0))))
+      | inr else ↦
+          let was = are k a b found else.1 in (
+            (λ early. elim (leb_tells n k) [
+              | inl least ↦ absurd (else.0 (omega (arith, early, least.1)))
+              | inr less ↦ was.0 less.1
+            ]),
+            (λ late. was.1 (omega (arith, late))),
+          )
+    ]
+
+-- in the end all have
+pub all_closed : (n : ℕ) (before now : List QueueSeat) → AreClosedTo n before now → length before ≤ n
+    → AtEachPlace HasClosed before now
+all_closed n before now are most k s t found placed =
+    (are k s t found placed).0 (omega (arith, most, slice_get_within before k s found))
 
 module _ {A : Type 0} where
   -- the first seat of a new queue is one of it
@@ -75,6 +158,25 @@ module _ {A : Type 0} where
           | inr end ↦
               subst (λ (s : QueueSeat). IsQueueSeat other s) end.1
               (subst (λ (q : SharedQueue A). IsQueueSeat q seat) last.1 own)
+        ]
+      ]
+
+  -- a new queue more, with its first seat
+  pub new_more : (queues : List (SharedQueue A)) (seats : List QueueSeat) (queue : SharedQueue A)
+      (seat : QueueSeat) → AreNew queues seats → length seats ≡ length queues
+      → IsNewQueue queue (length queues) 0 seat → AreNew (queues ++ queue ∷ []) (seats ++ seat ∷ [])
+  new_more queues seats queue seat are even own k other new found placed =
+      elim (at_last queues queue other k found) [
+        | inl there ↦ elim (at_last seats seat new k placed) [
+          | inl here ↦ are k other new there here
+          | inr last ↦ absurd (omega (arith, last.0, even, slice_get_within queues k other there))
+        ]
+        | inr last ↦ elim (at_last seats seat new k placed) [
+          | inl here ↦ absurd (omega (arith, last.0, even, slice_get_within seats k new here))
+          | inr end ↦
+              subst (λ (n : ℕ). IsNewQueue other n 0 new) (sym last.0)
+              (subst (λ (s : QueueSeat). IsNewQueue other (length queues) 0 s) end.1
+              (subst (λ (q : SharedQueue A). IsNewQueue q (length queues) 0 seat) last.1 own))
         ]
       ]
 

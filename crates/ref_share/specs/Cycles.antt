@@ -1,14 +1,16 @@
 -- What one thread calls in a whole cycle of the collector, from one call of its seats to the next, and where it stopped
 -- (a cycle begins, marks, clears and sweeps: JEP 333; the calls are this project's profile).
-use Rattle.std.specs.Prelude.{◌≡◌, ◌≢◌, ℕ, ◌⊎◌, Bool, true, false, List, [], Result, Ok, Err}
+use Rattle.std.specs.Prelude.{◌≡◌, ◌≢◌, ◌<◌, ℕ, zero, suc, ◌⊎◌, Bool, true, false, List, [], Result, Ok, Err}
 use Rattle.ref_base.specs.HeapSteps.{HeldNotice}
 use Rattle.ref_base.specs.declared.fault.Fault.{Fault}
-use Rattle.ref_base.specs.declared.fault.Fault.TheVariants.{GreyLeft, ClearingLeft, SweepLeft}
+use Rattle.ref_base.specs.declared.fault.Fault.TheVariants.{GreyLeft, ClearingLeft, SweepLeft, NoMemory}
 use Rattle.ref_base.specs.declared.plain_step.PlainStep.{PlainStep}
 use Rattle.ref_base.specs.declared.plain_step.PlainStep.TheVariants as plain
 use Rattle.ref_base.specs.declared.reply.Reply.{Reply}
 use Rattle.ref_base.specs.declared.reply.Reply.TheVariants as told
 use Rattle.ref_base.specs.declared.urgency.Urgency.{Urgency}
+use Rattle.ref_base.specs.declared.urgency.Urgency.TheVariants.{Normal}
+use Rattle.ref_share.specs.Answers.{fault_of}
 use Rattle.ref_share.specs.Deliveries.{DeliversAll}
 use Rattle.ref_share.specs.HeapCalls.{Accepted, Declined, Performs}
 use Rattle.ref_share.specs.HeapSeats.{HeapView}
@@ -91,3 +93,31 @@ module _ {A : Type 0} (queues : List (SharedQueue A)) (worker now : ℕ) (urgenc
       (Then (λ a answer b. DeliversAll worker queues a.0 a.1.0 answer b.1.1 b.0 b.1.0)
       (λ a answer b. GoesThrough (plain.Sweep worker) plain.EndSweep a.0 answer b.0 × (b.1 ≡ a.1)))
       (v, (seats, [])) result (w, (after, left))
+
+-- ---- cycle after cycle
+
+-- what is so to each number from 0 on below the count, one after the other
+abbrev pub CountedRepeats : {X : Type 0} → (ℕ → X → X → Type 0) → ℕ → X → X → Type 0
+CountedRepeats P zero x y = y ≡ x
+CountedRepeats {X = X} P (suc n) x z = (y : X) × CountedRepeats P n x y × P n y z
+
+module _ {A : Type 0} (queues : List (SharedQueue A)) (worker now : ℕ) (urgency : Urgency) where
+  -- a cycle, of which the notices that are left are given up; or there is no memory for a batch, and no call was made
+  abbrev pub CyclesAlone : HeapView → List QueueSeat → Result (Unit {0}) ShareFault → HeapView → List QueueSeat → Type 0
+  CyclesAlone v seats result w after =
+      ((left : List HeldNotice) × Cycles queues worker now urgency v seats result left w after)
+      ⊎ ((result ≡ Err (Refused NoMemory)) × (w ≡ v) × (after ≡ seats))
+
+module _ {A : Type 0} (queues : List (SharedQueue A)) (worker : ℕ) where
+  -- a cycle at this clock, which ends with the phase Idle
+  abbrev pub CyclesAt : ℕ → HeapView × List QueueSeat → HeapView × List QueueSeat → Type 0
+  CyclesAt now a b = CyclesAlone queues worker now Normal a.0 a.1 (Ok tt) b.0 b.1
+
+  -- Cycles, at the clocks 0, 1 and so on: one at least, each of which ended; or they stop with the fault of one more.
+  abbrev pub RunsCycles : HeapView → List QueueSeat → Result (Unit {0}) Fault → HeapView → List QueueSeat → Type 0
+  RunsCycles v seats (Ok done) w after =
+      (count : ℕ) × (0 < count) × CountedRepeats CyclesAt count (v, seats) (w, after)
+  RunsCycles v seats (Err fault) w after =
+      (count : ℕ) × (a : HeapView × List QueueSeat) × CountedRepeats CyclesAt count (v, seats) a
+      × ((why : ShareFault) × (fault ≡ fault_of why)
+      × CyclesAlone queues worker count Normal a.0 a.1 (Err why) w after)

@@ -6,6 +6,7 @@ use Rattle.ref_base.specs.declared.fault.Fault.TheVariants.{TurnsSpent}
 use Rattle.ref_base.specs.declared.heap_step.HeapStep.TheVariants as heap
 use Rattle.ref_base.specs.declared.heap_step.HoldName.{HoldName}
 use Rattle.ref_base.specs.declared.plain_step.PlainStep.{PlainStep}
+use Rattle.ref_base.specs.declared.plain_step.PlainStep.TheVariants as plain
 use Rattle.ref_base.specs.declared.reply.Reply.{Reply}
 use Rattle.ref_base.specs.declared.reply.Reply.TheVariants as told
 use Rattle.ref_base.specs.Told.{told_notices}
@@ -119,3 +120,48 @@ abbrev pub Spends : HeapView → NamedStep → Result (Unit {0}) (Fault × HoldN
 Spends v (heap.Adopt m d hold) result w = Adopts v m d hold result w
 Spends v (heap.Release hold) result w = Releases v hold result w
 Spends v step result w = ⊥
+
+-- ---- which replies a step may have, where it is not refused
+
+-- whether a slot then holds what is answered, an object or none
+abbrev pub fills_a_slot : PlainStep → Bool
+fills_a_slot (plain.Load m d s f) = true
+fills_a_slot (plain.Copy m d s) = true
+fills_a_slot (plain.Get m d s) = true
+fills_a_slot step = false
+
+-- whether it changes what is there, and tells nothing
+abbrev pub tells_nothing : PlainStep → Bool
+tells_nothing (plain.Store m s f v) = true
+tells_nothing (plain.Drop m s) = true
+tells_nothing (plain.Clear m s) = true
+tells_nothing step = false
+
+abbrev pub tells_of_object : Reply → Bool
+tells_of_object (told.Object n) = true
+tells_of_object reply = false
+
+abbrev pub tells_of_found : Reply → Bool
+tells_of_found told.Null = true
+tells_of_found reply = tells_of_object reply
+
+abbrev pub tells_done : Reply → Bool
+tells_done told.Done = true
+tells_done reply = false
+
+abbrev pub tells_of_comparison : Reply → Bool
+tells_of_comparison (told.Refers b) = true
+tells_of_comparison reply = false
+
+-- the replies to a mutator's steps; of the others nothing is said here
+abbrev pub may_answer : PlainStep → Reply → Bool
+may_answer (plain.New m s n) reply = tells_of_object reply
+may_answer (plain.Refer m strength s source q n) reply = tells_of_object reply
+may_answer (plain.Load m d s f) reply = tells_of_found reply
+may_answer (plain.Copy m d s) reply = tells_of_found reply
+may_answer (plain.Get m d s) reply = tells_of_found reply
+may_answer (plain.Store m s f v) reply = tells_done reply
+may_answer (plain.Drop m s) reply = tells_done reply
+may_answer (plain.Clear m s) reply = tells_done reply
+may_answer (plain.RefersTo m s o) reply = tells_of_comparison reply
+may_answer step reply = true

@@ -24,6 +24,7 @@ pub mod Answers
 pub mod ApartHistories
 pub mod CleanedHeaps
 pub mod QueuedCleaners
+pub mod Users
 pub mod Cleanings
 pub mod CleanLoops
 pub mod CleanHistories

@@ -82,6 +82,18 @@ impl From<Fault> for ShareFault {
     }
 }
 
+/// The fault to end with, as by `into_fault`, so that `?` passes it on: what came back is given up.
+impl From<ShareFault> for Fault {
+    ghost use Rattle.std.specs.Prelude.{◌≡◌};
+    ghost use Rattle.ref_share.specs.Answers.{fault_of};
+
+    ghost from_gives = { λ why fault. fault ≡ fault_of why };
+
+    fn from(why: ShareFault) -> Fault {
+        why.into_fault()
+    }
+}
+
 /// What became of a notice.
 #[derive(Clone, Copy, PartialEq, Eq)]
 pub enum Delivery {

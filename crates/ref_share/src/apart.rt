@@ -6,14 +6,13 @@ ghost use Rattle.ref_share.specs.Cleanings.{RegistersApart, HasMadeApart, HasNot
 ghost use Rattle.ref_share.specs.HeapSeats.{heap_view, IsHeapSeat};
 
 use crate::cleaning::{refer, take_back};
-use crate::{CleanSeat, Cleanable, HeapSeat, ShareFault, SharedCleaner, SharedHeap};
+use crate::{CleanSeat, Cleanable, HeapSeat, ShareFault, SharedCleaner, SharedHeap, Task};
 use ref_base::{MutNo, PlainStep, QueueNo, SlotNo};
 use ref_objects::Hold;
-use ref_queue::Job;
 use std::alloc::Allocator;
 use std::sync::Wait;
 
-impl<A: Allocator + Copy> SharedCleaner<A> {
+impl<J: Task, A: Allocator + Copy> SharedCleaner<J, A> {
     /// Registers a job for what the source slot holds, with a reference that is in no slot afterwards: the table's hold
     /// alone keeps it. So no slot names it that could be enqueued or cleared, and once it is registered nothing reports
     /// it but a cycle whose mark found the object dead. The job runs once, by `clean` or by a thread that cleans after
@@ -33,14 +32,14 @@ impl<A: Allocator + Copy> SharedCleaner<A> {
     pub fn register_apart<R: Wait>(
         &self,
         rt: &R,
-        seat: &mut CleanSeat<A>,
+        seat: &mut CleanSeat<J, A>,
         heap: &SharedHeap<A>,
         heap_seat: &mut HeapSeat<A>,
         mutator: MutNo,
         source: SlotNo,
         slot: SlotNo,
-        job: Job,
-    ) -> Result<Cleanable, (ShareFault, Job)>
+        job: J,
+    ) -> Result<Cleanable, (ShareFault, J)>
         requires seats { IsCleanSeat self.now seat.old × IsHeapSeat heap.now heap_seat.old }
         ensures seat { IsCleanSeat self.now seat.new }
         ensures heap_seat { IsHeapSeat heap.now heap_seat.new }

@@ -11,6 +11,7 @@ ghost use Rattle.ref_share.specs.declared.clean_loop.Polling.{Polling};
 
 use crate::{
     CleanSeat, HeapSeat, Polled, QueueSeat, ShareFault, SharedCleaner, SharedHeap, SharedQueue,
+    Task,
 };
 use ref_base::Parcel;
 use ref_clear::Notice;
@@ -27,6 +28,13 @@ pub trait Gate {
     fn after(&self, ran: Ran);
 }
 
+/// A gate that does nothing, for jobs that do themselves what is to be done.
+impl Gate for () {
+    fn before(&self, _number: u64) {}
+
+    fn after(&self, _ran: Ran) {}
+}
+
 // How the rounds ask for the next notice.
 #[derive(Clone, Copy)]
 enum Polling {
@@ -36,7 +44,7 @@ enum Polling {
     Once,
 }
 
-impl<A: Allocator + Copy> SharedCleaner<A> {
+impl<J: Task, A: Allocator + Copy> SharedCleaner<J, A> {
     /// Runs the jobs of what is gone, as their notices come, until the queue is closed: then it answers how many it
     /// ran. Any number of threads may do so at once; each job runs in one of them, outside every turn. As the thread of
     /// a `Cleaner` of Java SE 17.
@@ -51,7 +59,7 @@ impl<A: Allocator + Copy> SharedCleaner<A> {
     pub fn clean_loop<R: Wait, G: Gate>(
         &self,
         rt: &R,
-        seat: &mut CleanSeat<A>,
+        seat: &mut CleanSeat<J, A>,
         heap: &SharedHeap<A>,
         heap_seat: &mut HeapSeat<A>,
         queue: &SharedQueue<A>,
@@ -85,7 +93,7 @@ impl<A: Allocator + Copy> SharedCleaner<A> {
     pub fn clean_some<R: Wait, G: Gate>(
         &self,
         rt: &R,
-        seat: &mut CleanSeat<A>,
+        seat: &mut CleanSeat<J, A>,
         heap: &SharedHeap<A>,
         heap_seat: &mut HeapSeat<A>,
         queue: &SharedQueue<A>,
@@ -116,7 +124,7 @@ impl<A: Allocator + Copy> SharedCleaner<A> {
     fn rounds<R: Wait, G: Gate>(
         &self,
         rt: &R,
-        seat: &mut CleanSeat<A>,
+        seat: &mut CleanSeat<J, A>,
         heap: &SharedHeap<A>,
         heap_seat: &mut HeapSeat<A>,
         queue: &SharedQueue<A>,
@@ -152,7 +160,7 @@ impl<A: Allocator + Copy> SharedCleaner<A> {
     fn clean_dead<R: Wait, G: Gate>(
         &self,
         rt: &R,
-        seat: &mut CleanSeat<A>,
+        seat: &mut CleanSeat<J, A>,
         heap: &SharedHeap<A>,
         heap_seat: &mut HeapSeat<A>,
         notice: Notice,
@@ -184,7 +192,7 @@ impl<A: Allocator + Copy> SharedCleaner<A> {
     }
 
     // One more than a count of calls of this seat: there are no more of them than turns that have ended.
-    fn one_more(&self, seat: &mut CleanSeat<A>, count: u64) -> u64
+    fn one_more(&self, seat: &mut CleanSeat<J, A>, count: u64) -> u64
         requires seat { IsCleanSeat self.now seat.old }
         requires calls { count < length (clean_view seat.old).mine }
         ensures seat { IsCleanSeat self.now seat.new }

@@ -19,8 +19,8 @@ ghost use Rattle.ref_share.specs.WantsOfRoom.{DoesAfter};
 
 use crate::endings::end_both;
 use crate::{
-    CleanMachine, Cleanable, Cleaned, Gate, HeapSeat, QueueSeat, SeatFor, ShareFault, Shared,
-    SharedCleaner, SharedHeap, SharedQueue, cycle, end_queue, make_or_collect,
+    CleanSeat, Cleanable, Cleaned, Gate, HeapSeat, QueueSeat, ShareFault, SharedCleaner,
+    SharedHeap, SharedQueue, Task, cycle_one, end_queue, make_or_collect,
 };
 use ref_base::{
     Batch, Config, Fault, MutNo, PlainStep, QueueNo, Reply, SlotNo, Strength, Urgency, WorkerNo,
@@ -50,11 +50,11 @@ pub struct CleanedHeap<J = Job> {
     pub heap_seat: HeapSeat,
     pub(crate) queue: SharedQueue,
     pub(crate) queue_seat: QueueSeat,
-    pub(crate) cleaner: Shared<CleanMachine<Hold, J>>,
-    pub(crate) clean_seat: SeatFor<CleanMachine<Hold, J>>,
+    pub(crate) cleaner: SharedCleaner<J>,
+    pub(crate) clean_seat: CleanSeat<J>,
 }
 
-impl CleanedHeap<Job> {
+impl<J: Task> CleanedHeap<J> {
     /// A heap without objects, its number 0, with an empty queue and a cleaner without jobs. Tried in this order:
     /// `BadConfig`, `NoMemory`.
     pub fn new(alloc: Global, config: Config) -> Result<Self, Fault>
@@ -219,8 +219,8 @@ impl CleanedHeap<Job> {
         rt: &R,
         source: SlotNo,
         slot: SlotNo,
-        job: Job,
-    ) -> Result<Cleanable, (ShareFault, Job)>
+        job: J,
+    ) -> Result<Cleanable, (ShareFault, J)>
         requires { HasSeats self.old }
         ensures seats { HasSeats self.new }
         ensures registers { RegistersApart job (clean_view self.old.clean_seat) self.old.cleaner.frame 0 source slot
@@ -256,7 +256,7 @@ impl CleanedHeap<Job> {
             × (clean_view self.new.clean_seat ≡ clean_view self.old.clean_seat)
             × (heap_view self.new.heap_seat ≡ heap_view self.old.heap_seat) }
         ensures cleans { ¬ (IsOutside self.old.heap.frame.config 0 slot)
-            → CleansNow (λ job. record { number = job.number; answer = job.note }) cleanable.obj 0 slot
+            → CleansNow J.ran cleanable.obj 0 slot
             (heap_view self.old.heap_seat) (clean_view self.old.clean_seat) result (heap_view self.new.heap_seat)
             (clean_view self.new.clean_seat) }
     {
@@ -276,7 +276,7 @@ impl CleanedHeap<Job> {
         &mut self,
         rt: &R,
         cleanable: Cleanable,
-    ) -> Result<Option<(Job, Option<Hold>)>, ShareFault>
+    ) -> Result<Option<(J, Option<Hold>)>, ShareFault>
         requires { HasSeats self.old }
         ensures seats { HasSeats self.new }
         ensures others { self.new
@@ -331,14 +331,12 @@ impl CleanedHeap<Job> {
           queue_seat = self.new.queue_seat;
         } }
     {
-        let queues = slice::from_ref(&self.queue);
-        let seats = slice::from_mut(&mut self.queue_seat);
-        cycle(
+        cycle_one(
             rt,
             &self.heap,
             &mut self.heap_seat,
-            queues,
-            seats,
+            &self.queue,
+            &mut self.queue_seat,
             WORKER,
             now,
             urgency,
@@ -369,10 +367,12 @@ impl CleanedHeap<Job> {
             gate,
         )
     }
+}
 
-    /// Ends all of it: notices that stand are given up, and jobs that are still registered are run. How many notices
-    /// that were. Takes no memory but what the jobs take.
-    pub fn end(self) -> usize
+impl CleanedHeap<Job> {
+    /// Ends all of it: notices that stand are given up, and jobs that are still registered are run, each between the
+    /// gate's two calls. How many notices that were. Takes no memory but what the jobs take.
+    pub fn end<G: Gate>(self, gate: &G) -> usize
         requires { HasSeats self }
         ensures { IsEnded (λ job. (answer : ℕ)
             × ⟦<Box<dyn FnOnce(u64) -> u64 + Send> as FnOnce(u64) -> u64>⟧.post job.action job.number answer) self result }
@@ -385,6 +385,6 @@ impl CleanedHeap<Job> {
             cleaner,
             clean_seat,
         } = self;
-        end_both(queue, queue_seat, cleaner, clean_seat)
+        end_both(queue, queue_seat, cleaner, clean_seat, gate)
     }
 }

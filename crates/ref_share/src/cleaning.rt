@@ -11,16 +11,15 @@ ghost use Rattle.ref_share.specs.HeapSeats.{heap_view, IsHeapSeat};
 
 use crate::{
     CleanReply, CleanSeat, CleanStep, Cleanable, Cleaned, HeapSeat, ShareFault, SharedCleaner,
-    SharedHeap,
+    SharedHeap, Task,
 };
 use ref_base::{Fault, MutNo, ObjNo, PlainStep, QueueNo, SLOTS, SlotNo, Strength};
 use ref_objects::Hold;
-use ref_queue::Job;
 use ref_turn::TurnFault;
 use std::alloc::Allocator;
 use std::sync::Wait;
 
-impl<A: Allocator + Copy> SharedCleaner<A> {
+impl<J: Task, A: Allocator + Copy> SharedCleaner<J, A> {
     /// Registers a job for what the source slot holds: a phantom reference to it, with the cleaner's queue, is made in
     /// `slot`, and job and a hold of that reference go into the table. The job runs once, by `clean` or by a thread in
     /// `clean_loop` after the object became phantom reachable. As `Cleaner.register` of Java SE 17.
@@ -38,14 +37,14 @@ impl<A: Allocator + Copy> SharedCleaner<A> {
     pub fn register<R: Wait>(
         &self,
         rt: &R,
-        seat: &mut CleanSeat<A>,
+        seat: &mut CleanSeat<J, A>,
         heap: &SharedHeap<A>,
         heap_seat: &mut HeapSeat<A>,
         mutator: MutNo,
         source: SlotNo,
         slot: SlotNo,
-        job: Job,
-    ) -> Result<Cleanable, (ShareFault, Job)>
+        job: J,
+    ) -> Result<Cleanable, (ShareFault, J)>
         requires seats { IsCleanSeat self.now seat.old × IsHeapSeat heap.now heap_seat.old }
         ensures seat { IsCleanSeat self.now seat.new }
         ensures heap_seat { IsHeapSeat heap.now heap_seat.new }
@@ -70,7 +69,7 @@ impl<A: Allocator + Copy> SharedCleaner<A> {
     pub fn clean<R: Wait>(
         &self,
         rt: &R,
-        seat: &mut CleanSeat<A>,
+        seat: &mut CleanSeat<J, A>,
         heap: &SharedHeap<A>,
         heap_seat: &mut HeapSeat<A>,
         mutator: MutNo,
@@ -83,7 +82,7 @@ impl<A: Allocator + Copy> SharedCleaner<A> {
         ensures outside { IsOutside heap.now.frame.config mutator slot → (result ≡ Err (Refused NoSuchActor))
             × (clean_view seat.new ≡ clean_view seat.old) × (heap_view heap_seat.new ≡ heap_view heap_seat.old) }
         ensures cleans { ¬ (IsOutside heap.now.frame.config mutator slot)
-            → CleansNow (λ job. record { number = job.number; answer = job.note }) cleanable.obj mutator slot
+            → CleansNow J.ran cleanable.obj mutator slot
             (heap_view heap_seat.old) (clean_view seat.old) result (heap_view heap_seat.new) (clean_view seat.new) }
     {
         if mutator.0 >= heap.config().mutators || slot.0 as usize >= SLOTS {
@@ -108,11 +107,11 @@ impl<A: Allocator + Copy> SharedCleaner<A> {
     pub fn unregister<R: Wait>(
         &self,
         rt: &R,
-        seat: &mut CleanSeat<A>,
+        seat: &mut CleanSeat<J, A>,
         heap: &SharedHeap<A>,
         heap_seat: &mut HeapSeat<A>,
         cleanable: Cleanable,
-    ) -> Result<Option<(Job, Option<Hold>)>, ShareFault>
+    ) -> Result<Option<(J, Option<Hold>)>, ShareFault>
         requires { IsCleanSeat self.now seat.old × IsHeapSeat heap.now heap_seat.old }
         ensures seat { IsCleanSeat self.now seat.new }
         ensures heap_seat { IsHeapSeat heap.now heap_seat.new }
@@ -135,7 +134,7 @@ impl<A: Allocator + Copy> SharedCleaner<A> {
     pub fn is_registered<R: Wait>(
         &self,
         rt: &R,
-        seat: &mut CleanSeat<A>,
+        seat: &mut CleanSeat<J, A>,
         cleanable: Cleanable,
     ) -> Result<bool, ShareFault>
         requires { IsCleanSeat self.now seat.old }
@@ -154,12 +153,12 @@ impl<A: Allocator + Copy> SharedCleaner<A> {
     pub(crate) fn keep<R: Wait>(
         &self,
         rt: &R,
-        seat: &mut CleanSeat<A>,
+        seat: &mut CleanSeat<J, A>,
         heap: &SharedHeap<A>,
         heap_seat: &mut HeapSeat<A>,
         hold: Hold,
-        job: Job,
-    ) -> Result<Cleanable, (ShareFault, Job)>
+        job: J,
+    ) -> Result<Cleanable, (ShareFault, J)>
         requires { IsCleanSeat self.now seat.old × IsHeapSeat heap.now heap_seat.old }
         ensures seat { IsCleanSeat self.now seat.new }
         ensures heap_seat { IsHeapSeat heap.now heap_seat.new }
@@ -179,10 +178,10 @@ impl<A: Allocator + Copy> SharedCleaner<A> {
     fn enter<R: Wait>(
         &self,
         rt: &R,
-        seat: &mut CleanSeat<A>,
+        seat: &mut CleanSeat<J, A>,
         hold: Hold,
-        job: Job,
-    ) -> Result<(), (Fault, Hold, Job)>
+        job: J,
+    ) -> Result<(), (Fault, Hold, J)>
         requires { IsCleanSeat self.now seat.old }
         ensures seat { IsCleanSeat self.now seat.new }
         ensures enters { EntersOnce job (clean_view seat.old) hold result (clean_view seat.new) }
@@ -200,9 +199,9 @@ impl<A: Allocator + Copy> SharedCleaner<A> {
     pub(crate) fn take<R: Wait>(
         &self,
         rt: &R,
-        seat: &mut CleanSeat<A>,
+        seat: &mut CleanSeat<J, A>,
         object: ObjNo,
-    ) -> Result<Option<(Hold, Job)>, ShareFault>
+    ) -> Result<Option<(Hold, J)>, ShareFault>
         requires { IsCleanSeat self.now seat.old }
         ensures seat { IsCleanSeat self.now seat.new }
         ensures takes { TakesOnce (clean_view seat.old) object result (clean_view seat.new) }
@@ -217,7 +216,7 @@ impl<A: Allocator + Copy> SharedCleaner<A> {
 }
 
 // Why a step of a table was not made: no turn is left for it.
-fn without_turn(step: CleanStep<Hold, Job>) -> ShareFault
+fn without_turn<J: Task>(step: CleanStep<Hold, J>) -> ShareFault
     ensures { IsWithoutTurn step result }
 {
     match step {

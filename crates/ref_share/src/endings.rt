@@ -8,7 +8,7 @@ ghost use Rattle.ref_share.specs.CleanSeats.{IsCleanSeat};
 ghost use Rattle.ref_share.specs.CleanedHeaps.{AreEnded};
 ghost use Rattle.ref_share.specs.QueueSeats.{IsQueueSeat};
 
-use crate::{CleanSeat, QueueSeat, SharedCleaner, SharedQueue};
+use crate::{CleanSeat, Gate, QueueSeat, SharedCleaner, SharedQueue, Task};
 use ref_base::Batch;
 use ref_clear::Notice;
 use ref_objects::Hold;
@@ -49,24 +49,25 @@ pub fn end_batch<A: Allocator>(batch: Batch<Notice, A>) -> usize
     count
 }
 
-/// Ends what `SharedCleaner::finish` gave. Each job that is still registered is run, in no order, and the hold of its
-/// reference is given up, as by `end_queue`. Takes no memory but what the jobs take.
-pub fn run_jobs_left<A: Allocator + Copy>(
+/// Ends what `SharedCleaner::finish` gave. Each job that is still registered is run, in no order, between the gate's
+/// two calls, and the hold of its reference is given up, as by `end_queue`. Takes no memory but what the jobs take.
+pub fn run_jobs_left<A: Allocator + Copy, G: Gate>(
     finished: Result<CleanTable<Hold, Job, A>, Option<CleanTable<Hold, Job, A>>>,
+    gate: &G,
 )
     ensures { (n : ℕ) (hold : HoldName) (job : _) → job_left_in (found finished) n ≡ Some (hold, job)
         → (answer : ℕ)
         × ⟦<Box<dyn FnOnce(u64) -> u64 + Send> as FnOnce(u64) -> u64>⟧.post job.action job.number answer }
 {
     match finished {
-        Ok(table) => run_all(table),
-        Err(Some(table)) => run_all(table),
+        Ok(table) => run_all(table, gate),
+        Err(Some(table)) => run_all(table, gate),
         Err(None) => {}
     }
 }
 
 // Runs each job of the table, and ends it. That a job was run is told by what its action answered.
-fn run_all<A: Allocator + Copy>(table: CleanTable<Hold, Job, A>)
+fn run_all<A: Allocator + Copy, G: Gate>(table: CleanTable<Hold, Job, A>, gate: &G)
     ensures { (n : ℕ) (hold : HoldName) (job : _) → job_of table n ≡ Some (hold, job)
         → (answer : ℕ)
         × ⟦<Box<dyn FnOnce(u64) -> u64 + Send> as FnOnce(u64) -> u64>⟧.post job.action job.number answer }
@@ -74,18 +75,49 @@ fn run_all<A: Allocator + Copy>(table: CleanTable<Hold, Job, A>)
     let mut table = table;
     while let Some((_, hold, job)) = table.take_any() {
         hold.leak();
-        job.run();
+        gate.before(job.number());
+        gate.after(job.run());
+    }
+    end_empty(table);
+}
+
+/// Ends what `SharedCleaner::finish` gave, as `run_jobs_left`, for tasks of any type: each that is still registered is
+/// run, in no order, between the gate's two calls.
+pub fn run_tasks_left<J: Task, A: Allocator + Copy, G: Gate>(
+    finished: Result<CleanTable<Hold, J, A>, Option<CleanTable<Hold, J, A>>>,
+    gate: &G,
+)
+    ensures { (n : ℕ) (hold : HoldName) (task : _) → job_left_in (found finished) n ≡ Some (hold, task)
+        → J.was_run task }
+{
+    match finished {
+        Ok(table) => run_all_tasks(table, gate),
+        Err(Some(table)) => run_all_tasks(table, gate),
+        Err(None) => {}
+    }
+}
+
+// Runs each task of the table, and ends it.
+fn run_all_tasks<J: Task, A: Allocator + Copy, G: Gate>(table: CleanTable<Hold, J, A>, gate: &G)
+    ensures { (n : ℕ) (hold : HoldName) (task : _) → job_of table n ≡ Some (hold, task) → J.was_run task }
+{
+    let mut table = table;
+    while let Some((_, hold, task)) = table.take_any() {
+        hold.leak();
+        gate.before(task.number());
+        gate.after(task.run());
     }
     end_empty(table);
 }
 
 // Ends a queue, and the cleaner that it tells: notices that stand are given up, and jobs that are still registered are
 // run. How many notices that were.
-pub(crate) fn end_both<A: Allocator + Copy>(
+pub(crate) fn end_both<A: Allocator + Copy, G: Gate>(
     queue: SharedQueue<A>,
     queue_seat: QueueSeat<A>,
-    cleaner: SharedCleaner<A>,
-    clean_seat: CleanSeat<A>,
+    cleaner: SharedCleaner<Job, A>,
+    clean_seat: CleanSeat<Job, A>,
+    gate: &G,
 ) -> usize
     requires { IsQueueSeat queue queue_seat × IsCleanSeat cleaner clean_seat }
     ensures { AreEnded (λ job. (answer : ℕ)
@@ -93,12 +125,12 @@ pub(crate) fn end_both<A: Allocator + Copy>(
         queue queue_seat clean_seat result }
 {
     let notices = end_queue(queue.finish(queue_seat));
-    run_jobs_left(cleaner.finish(clean_seat));
+    run_jobs_left(cleaner.finish(clean_seat), gate);
     notices
 }
 
 // Ends a table where nothing is registered.
-pub(crate) fn end_empty<A: Allocator + Copy>(table: CleanTable<Hold, Job, A>)
+pub(crate) fn end_empty<J: Task, A: Allocator + Copy>(table: CleanTable<Hold, J, A>)
     requires { table.jobs ≡ [] }
 {
     match table.end() {

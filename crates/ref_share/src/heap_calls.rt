@@ -1,12 +1,12 @@
 //! Calls of a shared heap by what they answer.
 
-ghost use Rattle.std.specs.Prelude.{◌≡◌, true, false, Ok, Err, IfOk, IfErr};
+ghost use Rattle.std.specs.Prelude.{◌≡◌, ◌||◌, true, false, Ok, Err, IfOk, IfErr};
 ghost use Rattle.ref_base.specs.declared.fault.Fault.TheVariants.{TurnsSpent};
 ghost use Rattle.ref_base.specs.declared.heap_step.HeapStep.TheVariants as steps;
 ghost use Rattle.ref_share.specs.HeapSeats.{heap_view, IsHeapSeat};
 ghost use Rattle.ref_share.specs.HeapCalls.{AsksHeap, Performs, HoldsSlot, asks_for_a_notice};
 ghost use Rattle.ref_share.specs.HeapCalls.{GivesNotice, TellsOfNone, takes_a_hold, Spends, Adopts, Releases};
-ghost use Rattle.ref_share.specs.HeapCalls.{GivesBatch, takes_along};
+ghost use Rattle.ref_share.specs.HeapCalls.{GivesBatch, takes_along, is_refusal, may_answer};
 ghost use Rattle.ref_share.specs.HeapMachines.{Acts};
 ghost use Rattle.ref_share.specs.SeatCalls.{Called, RanOut};
 ghost use Rattle.ref_clear.specs.ClearHeaps.{ClearHeap};
@@ -215,8 +215,8 @@ impl<A: Allocator + Copy> SharedHeap<A> {
     }
 
     /// Does a step by which neither a hold nor a notice changes hands, once the turn is free. The reply is
-    /// `Reply::Refused` where the heap refuses it. The one error is `TurnsSpent`, where no turn is left; then the heap
-    /// is as before. Takes no memory.
+    /// `Reply::Refused` where the heap refuses it, and else one that such a step may have. The one error is
+    /// `TurnsSpent`, where no turn is left; then the heap is as before. Takes no memory.
     #[inline(always)]
     pub fn ask<R: Wait>(
         &self,
@@ -227,6 +227,7 @@ impl<A: Allocator + Copy> SharedHeap<A> {
         requires { IsHeapSeat self.now seat.old }
         ensures seat { IsHeapSeat self.now seat.new }
         ensures asks { AsksHeap (heap_view seat.old) step result (heap_view seat.new) }
+        ensures kind { IfOk result (λ reply. (is_refusal reply || may_answer step reply) ≡ true) }
     {
         match self.without_hold(rt, seat, HeapStep::Plain(step)) {
             Ok(HeapReply::Told(reply)) => Ok(reply.reply()),
@@ -245,6 +246,7 @@ impl<A: Allocator + Copy> SharedHeap<A> {
         requires { IsHeapSeat self.now seat.old }
         ensures seat { IsHeapSeat self.now seat.new }
         ensures performs { Performs (heap_view seat.old) step result (heap_view seat.new) }
+        ensures kind { IfOk result (λ reply. may_answer step reply ≡ true) }
     {
         match self.ask(rt, seat, step) {
             Ok(Reply::Refused(fault)) => Err(fault),

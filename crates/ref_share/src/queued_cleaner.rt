@@ -16,8 +16,8 @@ ghost use Rattle.ref_share.specs.declared.answers.ShareFault.TheVariants.{Refuse
 
 use crate::endings::end_both;
 use crate::{
-    CleanMachine, Cleanable, Cleaned, Gate, HeapSeat, QueueSeat, SeatFor, ShareFault, Shared,
-    SharedCleaner, SharedHeap, SharedQueue, cycle, deliver_all, end_queue,
+    CleanSeat, Cleanable, Cleaned, Gate, HeapSeat, QueueSeat, ShareFault, SharedCleaner,
+    SharedHeap, SharedQueue, Task, cycle_one, deliver_all, end_queue,
 };
 use ref_base::{Batch, Fault, MutNo, QueueNo, SlotNo, Urgency, WorkerNo};
 use ref_clear::Notice;
@@ -33,21 +33,21 @@ const QUEUE: QueueNo = QueueNo(0);
 /// queue is its own, so that no call polls it but the cleaner's, and no notice is lost to another. It must be ended by
 /// `end`, since the holds in queue and cleaner must be given up.
 pub struct QueuedCleaner<J = Job> {
-    pub(crate) cleaner: Shared<CleanMachine<Hold, J>>,
+    pub(crate) cleaner: SharedCleaner<J>,
     pub(crate) queue: SharedQueue,
 }
 
 /// What one thread uses it with.
 #[derive(Drop)]
 pub struct QueuedSeat<J = Job> {
-    pub(crate) clean: SeatFor<CleanMachine<Hold, J>>,
+    pub(crate) clean: CleanSeat<J>,
     pub(crate) queue: QueueSeat,
 }
 
-impl QueuedCleaner<Job> {
+impl<J: Task> QueuedCleaner<J> {
     /// A cleaner without jobs, with an empty queue of the number 0, and their first seat. The one refusal is
     /// `NoMemory`.
-    pub fn new(alloc: Global) -> Result<(Self, QueuedSeat), Fault>
+    pub fn new(alloc: Global) -> Result<(Self, QueuedSeat<J>), Fault>
         ensures made { IfOk result (λ made. IsNewQueuedCleaner made.0 made.1) }
         ensures seat { IfOk result (λ made. IsQueuedSeat made.0 made.1) }
         ensures err { OnErr result (result ≡ Err NoMemory) }
@@ -69,7 +69,7 @@ impl QueuedCleaner<Job> {
     }
 
     /// A seat for one thread more. It has seen what this one has.
-    pub fn split(&self, seat: &mut QueuedSeat) -> QueuedSeat
+    pub fn split(&self, seat: &mut QueuedSeat<J>) -> QueuedSeat<J>
         requires { IsQueuedSeat self.now seat.old }
         ensures seat { IsQueuedSeat self.now seat.new × IsQueuedSeat self.now result }
         ensures same { (clean_view seat.new.clean ≡ clean_view seat.old.clean)
@@ -83,7 +83,7 @@ impl QueuedCleaner<Job> {
     }
 
     /// Takes a seat in: this one has then seen what either had.
-    pub fn join(&self, seat: &mut QueuedSeat, other: QueuedSeat)
+    pub fn join(&self, seat: &mut QueuedSeat<J>, other: QueuedSeat<J>)
         requires { IsQueuedSeat self.now seat.old × IsQueuedSeat self.now other }
         ensures seat { IsQueuedSeat self.now seat.new }
         ensures joined { TookInBoth seat.old other seat.new }
@@ -99,14 +99,14 @@ impl QueuedCleaner<Job> {
     pub fn register<R: Wait>(
         &self,
         rt: &R,
-        seat: &mut QueuedSeat,
+        seat: &mut QueuedSeat<J>,
         heap: &SharedHeap,
         heap_seat: &mut HeapSeat,
         mutator: MutNo,
         source: SlotNo,
         slot: SlotNo,
-        job: Job,
-    ) -> Result<Cleanable, (ShareFault, Job)>
+        job: J,
+    ) -> Result<Cleanable, (ShareFault, J)>
         requires { IsQueuedSeat self.now seat.old × IsHeapSeat heap.now heap_seat.old }
         ensures seats { IsQueuedSeat self.now seat.new × IsHeapSeat heap.now heap_seat.new }
         ensures registers { RegistersApart job (clean_view seat.old.clean) self.now.cleaner.frame mutator source slot
@@ -123,7 +123,7 @@ impl QueuedCleaner<Job> {
     pub fn clean<R: Wait>(
         &self,
         rt: &R,
-        seat: &mut QueuedSeat,
+        seat: &mut QueuedSeat<J>,
         heap: &SharedHeap,
         heap_seat: &mut HeapSeat,
         mutator: MutNo,
@@ -137,7 +137,7 @@ impl QueuedCleaner<Job> {
             × (clean_view seat.new.clean ≡ clean_view seat.old.clean)
             × (heap_view heap_seat.new ≡ heap_view heap_seat.old) }
         ensures cleans { ¬ (IsOutside heap.now.frame.config mutator slot)
-            → CleansNow (λ job. record { number = job.number; answer = job.note }) cleanable.obj mutator slot
+            → CleansNow J.ran cleanable.obj mutator slot
             (heap_view heap_seat.old) (clean_view seat.old.clean) result (heap_view heap_seat.new)
             (clean_view seat.new.clean) }
     {
@@ -151,11 +151,11 @@ impl QueuedCleaner<Job> {
     pub fn unregister<R: Wait>(
         &self,
         rt: &R,
-        seat: &mut QueuedSeat,
+        seat: &mut QueuedSeat<J>,
         heap: &SharedHeap,
         heap_seat: &mut HeapSeat,
         cleanable: Cleanable,
-    ) -> Result<Option<(Job, Option<Hold>)>, ShareFault>
+    ) -> Result<Option<(J, Option<Hold>)>, ShareFault>
         requires { IsQueuedSeat self.now seat.old × IsHeapSeat heap.now heap_seat.old }
         ensures seats { IsQueuedSeat self.now seat.new × IsHeapSeat heap.now heap_seat.new }
         ensures others { seat.new ≡ record seat.old { clean = seat.new.clean } }
@@ -170,7 +170,7 @@ impl QueuedCleaner<Job> {
     pub fn is_registered<R: Wait>(
         &self,
         rt: &R,
-        seat: &mut QueuedSeat,
+        seat: &mut QueuedSeat<J>,
         cleanable: Cleanable,
     ) -> Result<bool, ShareFault>
         requires { IsQueuedSeat self.now seat.old }
@@ -186,7 +186,7 @@ impl QueuedCleaner<Job> {
     pub fn clean_loop<R: Wait, G: Gate>(
         &self,
         rt: &R,
-        seat: &mut QueuedSeat,
+        seat: &mut QueuedSeat<J>,
         heap: &SharedHeap,
         heap_seat: &mut HeapSeat,
         gate: &G,
@@ -205,7 +205,7 @@ impl QueuedCleaner<Job> {
     pub fn clean_some<R: Wait, G: Gate>(
         &self,
         rt: &R,
-        seat: &mut QueuedSeat,
+        seat: &mut QueuedSeat<J>,
         heap: &SharedHeap,
         heap_seat: &mut HeapSeat,
         gate: &G,
@@ -227,7 +227,7 @@ impl QueuedCleaner<Job> {
     pub fn cycle<R: Wait>(
         &self,
         rt: &R,
-        seat: &mut QueuedSeat,
+        seat: &mut QueuedSeat<J>,
         heap: &SharedHeap,
         heap_seat: &mut HeapSeat,
         worker: WorkerNo,
@@ -243,10 +243,17 @@ impl QueuedCleaner<Job> {
         ensures empty { IfOk result.0 (λ _. result.1 ≡ []) }
         ensures others { seat.new ≡ record seat.old { queue = seat.new.queue } }
     {
-        let queues = slice::from_ref(&self.queue);
-        let seats = slice::from_mut(&mut seat.queue);
-        cycle(
-            rt, heap, heap_seat, queues, seats, worker, now, urgency, batch,
+        let queue_seat = &mut seat.queue;
+        cycle_one(
+            rt,
+            heap,
+            heap_seat,
+            &self.queue,
+            queue_seat,
+            worker,
+            now,
+            urgency,
+            batch,
         )
     }
 
@@ -255,7 +262,7 @@ impl QueuedCleaner<Job> {
     pub fn deliver_all<R: Wait>(
         &self,
         rt: &R,
-        seat: &mut QueuedSeat,
+        seat: &mut QueuedSeat<J>,
         heap: &SharedHeap,
         heap_seat: &mut HeapSeat,
         worker: WorkerNo,
@@ -276,7 +283,7 @@ impl QueuedCleaner<Job> {
 
     /// Closes the queue: each `clean_loop` returns once nothing stands in it. True where it was open. As
     /// `SharedQueue::close`.
-    pub fn close<R: Wait>(&self, rt: &R, seat: &mut QueuedSeat) -> Result<bool, ShareFault>
+    pub fn close<R: Wait>(&self, rt: &R, seat: &mut QueuedSeat<J>) -> Result<bool, ShareFault>
         requires { IsQueuedSeat self.now seat.old }
         ensures seat { IsQueuedSeat self.now seat.new }
         ensures closes { ClosesQueue (queue_view seat.old.queue) result (queue_view seat.new.queue) }
@@ -284,10 +291,12 @@ impl QueuedCleaner<Job> {
     {
         self.queue.close(rt, &mut seat.queue)
     }
+}
 
-    /// Ends it: notices that stand are given up, and jobs that are still registered are run. How many notices that
-    /// were. Takes no memory but what the jobs take.
-    pub fn end(self, seat: QueuedSeat) -> usize
+impl QueuedCleaner<Job> {
+    /// Ends it: notices that stand are given up, and jobs that are still registered are run, each between the gate's
+    /// two calls. How many notices that were. Takes no memory but what the jobs take.
+    pub fn end<G: Gate>(self, seat: QueuedSeat, gate: &G) -> usize
         requires { IsQueuedSeat self seat }
         ensures { AreEnded (λ job. (answer : ℕ)
             × ⟦<Box<dyn FnOnce(u64) -> u64 + Send> as FnOnce(u64) -> u64>⟧.post job.action job.number answer)
@@ -298,6 +307,6 @@ impl QueuedCleaner<Job> {
             clean,
             queue: queue_seat,
         } = seat;
-        end_both(queue, queue_seat, cleaner, clean)
+        end_both(queue, queue_seat, cleaner, clean, gate)
     }
 }

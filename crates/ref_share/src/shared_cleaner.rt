@@ -8,27 +8,27 @@ ghost use Rattle.ref_share.specs.Selves.{IsItself};
 ghost use Rattle.ref_turn.specs.Seats.{IsLeftOpen};
 
 use crate::endings::end_empty;
-use crate::{CleanMachine, SeatFor, Shared};
+use crate::{CleanMachine, SeatFor, Shared, Task};
 use ref_base::{Fault, QueueNo};
 use ref_objects::Hold;
 use ref_queue::{CleanTable, Job};
 use ref_turn::Turn;
 use std::alloc::{Allocator, Global};
 
-/// A cleaner that threads share: the jobs that are registered, each to run once its object is gone. It has one queue of
-/// its heap, whose notices tell which that are. It must be ended by `finish`, since the holds that it keeps must be
-/// given back.
+/// A cleaner that threads share: the jobs that are registered, each to run once its object is gone. A job is any
+/// `Task`. A cleaner has one queue of its heap, whose notices tell which objects that are. It must be ended by
+/// `finish`, since the holds that it keeps must be given back.
 ///
 /// As `java.lang.ref.Cleaner` of Java SE 17; but its threads are the program's own, each in a `clean_loop`.
-pub type SharedCleaner<A = Global> = Shared<CleanMachine<Hold, Job, A>, A>;
+pub type SharedCleaner<J = Job, A = Global> = Shared<CleanMachine<Hold, J, A>, A>;
 
 /// What one thread uses a shared cleaner with.
-pub type CleanSeat<A = Global> = SeatFor<CleanMachine<Hold, Job, A>>;
+pub type CleanSeat<J = Job, A = Global> = SeatFor<CleanMachine<Hold, J, A>>;
 
-impl<A: Allocator + Copy> SharedCleaner<A> {
+impl<J: Task, A: Allocator + Copy> SharedCleaner<J, A> {
     /// A cleaner that is told by this queue which objects are gone, without jobs, and its first seat. The one refusal
     /// is `NoMemory`.
-    pub fn new(alloc: A, queue: QueueNo) -> Result<(Self, CleanSeat<A>), Fault>
+    pub fn new(alloc: A, queue: QueueNo) -> Result<(Self, CleanSeat<J, A>), Fault>
         ensures made { IfOk result (λ made. (made.0.frame ≡ queue) × IsFirstCleanSeat made.0 0 made.1) }
         ensures err { OnErr result (result ≡ Err NoMemory) }
     {
@@ -36,7 +36,7 @@ impl<A: Allocator + Copy> SharedCleaner<A> {
     }
 
     /// A cleaner as `new` makes it, whose turns are counted from `first` on: `u64::MAX - first` of them can be made.
-    pub fn starting(alloc: A, queue: QueueNo, first: u64) -> Result<(Self, CleanSeat<A>), Fault>
+    pub fn starting(alloc: A, queue: QueueNo, first: u64) -> Result<(Self, CleanSeat<J, A>), Fault>
         ensures made { IfOk result (λ made. (made.0.frame ≡ queue) × IsFirstCleanSeat made.0 first made.1) }
         ensures err { OnErr result (result ≡ Err NoMemory) }
     {
@@ -66,8 +66,8 @@ impl<A: Allocator + Copy> SharedCleaner<A> {
     /// in a call, what the slot of the turn held comes back.
     pub fn finish(
         self,
-        seat: CleanSeat<A>,
-    ) -> Result<CleanTable<Hold, Job, A>, Option<CleanTable<Hold, Job, A>>>
+        seat: CleanSeat<J, A>,
+    ) -> Result<CleanTable<Hold, J, A>, Option<CleanTable<Hold, J, A>>>
         requires { IsCleanSeat self seat }
         ensures ok { IfOk result (λ table. LeavesTable (clean_view seat) table) }
         ensures err { IfErr result (λ _. IsLeftOpen IsItself IsCleanTurn (clean_view seat)) }

@@ -110,7 +110,7 @@ impl Cleaning {
         } = self;
         let CleaningSeats { heap: _seat, clean } = seats;
         let fates = outcomes.fates(alloc);
-        let _notices = cleaner.end(clean);
+        let _notices = cleaner.end(clean, &());
         fates.map_err(|_| Fault::NoMemory)
     }
 }

@@ -5,17 +5,12 @@
 //! tells the program itself what it lost. It prints the same in every run.
 
 ghost use Rattle.std.specs.Prelude.{◌≡◌};
-ghost use Rattle.thread_examples.specs.QueuePairs.{AreTwo};
-ghost use Rattle.thread_examples.specs.Users.{IsUser, IsCollector};
-ghost use Rattle.ref_share.specs.CleanSeats.{IsCleanSeat};
-ghost use Rattle.ref_share.specs.QueueSeats.{IsQueueSeat};
 
-use crate::runtime::{Collector, HeapUser, Queues};
 use pool::{BUFFERS, Buffer, count_free};
-use program::{Program, count_losses, let_go};
-use ref_base::{Config, Fault, QueueNo, SpanRule};
+use program::{PROGRAM, count_losses, let_go, open_all};
+use ref_base::{Config, Fault, QueueNo, WorkerNo};
 use ref_queue::{Action, Job};
-use ref_share::{CleanSeat, SharedCleaner, SharedHeap, run_jobs_left};
+use ref_share::{CleanUser, Collector, HeapUser, Queues, SharedCleaner, SharedHeap, run_jobs_left};
 use std::alloc::Global;
 use std::sync::Wait;
 use std::thread;
@@ -26,26 +21,19 @@ mod pool;
 mod program;
 mod worker;
 
-const CONFIG: Config = Config {
-    mutators: 1,
-    workers: 1,
-    queues: 2,
-    cells: 64,
-    span: 0,
-    rule: SpanRule::Fixed,
-};
+/// The queue by which the program learns what it lost.
+const LOST: QueueNo = QueueNo(0);
 
-/// The queue by which the cleaner's thread learns what is gone. By the first queue the program learns it.
+/// The queue by which the cleaner's thread learns what is gone.
 const CLEANED: QueueNo = QueueNo(1);
 
-/// How many buffers the program gave back, and how many the cleaner's thread; of how many losses the program was told;
-/// and how many were free then.
+/// How many buffers the program gave back, and how many the cleaner's thread, and of how many losses the program was
+/// told.
 #[derive(Clone, Copy)]
 struct Counts {
     by_program: u64,
     by_worker: u64,
     told: u64,
-    free: usize,
 }
 
 /// Runs the example.
@@ -70,117 +58,89 @@ pub fn example<R: Threads + Wait + Print + Sync>(
         jobs.push(Job::new(number, number, action))?;
         pool.push(buffer)?;
     }
-    let counts = use_buffers(rt, alloc, jobs, &pool)?;
+    let (counts, free) = use_buffers(rt, alloc, jobs, &pool)?;
     println!(rt; "{} given back by the program", counts.by_program)?;
     println!(rt; "{} given back by the cleaner's thread", counts.by_worker)?;
-    println!(rt; "{} of {BUFFERS} are free", counts.free)?;
+    println!(rt; "{free} of {BUFFERS} are free")?;
     println!(rt; "{} of {BUFFERS} are free at the end", count_free(&pool))?;
     println!(rt; "{} losses told to the program", counts.told)?;
     Ok(())
 }
 
-/// Makes the heap, its queues and the cleaner, and runs the threads over them. At the end the buffers that are still in
-/// use are given back.
+/// Makes the heap and the cleaner, and runs the threads over them. How many buffers are free then. At the end those
+/// that are still in use are given back.
 fn use_buffers<R: Threads + Wait + Sync>(
     rt: &R,
     alloc: Global,
     jobs: Vec<Job>,
     pool: &[Buffer],
-) -> Result<Counts, Fault> {
-    let (heap, seat) = SharedHeap::new(alloc, CONFIG, 0)?;
-    let mut queues = Queues::new(alloc)?;
-    let (cleaner, seat_of_cleaner) = match SharedCleaner::new(alloc, CLEANED) {
-        Ok(made) => made,
-        Err(fault) => {
-            queues.end();
-            return Err(fault);
-        }
-    };
-    let mut seat_of_cleaner = seat_of_cleaner;
-    let user = HeapUser::new(&heap, seat);
-    let given = run(rt, user, jobs, &mut queues, &cleaner, &mut seat_of_cleaner);
-    queues.end();
+) -> Result<(Counts, usize), Fault> {
+    let (heap, seat) = SharedHeap::new(alloc, Config::default().queues(2), 0)?;
+    let (cleaner, mut last) = SharedCleaner::new(alloc, CLEANED)?;
+    let user = HeapUser::new(&heap, seat, PROGRAM);
+    let clean = CleanUser::new(&cleaner, cleaner.split(&mut last));
+    let counts = with_queues(rt, alloc, user, clean, jobs);
     let free = count_free(pool);
-    run_jobs_left(cleaner.finish(seat_of_cleaner));
-    let (by_program, by_worker, told) = given?;
+    run_jobs_left(cleaner.finish(last), &());
+    Ok((counts?, free))
+}
+
+/// Makes the queues, runs the threads, and ends the queues.
+fn with_queues<R: Threads + Wait + Sync>(
+    rt: &R,
+    alloc: Global,
+    user: HeapUser,
+    clean: CleanUser,
+    jobs: Vec<Job>,
+) -> Result<Counts, Fault> {
+    let mut queues = Queues::new(alloc, 2)?;
+    let counts = run(rt, alloc, user, clean, jobs, &mut queues);
+    queues.end();
+    counts
+}
+
+/// The program takes the buffers, and then the three threads run to their ends.
+fn run<'x, R: Threads + Wait + Sync>(
+    rt: &R,
+    alloc: Global,
+    user: HeapUser<'x>,
+    clean: CleanUser<'x>,
+    jobs: Vec<Job>,
+    queues: &'x mut Queues,
+) -> Result<Counts, Fault> {
+    let (mut heap, mut clean) = (user, clean);
+    let mut told = queues.users()?;
+    let (mut lost, cleaned) = (told.user(LOST)?, told.user(CLEANED)?);
+    let by_program = open_all(rt, &mut heap, &mut clean, jobs)?;
+    let collector = Collector::new(alloc, &mut heap, told, WorkerNo(0));
+    let worker = Worker {
+        heap: heap.split(PROGRAM),
+        clean,
+        queue: cleaned,
+    };
+    let (worked, by_worker) = thread::join(
+        rt,
+        || -> Result<(), Fault> { let_go_beside(rt, collector, heap) },
+        || -> Result<u64, Fault> { worker.run(rt) },
+    );
+    worked?;
     Ok(Counts {
         by_program,
-        by_worker,
-        told,
-        free,
+        by_worker: by_worker?,
+        told: count_losses(rt, &mut lost),
     })
 }
 
-/// The program takes the buffers, and then the three threads run to their ends. How many buffers the program gave back,
-/// and how many the cleaner's thread, and of how many losses the program is told.
-fn run<R: Threads + Wait + Sync>(
+/// The program and the collector, each in a thread. The collector goes on until the program has ended, and then closes
+/// the queues.
+fn let_go_beside<R: Threads + Wait + Sync>(
     rt: &R,
-    user: HeapUser,
-    jobs: Vec<Job>,
-    queues: &mut Queues,
-    cleaner: &SharedCleaner,
-    seat: &mut CleanSeat,
-) -> Result<(u64, u64, u64), Fault>
-    requires user { IsUser user × AreTwo queues.old }
-    requires seat { IsCleanSeat cleaner.now seat.old }
-    ensures queues { AreTwo queues.new }
-    ensures seat { IsCleanSeat cleaner.now seat.new }
-{
-    let mut user = user;
-    let (telling, other) = queues.split();
-    let (told, queue_seat) = queues.split();
-    let all = &queues.all;
-    let collector = Collector::new(queues.alloc, user.split(), all, [telling, other]);
-    let worker = Worker {
-        user: user.split(),
-        queue: &all[1],
-        queue_seat,
-        cleaner,
-        seat: cleaner.split(seat),
-    };
-    let mut program = Program::new(user, cleaner, cleaner.split(seat));
-    let by_program = program.open_all(rt, jobs)?;
-    let by_worker = clean(rt, program.into_user(), collector, worker)?;
-    Ok((by_program, by_worker, count_losses(&all[0], told)))
-}
-
-/// Runs the program and the collector, and the cleaner's thread, which ends as the collector closes its queue. How many
-/// buffers the cleaner's thread gave back.
-fn clean<R: Threads + Wait + Sync>(
-    rt: &R,
-    user: HeapUser,
     collector: Collector,
-    worker: Worker,
-) -> Result<u64, Fault>
-    requires user { IsUser user }
-    requires collector { IsCollector collector }
-    requires worker { IsUser worker.user × IsQueueSeat worker.queue.now worker.queue_seat
-        × IsCleanSeat worker.cleaner.now worker.seat }
-{
-    let (worked, by_worker) = thread::join(
-        rt,
-        || -> Result<(), Fault>
-            requires user { IsUser user }
-            requires collector { IsCollector collector }
-        { work(rt, user, collector) },
-        || -> Result<u64, Fault>
-            requires user { IsUser worker.user × IsQueueSeat worker.queue.now worker.queue_seat }
-            requires seat { IsCleanSeat worker.cleaner.now worker.seat }
-        { worker.run(rt) },
-    );
-    worked?;
-    by_worker
-}
-
-// The program and the collector, each in a thread.
-fn work<R: Threads + Wait + Sync>(rt: &R, user: HeapUser, collector: Collector) -> Result<(), Fault>
-    requires user { IsUser user }
-    requires collector { IsCollector collector }
-{
-    collector.run_beside(
-        rt,
-        || -> Result<(), Fault>
-            requires { IsUser user }
-        { let_go(rt, user) },
-    )
+    heap: HeapUser,
+) -> Result<(), Fault> {
+    let (let_go, collected) = collector.run_beside(rt, || -> Result<(), Fault> {
+        let_go(rt, heap)
+    });
+    let_go?;
+    collected
 }

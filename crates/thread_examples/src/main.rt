@@ -3,7 +3,6 @@
 #![tactic(auto)]
 
 mod buffer_pool;
-mod runtime;
 mod weak_table;
 
 use anyhow::Error;

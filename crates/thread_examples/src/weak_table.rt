@@ -4,42 +4,23 @@
 //! each with a queue of its own, take what that reports and remove the entries of what died. It prints the same in
 //! every run.
 
-ghost use Rattle.thread_examples.specs.Users.{IsUser, IsCollector};
-ghost use Rattle.thread_examples.specs.QueuePairs.{AreTwo};
-ghost use Rattle.thread_examples.specs.Cleaners.{IsCleaner};
-
-use crate::runtime::{Collector, HeapUser, Queues};
-use cleaner::Cleaner;
-use ref_base::{
-    Config, Fault, MutNo, ObjNo, PlainStep, QueueNo, Reply, SlotNo, SpanRule, Strength,
-};
-use ref_share::SharedHeap;
+use ref_base::{Config, Fault, MutNo, ObjNo, Parcel, QueueNo, SlotNo, Strength, WorkerNo};
+use ref_share::{Collector, HeapUser, QueueUser, Queues, SharedHeap};
 use std::alloc::Global;
 use std::collections::BTreeMap;
 use std::sync::{Mutex, Wait};
 use std::thread;
 use std::thread::Threads;
 
-mod cleaner;
-
 /// The key of each entry, by the number of the weak reference to its value.
 type Table = Mutex<BTreeMap<ObjNo, u32>>;
 
-/// The program, with the table that it fills.
+/// One thread's way to the heap, and the table.
 #[derive(Drop)]
-struct Program<'a> {
-    user: HeapUser<'a>,
+struct Keeper<'a> {
+    heap: HeapUser<'a>,
     table: &'a Table,
 }
-
-const CONFIG: Config = Config {
-    mutators: 1,
-    workers: 1,
-    queues: 2,
-    cells: 64,
-    span: 0,
-    rule: SpanRule::Fixed,
-};
 
 const PROGRAM: MutNo = MutNo(0);
 
@@ -52,10 +33,10 @@ pub fn example<R: Threads + Wait + Print + Sync>(
     alloc: Global,
 ) -> Result<(), anyhow::Error> {
     let table = Mutex::new(BTreeMap::new(alloc));
-    let (heap, seat) = SharedHeap::new(alloc, CONFIG, 0)?;
-    let user = HeapUser::new(&heap, seat);
-    let mut queues = Queues::new(alloc)?;
-    let ran = clean_and_fill(rt, user, &mut queues, &table);
+    let (heap, seat) = SharedHeap::new(alloc, Config::default().queues(2), 0)?;
+    let user = HeapUser::new(&heap, seat, PROGRAM);
+    let mut queues = Queues::new(alloc, 2)?;
+    let ran = fill_and_clean(rt, alloc, user, &mut queues, &table);
     queues.end();
     ran?;
     let table = table.into_inner();
@@ -66,121 +47,93 @@ pub fn example<R: Threads + Wait + Print + Sync>(
     Ok(())
 }
 
-/// Runs the program, the collector, and a cleaner for each queue. The collector and the cleaners each have a seat of
-/// each queue.
-fn clean_and_fill<R: Threads + Wait + Sync>(
+/// Runs the program, the collector, and a cleaner for each queue.
+fn fill_and_clean<'x, R: Threads + Wait + Sync>(
     rt: &R,
-    user: HeapUser,
-    queues: &mut Queues,
-    table: &Table,
-) -> Result<(), Fault>
-    requires { IsUser user × AreTwo queues.old }
-    ensures { AreTwo queues.new }
-{
-    let mut user = user;
-    let (telling, other) = queues.split();
-    let (first, second) = queues.split();
-    let all = &queues.all;
-    let collector = Collector::new(queues.alloc, user.split(), all, [telling, other]);
-    let left = Cleaner::new(user.split(), &all[0], first, table);
-    let right = Cleaner::new(user.split(), &all[1], second, table);
-    let program = Program { user, table };
-    run(rt, program, collector, left, right)
-}
-
-/// Runs the threads to their ends.
-fn run<R: Threads + Wait + Sync>(
-    rt: &R,
-    program: Program,
-    collector: Collector,
-    left: Cleaner,
-    right: Cleaner,
-) -> Result<(), Fault>
-    requires heap { IsUser program.user × IsCollector collector }
-    requires cleaners { IsCleaner left × IsCleaner right }
-{
+    alloc: Global,
+    user: HeapUser<'x>,
+    queues: &'x mut Queues,
+    table: &'x Table,
+) -> Result<(), Fault> {
+    let mut heap = user;
+    let mut told = queues.users()?;
+    let (lower, upper) = (told.user(QueueNo(0))?, told.user(QueueNo(1))?);
+    let collector = Collector::new(alloc, &mut heap, told, WorkerNo(0));
+    let left = Keeper {
+        heap: heap.split(PROGRAM),
+        table,
+    };
+    let right = Keeper {
+        heap: heap.split(PROGRAM),
+        table,
+    };
+    let program = Keeper { heap, table };
     let (cleaned, worked) = thread::join(
         rt,
-        || -> Result<(), Fault>
-            requires { IsCleaner left × IsCleaner right }
-        { clean(rt, left, right) },
-        || -> Result<(), Fault>
-            requires { IsUser program.user × IsCollector collector }
-        { work(rt, program, collector) },
+        || -> Result<(), Fault> { clean_both(rt, left, lower, right, upper) },
+        || -> Result<(), Fault> { fill_beside(rt, collector, program) },
     );
     cleaned?;
     worked
 }
 
-// The two cleaners, each in a thread.
-fn clean<R: Threads + Wait + Sync>(rt: &R, left: Cleaner, right: Cleaner) -> Result<(), Fault>
-    requires { IsCleaner left × IsCleaner right }
-{
+/// The two cleaners, each in a thread.
+fn clean_both<R: Threads + Wait + Sync>(
+    rt: &R,
+    left: Keeper,
+    lower: QueueUser,
+    right: Keeper,
+    upper: QueueUser,
+) -> Result<(), Fault> {
     let (first, second) = thread::join(
         rt,
-        || -> Result<(), Fault>
-            requires { IsCleaner left }
-        { left.run(rt) },
-        || -> Result<(), Fault>
-            requires { IsCleaner right }
-        { right.run(rt) },
+        || -> Result<(), Fault> { left.clean(rt, lower) },
+        || -> Result<(), Fault> { right.clean(rt, upper) },
     );
     first?;
     second
 }
 
-// The program and the collector, each in a thread. The collector goes on until the program has ended, and then closes
-// the queues.
-fn work<R: Threads + Wait + Sync>(
+/// The program and the collector, each in a thread. The collector goes on until the program has ended, and then closes
+/// the queues.
+fn fill_beside<R: Threads + Wait + Sync>(
     rt: &R,
-    program: Program,
     collector: Collector,
-) -> Result<(), Fault>
-    requires { IsUser program.user × IsCollector collector }
-{
-    collector.run_beside(
-        rt,
-        || -> Result<(), Fault>
-            requires { IsUser program.user }
-        { fill(rt, program) },
-    )
+    program: Keeper,
+) -> Result<(), Fault> {
+    let (filled, collected) = collector.run_beside(rt, || -> Result<(), Fault> {
+        program.fill(rt)
+    });
+    filled?;
+    collected
 }
 
-/// Makes a value for each key, and a weak reference to it with its entry. The references of the lower half of the keys
-/// are reported by the first queue, and those of the others by the second. Then it lets the values of odd keys go.
-fn fill<R: Wait>(rt: &R, program: Program) -> Result<(), Fault>
-    requires { IsUser program.user }
-{
-    let Program {
-        user: mut heap,
-        table,
-    } = program;
-    for key in 0..KEYS {
-        let new = PlainStep::New {
-            mutator: PROGRAM,
-            slot: SlotNo(key),
-            fields: 0,
-        };
-        heap.perform(rt, new)?;
-        let refer = PlainStep::Refer {
-            mutator: PROGRAM,
-            strength: Strength::Weak,
-            slot: SlotNo(KEYS + key),
-            source: SlotNo(key),
-            queue: Some(QueueNo(key * 2 / KEYS)),
-            fields: 0,
-        };
-        if let Reply::Object(reference) = heap.perform(rt, refer)? {
-            let added = table.lock(rt).insert(reference, key);
-            added.map_err(|_| Fault::NoMemory)?;
+impl Keeper<'_> {
+    /// Makes a value for each key, and a weak reference to it with its entry. The references of the lower half of the
+    /// keys are reported by the first queue, and those of the others by the second. Then it lets the values of odd keys
+    /// go.
+    fn fill<R: Wait>(self, rt: &R) -> Result<(), Fault> {
+        let Keeper { mut heap, table } = self;
+        for key in 0..KEYS {
+            let queue = Some(QueueNo(key * 2 / KEYS));
+            heap.make(rt, SlotNo(key), 0)?;
+            let reference = heap.refer(rt, Strength::Weak, SlotNo(KEYS + key), SlotNo(key), queue)?;
+            table.lock(rt).insert(reference, key)?;
         }
+        for key in (1..KEYS).step_by(2) {
+            heap.empty(rt, SlotNo(key))?;
+        }
+        Ok(())
     }
-    for key in (1..KEYS).step_by(2) {
-        let drop = PlainStep::Drop {
-            mutator: PROGRAM,
-            slot: SlotNo(key),
-        };
-        heap.perform(rt, drop)?;
+
+    /// Removes the entry of each reference that the queue reports, until the queue is closed.
+    fn clean<R: Wait>(self, rt: &R, queue: QueueUser) -> Result<(), Fault> {
+        let Keeper { mut heap, table } = self;
+        let mut queue = queue;
+        for notice in queue.notices(rt) {
+            table.lock(rt).remove(&notice.obj());
+            heap.give_back(rt, notice.into_hold())?;
+        }
+        Ok(())
     }
-    Ok(())
 }

@@ -1,2 +1,1 @@
-pub mod QueueLists
 pub mod QueueRows

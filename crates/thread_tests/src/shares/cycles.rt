@@ -1,7 +1,7 @@
 //! Whole cycles and deliveries of all that is pending, on a heap with two queues, each call with its answer.
 
 ghost use Rattle.ref_share.specs.HeapSeats.{IsHeapSeat};
-ghost use Rattle.thread_tests.specs.QueueLists.{AreSeated};
+ghost use Rattle.ref_share.specs.Users.{AreSeated};
 
 use super::calls::{of_heap, sent, sent_nowhere};
 use super::many_queues::{Lists, make_references, with};

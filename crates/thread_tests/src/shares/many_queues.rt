@@ -3,7 +3,7 @@
 ghost use Rattle.std.specs.Prelude.{◌<◌, ◌≤◌};
 ghost use Rattle.ref_share.specs.HeapSeats.{IsHeapSeat};
 ghost use Rattle.ref_share.specs.QueueSeats.{IsQueueSeat};
-ghost use Rattle.thread_tests.specs.QueueLists.{AreSeated};
+ghost use Rattle.ref_share.specs.Users.{AreSeated};
 
 use super::calls::{sent, stepped};
 use super::rows::{Sending, new, weak};

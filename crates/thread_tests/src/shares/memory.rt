@@ -56,11 +56,11 @@ fn make<A: Allocator + Copy>(alloc: A, made: Made) -> Result<(), Fault> {
         }
         Made::Cleaner => {
             let (cleaner, seat) = SharedCleaner::new(alloc, Q)?;
-            run_jobs_left(cleaner.finish(seat));
+            run_jobs_left(cleaner.finish(seat), &());
         }
         Made::CleanerLater => {
             let (cleaner, seat) = SharedCleaner::starting(alloc, Q, 7)?;
-            run_jobs_left(cleaner.finish(seat));
+            run_jobs_left(cleaner.finish(seat), &());
         }
     }
     Ok(())
@@ -297,7 +297,7 @@ fn register_with<R: Wait + Abort>(
         Ok(cleanable) => counted(Word::Registered, u64::from(cleanable.obj.0)),
         Err((fault, job)) => refusal(rt, &heap, &mut heap_seat, fault).with_job(job.number()),
     };
-    run_jobs_left(cleaner.finish(seat));
+    run_jobs_left(cleaner.finish(seat), &());
     (told, was_refused)
 }
 

@@ -10,7 +10,7 @@ ghost use Rattle.ref_share.specs.QueueSeats.{queue_view, IsQueueSeat};
 ghost use Rattle.ref_share.specs.declared.queue_machine.QueueReply.TheVariants as replies;
 ghost use Rattle.ref_share.specs.declared.queue_machine.QueueStep.TheVariants as steps;
 ghost use Rattle.ref_turn.specs.Seats.{entry};
-ghost use Rattle.thread_tests.specs.QueueLists.{AreSeated};
+ghost use Rattle.ref_share.specs.Users.{AreSeated};
 ghost use Rattle.thread_tests.specs.QueueRows.{queue_row};
 
 use crate::shares::many_queues::{Lists, find_dead, make_references, with};

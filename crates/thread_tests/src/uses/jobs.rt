@@ -254,7 +254,7 @@ fn a_step_takes_no_notice(rt: HostRuntime) -> Result<(), Fail> {
             None
         }
     };
-    let standing = heap.end();
+    let standing = heap.end(&());
     assert!(rt; told == Some((true, true, 1)) && standing == 0);
     Ok(())
 }

@@ -110,7 +110,7 @@ fn anew<R: Wait + Abort>(
         hearing,
     );
     cleaner.join(&mut seat, other);
-    let notices = cleaner.end(seat);
+    let notices = cleaner.end(seat, &());
     match told {
         Ok((three, living, dead, is_open)) => Ok((three, living, dead, is_open, notices)),
         Err(fault) => Err(fault.into_fault()),

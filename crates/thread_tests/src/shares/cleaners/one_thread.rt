@@ -219,7 +219,7 @@ fn use_all<R: Wait + Abort>(
             expect(rt, alloc, told, want, row);
         }
     }
-    heap.end()
+    heap.end(&())
 }
 
 /// The story, and what is left then.
@@ -339,7 +339,7 @@ fn a_cleaned_heap_is_heap_0(rt: HostRuntime) {
     };
     let made = reply_or_fault(heap.make(&rt, SlotNo(0), 0));
     let number = number_of_heap(&rt, &mut heap);
-    let standing = heap.end();
+    let standing = heap.end(&());
     assert!(rt; made.is(rt.alloc(), "object 1"), "{made}");
     assert!(rt; number == Some(0), "the heap has another number");
     assert!(rt; standing == 0, "{standing} notices stand");
@@ -353,7 +353,7 @@ fn a_cleaned_heap_has_a_mutator(rt: HostRuntime) {
     };
     match CleanedHeap::new(rt.alloc(), config) {
         Ok(heap) => {
-            heap.end();
+            heap.end(&());
             panic!(rt; "it has none");
         }
         Err(fault) => assert!(rt; fault == Fault::BadConfig, "{fault}"),

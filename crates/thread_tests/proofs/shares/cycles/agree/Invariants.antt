@@ -1,5 +1,5 @@
 use Rattle.ref_share.specs.HeapSeats.{IsHeapSeat}
-use Rattle.thread_tests.specs.QueueLists.{AreSeated}
+use Rattle.ref_share.specs.Users.{AreSeated}
 use Rattle.thread_tests.proofs.shares.cycles.agree.Given as goal
 
 abbrev pub invariant-loop-row : goal.invariant-loop-row

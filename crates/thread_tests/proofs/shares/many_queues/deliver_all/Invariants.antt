@@ -1,5 +1,5 @@
 use Rattle.ref_share.specs.HeapSeats.{IsHeapSeat}
-use Rattle.thread_tests.specs.QueueLists.{AreSeated}
+use Rattle.ref_share.specs.Users.{AreSeated}
 use Rattle.thread_tests.proofs.shares.many_queues.deliver_all.Given as goal
 
 abbrev pub invariant-loop-place : goal.invariant-loop-place

@@ -1,5 +1,5 @@
 use Rattle.std.proofs.Common.{length}
-use Rattle.thread_tests.specs.QueueLists.{AreSeated}
+use Rattle.ref_share.specs.Users.{AreSeated}
 use Rattle.thread_tests.proofs.shares.many_queues.Lists.end.Given as goal
 
 abbrev pub invariant-loop-queue : goal.invariant-loop-queue

@@ -1,4 +1,4 @@
-use Rattle.thread_tests.specs.QueueLists.{AreSeated}
+use Rattle.ref_share.specs.Users.{AreSeated}
 use Rattle.thread_tests.proofs.shares.many_queues.Lists.new.Given as goal
 
 abbrev pub invariant-loop-number : goal.invariant-loop-number

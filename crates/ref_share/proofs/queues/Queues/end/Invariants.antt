@@ -1,0 +1,9 @@
+use Rattle.ref_share.proofs.Common.{length}
+use Rattle.ref_share.specs.Users.{AreSeated}
+use Rattle.ref_share.proofs.queues.Queues.end.Given as goal
+
+abbrev pub invariant-loop-queue : goal.invariant-loop-queue
+invariant-loop-queue g l = AreSeated l.queues.items l.seats.items
+
+abbrev pub decreases-loop-queue : goal.decreases-loop-queue
+decreases-loop-queue g l = length l.queues.items

@@ -1,0 +1,76 @@
+//! The folder of the files.
+
+use ref_queue::Ran;
+use ref_share::Gate;
+use std::sync::atomic::{AtomicU64, Ordering};
+use std::{env, fs, io};
+
+/// A folder with a file for each number, with the handle of the system by which they are made and removed.
+#[derive(Drop)]
+pub struct Folder<'a> {
+    files: &'a HostRuntime,
+    path: String,
+    removed: AtomicU64,
+}
+
+impl<'a> Folder<'a> {
+    /// A new folder, of the first name that is free.
+    pub fn new(files: &'a HostRuntime) -> io::Result<Self> {
+        let temporary = env::temp_dir(files)?;
+        for number in 0..u64::MAX {
+            let path = format!(in files.alloc();
+                "{}/temporary_files-{number}",
+                temporary.display()
+            )?;
+            match fs::create_dir(files, path.as_str()) {
+                Err(fault) if fault.kind() == io::ErrorKind::AlreadyExists => {}
+                made => {
+                    made?;
+                    let removed = AtomicU64::new(0);
+                    return Ok(Folder {
+                        files,
+                        path,
+                        removed,
+                    });
+                }
+            }
+        }
+        Err(io::Error::from(io::ErrorKind::AlreadyExists))
+    }
+
+    /// Writes the file of this number.
+    pub fn write(&self, number: u64) -> io::Result<()> {
+        let path = self.path_of(number)?;
+        fs::write(self.files, path.as_str(), path.as_bytes())
+    }
+
+    /// How many files were removed.
+    pub fn removed(&self) -> u64 {
+        self.removed.load(Ordering::SeqCst)
+    }
+
+    /// Removes the folder, which must be empty.
+    pub fn end(self) -> io::Result<()> {
+        fs::remove_dir(self.files, self.path.as_str())
+    }
+
+    fn path_of(&self, number: u64) -> io::Result<String> {
+        Ok(format!(in self.files.alloc(); "{}/{number}", self.path)?)
+    }
+
+    fn remove(&self, number: u64) -> io::Result<()> {
+        let path = self.path_of(number)?;
+        fs::remove_file(self.files, path.as_str())
+    }
+}
+
+/// The file of each task that is run is removed.
+impl Gate for Folder<'_> {
+    fn before(&self, _number: u64) {}
+
+    fn after(&self, ran: Ran) {
+        if self.remove(ran.number).is_ok() {
+            self.removed.fetch_add(1, Ordering::SeqCst);
+        }
+    }
+}

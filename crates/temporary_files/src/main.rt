@@ -1,0 +1,179 @@
+//! Temporary files that are removed once their objects are gone. Two threads make files, and register a task for each
+//! with one cleaner; a third thread removes the files of dead objects, and the program's end the others.
+//!
+//! A task is a number alone. The gate, which has a handle of the system and is told of each task that is run, removes
+//! the file of that number. It prints the same in every run.
+#![tactic(auto)]
+
+use anyhow::Error;
+use folder::Folder;
+use ref_base::{Config, Fault, MutNo, QueueNo, SlotNo, WorkerNo};
+use ref_share::{
+    CleanUser, Collector, HeapUser, Numbered, QueueUser, Queues, ShareFault, SharedCleaner,
+    SharedHeap, run_tasks_left,
+};
+use std::alloc::Global;
+use std::sync::Wait;
+use std::thread::Threads;
+use std::{io, thread};
+
+mod folder;
+
+/// How many files each of the two makers has.
+const FILES: u32 = 4;
+
+/// A slot that is empty between calls: a register uses one on the way.
+const EMPTY: SlotNo = SlotNo(15);
+
+const QUEUE: QueueNo = QueueNo(0);
+
+/// What goes wrong in a thread.
+#[derive(Debug, Drop, thiserror::Error)]
+enum Failure {
+    #[error("{0}")]
+    Heap(#[from] Fault),
+    #[error("{0}")]
+    File(#[from] io::Error),
+}
+
+impl From<ShareFault> for Failure {
+    fn from(fault: ShareFault) -> Failure {
+        Failure::Heap(fault.into_fault())
+    }
+}
+
+fn main(rt: HostRuntime) -> Result<(), Error> {
+    let alloc = rt.alloc();
+    let folder = Folder::new(&rt)?;
+    let (heap, seat) = SharedHeap::new(alloc, Config::default().mutators(3), 0)?;
+    let user = HeapUser::new(&heap, seat, MutNo(0));
+    let (cleaner, mut last) = SharedCleaner::new(alloc, QUEUE)?;
+    let clean = CleanUser::new(&cleaner, cleaner.split(&mut last));
+    let ran = with_queue(&rt, alloc, user, clean, &folder);
+    let by_thread = folder.removed();
+    run_tasks_left(cleaner.finish(last), &folder);
+    ran?;
+    println!(rt; "{by_thread} files were removed by the cleaner's thread")?;
+    println!(rt; "{} were removed by the end", folder.removed())?;
+    folder.end()?;
+    println!(rt; "none is left")?;
+    Ok(())
+}
+
+/// Makes the queue by which the cleaner learns what is gone, runs the threads, and ends it.
+fn with_queue<R: Threads + Wait + Sync>(
+    rt: &R,
+    alloc: Global,
+    user: HeapUser,
+    clean: CleanUser<Numbered>,
+    folder: &Folder,
+) -> Result<(), Failure> {
+    let mut queues = Queues::new(alloc, 1)?;
+    let ran = run(rt, alloc, user, clean, folder, &mut queues);
+    queues.end();
+    ran
+}
+
+/// A thread that registers files, or removes them.
+#[derive(Drop)]
+struct Hand<'a> {
+    heap: HeapUser<'a>,
+    clean: CleanUser<'a, Numbered>,
+    folder: &'a Folder<'a>,
+}
+
+/// Runs the two makers, the collector, and the thread that removes files to their ends.
+fn run<'x, R: Threads + Wait + Sync>(
+    rt: &R,
+    alloc: Global,
+    mut heap: HeapUser<'x>,
+    mut clean: CleanUser<'x, Numbered>,
+    folder: &'x Folder<'x>,
+    queues: &'x mut Queues,
+) -> Result<(), Failure> {
+    let mut told = queues.users()?;
+    let queue = told.user(QUEUE)?;
+    let collector = Collector::new(alloc, &mut heap, told, WorkerNo(0));
+    let left = Hand {
+        heap: heap.split(MutNo(1)),
+        clean: clean.split(),
+        folder,
+    };
+    let right = Hand {
+        heap: heap.split(MutNo(2)),
+        clean: clean.split(),
+        folder,
+    };
+    let remover = Hand {
+        heap,
+        clean,
+        folder,
+    };
+    let (removed, made) = thread::join(
+        rt,
+        || -> Result<(), Failure> { remover.remove_dead(rt, queue) },
+        || -> Result<(), Failure> { make_beside(rt, collector, left, right) },
+    );
+    removed?;
+    made
+}
+
+/// The makers, and the collector beside them, which closes the queue once they have ended.
+fn make_beside<R: Threads + Wait + Sync>(
+    rt: &R,
+    collector: Collector,
+    left: Hand,
+    right: Hand,
+) -> Result<(), Failure> {
+    let (made, collected) = collector.run_beside(rt, || -> Result<(), Failure> {
+        make_both(rt, left, right)
+    });
+    collected?;
+    made
+}
+
+/// The two makers, each in a thread.
+fn make_both<R: Threads + Wait + Sync>(rt: &R, left: Hand, right: Hand) -> Result<(), Failure> {
+    let (first, second) = thread::join(
+        rt,
+        || -> Result<(), Failure> { left.make(rt, 0) },
+        || -> Result<(), Failure> { right.make(rt, FILES) },
+    );
+    first?;
+    second
+}
+
+impl Hand<'_> {
+    /// Makes files, numbered from `first`, each with an object and a task, and lets every second object go.
+    fn make<R: Wait>(self, rt: &R, first: u32) -> Result<(), Failure> {
+        let Hand {
+            mut heap,
+            mut clean,
+            folder,
+        } = self;
+        for slot in 0..FILES {
+            let number = u64::from(first) + u64::from(slot);
+            folder.write(number)?;
+            heap.make(rt, SlotNo(slot), 0)?;
+            let task = Numbered(number);
+            if let Err((fault, _task)) = clean.register(rt, &mut heap, SlotNo(slot), EMPTY, task) {
+                return Err(fault.into());
+            }
+            if slot % 2 == 0 {
+                heap.empty(rt, SlotNo(slot))?;
+            }
+        }
+        Ok(())
+    }
+
+    /// Removes the files of dead objects, until the queue is closed.
+    fn remove_dead<R: Wait>(self, rt: &R, mut queue: QueueUser) -> Result<(), Failure> {
+        let Hand {
+            mut heap,
+            mut clean,
+            folder,
+        } = self;
+        clean.clean_loop(rt, &mut heap, &mut queue, folder)?;
+        Ok(())
+    }
+}

@@ -1,3 +1,0 @@
-pub mod Cleaners
-pub mod QueuePairs
-pub mod Users
