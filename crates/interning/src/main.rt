@@ -31,71 +31,56 @@ const QUEUE: QueueNo = QueueNo(0);
 /// The word of each entry, by the number of its reference.
 type Entries = Mutex<BTreeMap<ObjNo, u32>>;
 
-/// A thread that asks for words.
-#[derive(Drop)]
-struct Asker<'a> {
-    heap: HeapUser<'a>,
-    entries: &'a Entries,
+/// Asks for each word twice, and keeps every fourth, from `first` on. How often it got the same object again.
+fn ask<R: Wait>(rt: &R, mut heap: HeapUser, entries: &Entries, first: u32) -> Result<u32, Fault> {
+    let mut same: u32 = 0;
+    for word in 0..WORDS {
+        let slot = SlotNo(word);
+        let object = intern(rt, &mut heap, entries, word, slot)?;
+        if intern(rt, &mut heap, entries, word, AGAIN)? == object {
+            same = same.saturating_add(1);
+        }
+        if word % 4 != first {
+            heap.empty(rt, slot)?;
+        }
+    }
+    heap.empty(rt, AGAIN)?;
+    Ok(same)
 }
 
-impl Asker<'_> {
-    /// Asks for each word twice, and keeps every fourth, from `first` on. How often it got the same object again.
-    fn ask<R: Wait>(mut self, rt: &R, first: u32) -> Result<u32, Fault> {
-        let mut same: u32 = 0;
-        for word in 0..WORDS {
-            let slot = SlotNo(word);
-            let object = self.intern(rt, word, slot)?;
-            if self.intern(rt, word, AGAIN)? == object {
-                same = same.saturating_add(1);
-            }
-            if word % 4 != first {
-                self.heap.empty(rt, slot)?;
-            }
+/// The word's one object: the one that is there, or else a new one. The slot then holds it.
+fn intern<R: Wait>(
+    rt: &R,
+    heap: &mut HeapUser,
+    entries: &Entries,
+    word: u32,
+    slot: SlotNo,
+) -> Result<ObjNo, Fault> {
+    let mut entries = entries.lock(rt);
+    if heap.load(rt, REFERENCE, TABLE, word)?.is_some() {
+        if let Some(object) = heap.get(rt, slot, REFERENCE)? {
+            return Ok(object);
         }
-        self.heap.empty(rt, AGAIN)?;
-        Ok(same)
     }
-
-    /// The word's one object: the one that is there, or else a new one. The slot then holds it.
-    fn intern<R: Wait>(&mut self, rt: &R, word: u32, slot: SlotNo) -> Result<ObjNo, Fault> {
-        let mut entries = self.entries.lock(rt);
-        if self.heap.load(rt, REFERENCE, TABLE, word)?.is_some() {
-            if let Some(object) = self.heap.get(rt, slot, REFERENCE)? {
-                return Ok(object);
-            }
-        }
-        let object = self.heap.make(rt, slot, 0)?;
-        let reference = self
-            .heap
-            .refer(rt, Strength::Weak, REFERENCE, slot, Some(QUEUE))?;
-        self.heap.store(rt, TABLE, word, REFERENCE)?;
-        entries.insert(reference, word)?;
-        Ok(object)
-    }
+    let object = heap.make(rt, slot, 0)?;
+    let reference = heap.refer(rt, Strength::Weak, REFERENCE, slot, Some(QUEUE))?;
+    heap.store(rt, TABLE, word, REFERENCE)?;
+    entries.insert(reference, word)?;
+    Ok(object)
 }
 
-/// The thread that removes the entries of what died.
-#[derive(Drop)]
-struct Remover<'a> {
-    heap: HeapUser<'a>,
-    queue: QueueUser<'a>,
-    entries: &'a Entries,
-}
-
-impl Remover<'_> {
-    /// Removes the entry of each reference that the queue reports, until the queue is closed.
-    fn run<R: Wait>(self, rt: &R) -> Result<(), Fault> {
-        let Remover {
-            mut heap,
-            mut queue,
-            entries,
-        } = self;
-        for notice in queue.notices(rt) {
-            entries.lock(rt).remove(&notice.obj());
-            heap.give_back(rt, notice.into_hold())?;
-        }
-        Ok(())
+/// Removes the entry of each reference that the queue reports, until the queue is closed.
+fn remove_dead<R: Wait>(
+    rt: &R,
+    mut heap: HeapUser,
+    mut queue: QueueUser,
+    entries: &Entries,
+) -> Result<(), Fault> {
+    for notice in queue.notices(rt) {
+        entries.lock(rt).remove(&notice.obj());
+        heap.give_back(rt, notice.into_hold())?;
     }
+    Ok(())
 }
 
 fn main(rt: HostRuntime) -> Result<(), Error> {
@@ -118,7 +103,8 @@ fn main(rt: HostRuntime) -> Result<(), Error> {
     Ok(())
 }
 
-/// Runs the two askers, the collector and the remover to their ends. How often each asker got the same object again.
+/// Makes the table, gives it to both askers, and runs the threads to their ends. How often each asker got the same
+/// object again.
 fn run<'x, R: Threads + Wait + Sync>(
     rt: &R,
     alloc: Global,
@@ -131,50 +117,40 @@ fn run<'x, R: Threads + Wait + Sync>(
     let mut other = heap.split(MutNo(1));
     let table = heap.hold(rt, TABLE)?;
     other.adopt(rt, TABLE, table)?;
-    let remover = Remover {
-        heap: heap.split(MutNo(2)),
-        queue: told.user(QUEUE)?,
-        entries,
-    };
+    let remover = (heap.split(MutNo(2)), told.user(QUEUE)?);
     let collector = Collector::new(alloc, &mut heap, told, WorkerNo(0));
-    let left = Asker { heap, entries };
-    let right = Asker {
-        heap: other,
-        entries,
-    };
-    let (removed, ran) = thread::join(
-        rt,
-        || -> Result<(), Fault> { remover.run(rt) },
-        || -> Result<(u32, u32), Fault> { ask_beside(rt, collector, left, right) },
-    );
-    removed?;
-    ran
+    run_threads(rt, collector, (heap, other), remover, entries)
 }
 
-/// The askers, and the collector beside them, which closes the queue once they have ended.
-fn ask_beside<R: Threads + Wait + Sync>(
+/// Runs the threads: those of the two askers, of the collector, and of the remover of what died.
+fn run_threads<'x, R: Threads + Wait + Sync>(
     rt: &R,
-    collector: Collector,
-    left: Asker,
-    right: Asker,
+    collector: Collector<'x>,
+    askers: (HeapUser<'x>, HeapUser<'x>),
+    remover: (HeapUser<'x>, QueueUser<'x>),
+    entries: &'x Entries,
 ) -> Result<(u32, u32), Fault> {
-    let (asked, collected) = collector.run_beside(rt, || -> Result<(u32, u32), Fault> {
-        ask_both(rt, left, right)
-    });
+    let (heap, queue) = remover;
+    let ((first, second), removed, collected) = collector.run_with_readers(
+        rt,
+        || -> (Result<u32, Fault>, Result<u32, Fault>) { ask_both(rt, askers, entries) },
+        || -> Result<(), Fault> { remove_dead(rt, heap, queue, entries) },
+    );
+    removed?;
     collected?;
-    asked
+    Ok((first?, second?))
 }
 
 /// The two askers, each in a thread.
 fn ask_both<R: Threads + Wait + Sync>(
     rt: &R,
-    left: Asker,
-    right: Asker,
-) -> Result<(u32, u32), Fault> {
-    let (first, second) = thread::join(
+    askers: (HeapUser, HeapUser),
+    entries: &Entries,
+) -> (Result<u32, Fault>, Result<u32, Fault>) {
+    let (left, right) = askers;
+    thread::join(
         rt,
-        || -> Result<u32, Fault> { left.ask(rt, 0) },
-        || -> Result<u32, Fault> { right.ask(rt, 1) },
-    );
-    Ok((first?, second?))
+        || -> Result<u32, Fault> { ask(rt, left, entries, 0) },
+        || -> Result<u32, Fault> { ask(rt, right, entries, 1) },
+    )
 }

@@ -1,9 +1,10 @@
--- A shared heap or queue may be seen by several threads, and a seat of one may go to another: by this set a search at a
--- closure that takes them along need not look into them.
+-- A shared heap or queue may be seen by several threads, and a seat of one may go to another. By the set `crossing` a
+-- search proves that a closure which takes them along may go to a thread.
 use denote.Ref.{NamedLft}
 use denote.RattleType.{RattleType}
 use denote.Param.Send.{IsSend, IsSync, sendable}
 use Rattle.std.proofs.Crossing.{crosses}
+use Rattle.std.proofs.MapsCrossing as maps
 use Rattle.std.proofs.alloc.Global.TheSendSync.{the_send as global_send, the_sync as global_sync}
 use Rattle.std.specs.contracts.alloc.Global.{the_row}
 use Rattle.std.specs.contracts.impls.GlobalAllocator.TheImpl.{ghosts}
@@ -15,6 +16,13 @@ use Rattle.ref_objects.specs.contracts.hold.Hold.{the_row as hold_row}
 use Rattle.ref_turn.proofs.turn.SeatOf.TheSendSync.{the_field_send as seat_send}
 use Rattle.ref_turn.proofs.turn.Turn.TheSendSync.{the_field_sync as turn_sync}
 use Rattle.ref_world.specs.contracts.heap_machine.HeapReply.{the_row as heap_reply}
+use Rattle.std.below.core.proofs.sync.Sent.{Mutex-sync}
+use Rattle.std.below.core.specs.contracts.sync.Mutex.{the_row as mutex_row}
+use Rattle.std.below.core.specs.declared.cmp.Ord as ord
+use Rattle.std.below.core.specs.declared.cmp.PartialEq as eq
+use Rattle.std.below.core.specs.declared.cmp.PartialOrd as partial
+use Rattle.std.below.std_collections.specs.contracts.btree_map.BTreeMap.{the_field as map_field}
+use Rattle.ref_base.specs.contracts.numbers.ObjNo.{the_row as object_row}
 use Rattle.ref_base.specs.contracts.numbers.QueueNo.{the_row as number_row}
 use Rattle.ref_share.specs.contracts.clean_machine.CleanMachine.{the_row as clean_machine}
 use Rattle.ref_share.specs.contracts.clean_machine.CleanMachineMachine.TheImpl as cleaners
@@ -36,6 +44,7 @@ use Rattle.ref_share.specs.contracts.shared.Shared.{the_field as shared_field}
 use Rattle.ref_share.specs.contracts.task.Numbered.{the_row as task_row}
 use Rattle.ref_share.specs.contracts.shared_heap.HeapFrame.{the_row as heap_frame}
 use Rattle.ref_share.specs.contracts.shared_queue.QueueFrame.{the_row as queue_frame}
+use Rattle.ref_share.specs.contracts.waiting.Stop.{the_row as stop_row}
 
 abbrev batch : RattleType
 batch = batch_row notice_row the_row ghosts
@@ -115,9 +124,21 @@ queue_users_send κ = search (queue_sync, queue_seat_send, crosses, sendable) de
 pub clean_user_send : (κ : NamedLft) → IsSend (clean_user κ task_row the_row ghosts (clones the_row))
 clean_user_send κ = search (cleaner_sync, clean_seat_send, crosses, sendable) depth 60 fits 20000
 
+pub stop_sync : IsSync stop_row
+stop_sync = search (crosses, sendable) depth 60 fits 20000
+
 pub collector_send : (κ : NamedLft) → IsSend (collector κ the_row ghosts (clones the_row))
 collector_send κ =
     search (heap_user_send, queue_users_send, global_send, crosses, sendable) depth 60 fits 20000
+
+-- ---- a table by numbers of objects, behind a lock
+
+module _ (V : RattleType) (o : ord.Ghosts object_row.Denot) (e : eq.Ghosts object_row.Denot)
+    (p : partial.Ghosts object_row.Denot) where
+  pub table_sync : IsSend V → IsSync (mutex_row (map_field object_row V the_row o e p ghosts).row)
+  table_sync send =
+      Mutex-sync (map_field object_row V the_row o e p ghosts).row
+      (maps.BTreeMap-send object_row V o e p (search sendable depth 20) send)
 
 pub ruleset shared = (
   heap_sync,
@@ -130,5 +151,9 @@ pub ruleset shared = (
   queue_user_send,
   queue_users_send,
   clean_user_send,
+  stop_sync,
   collector_send,
+  table_sync,
 )
+
+pub ruleset crossing = (shared, maps.crosses, crosses, sendable)

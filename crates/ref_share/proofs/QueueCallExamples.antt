@@ -14,7 +14,7 @@ use Rattle.ref_share.specs.declared.answers.ShareFault.TheVariants.{Refused}
 use Rattle.std.proofs.Common.{◌-◌, ◌^◌}
 use Rattle.ref_base.specs.declared.cause.Cause.TheVariants.{Own}
 use Rattle.ref_share.specs.declared.answers.Polled.TheVariants.{Closed, Empty, TimedOut}
-use Rattle.ref_share.specs.QueueCalls.{PollsNow, PollsWithin, ClosesQueue}
+use Rattle.ref_share.specs.QueueCalls.{PollsNow, PollsWithin, PollsAWhile, ClosesQueue}
 use Rattle.ref_queue.specs.declared.queue.Polled.TheVariants as answers
 use Rattle.ref_queue.specs.declared.queue.Put.TheVariants as puts
 use Rattle.ref_share.specs.declared.queue_machine.QueueStep.TheVariants as steps
@@ -97,6 +97,12 @@ the_second_told_that_it_is_closed =
 
 waiting_has_no_end_by_time : (w : QueueView) → ¬ (PollsUntil v (Ok TimedOut) w)
 waiting_has_no_end_by_time w is = is
+
+one_poll_found_nothing : PollsAWhile v (Ok TimedOut) (seat (found_nothing ∷ []) 1 1)
+one_poll_found_nothing = (0, ((refl, refl, refl), (found_nothing ∷ [], refl), refl))
+
+timed_out_without_a_poll : ¬ (PollsAWhile v (Ok TimedOut) v)
+timed_out_without_a_poll is = let none = is.1.2 in absurd cc
 
 -- ---- close
 

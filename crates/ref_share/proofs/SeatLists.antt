@@ -9,7 +9,7 @@ use Rattle.std.proofs.lemmas.Option.{same_Some}
 use Rattle.ref_share.specs.Selves.{IsItself}
 use Rattle.ref_share.specs.QueueSeats.{IsNewQueue}
 use Rattle.ref_share.specs.Users.{AreNew, AtEachPlace, HasClosed}
-use Rattle.ref_share.proofs.Common.{◌<◌, ◌≤◌, ◌+◌, ◌∙◌, slice_set}
+use Rattle.ref_share.proofs.Common.{◌<◌, ◌≤◌, ◌+◌, ◌∙◌, slice_set, length-append}
 use Rattle.ref_share.proofs.Places.{changed_there}
 
 -- what stands in a list with one more stood there before, or is that one
@@ -42,14 +42,38 @@ only_one [] x one = absurd (omega (arith, one))
 only_one (y ∷ []) x one = refl
 only_one (y ∷ z ∷ xs) x one = absurd (omega (arith, one))
 
--- what is so at each place is so with one more, which is so to what stands at its place
-pub place_more : {S T : Type 0} (P : S → T → Type 0) (xs : List S) (ys : List T) (y : T) → AtEachPlace P xs ys
-    → ((x : S) → slice_get xs (length ys) ≡ Some x → P x y) → AtEachPlace P xs (ys ++ y ∷ [])
+-- what stands in two lists is so to each other, at each place that both have
+abbrev pub Pairwise : {S T : Type 0} → (S → T → Type 0) → List S → List T → Type 0
+Pairwise {S = S} {T = T} P xs ys =
+    (k : ℕ) (x : S) (y : T) → slice_get xs k ≡ Some x → slice_get ys k ≡ Some y → P x y
+
+-- that is so with one more, which is so to what stands at its place
+pub place_more : {S T : Type 0} (P : S → T → Type 0) (xs : List S) (ys : List T) (y : T) → Pairwise P xs ys
+    → ((x : S) → slice_get xs (length ys) ≡ Some x → P x y) → Pairwise P xs (ys ++ y ∷ [])
 place_more {S = S} {T = T} P xs ys y are own k x z found placed =
     elim (at_last ys y z k placed) [
       | inl before ↦ are k x z found before
       | inr last ↦
           subst (λ (t : T). P x t) last.1 (own x (subst (λ (i : ℕ). slice_get xs i ≡ Some x) last.0 found))
+    ]
+
+-- what is so of each pair and its place is so with one pair more
+pub pair_more : {S T : Type 0} (P : ℕ → S → T → Type 0) (xs : List S) (ys : List T) (x : S) (y : T)
+    → length ys ≡ length xs
+    → ((k : ℕ) (a : S) (b : T) → slice_get xs k ≡ Some a → slice_get ys k ≡ Some b → P k a b) → P (length xs) x y
+    → (k : ℕ) (a : S) (b : T) → slice_get (xs ++ x ∷ []) k ≡ Some a → slice_get (ys ++ y ∷ []) k ≡ Some b → P k a b
+pair_more {S = S} {T = T} P xs ys x y even are own k a b found placed =
+    elim (at_last xs x a k found) [
+      | inl there ↦ elim (at_last ys y b k placed) [
+        | inl here ↦ are k a b there here
+        | inr last ↦ absurd (omega (arith, last.0, even, slice_get_within xs k a there))
+      ]
+      | inr last ↦ elim (at_last ys y b k placed) [
+        | inl here ↦ absurd (omega (arith, last.0, even, slice_get_within ys k b here))
+        | inr end ↦
+            subst (λ (n : ℕ). P n a b) (sym last.0)
+            (subst (λ (t : T). P (length xs) a t) end.1 (subst (λ (s : S). P (length xs) s y) last.1 own))
+      ]
     ]
 
 -- a change of a place adds none
@@ -66,24 +90,30 @@ written_over after items count all even = grind (arith, common_steps)
 -- one place is changed so, and what is there is so to itself
 pub place_changed : {T : Type 0} (P : T → T → Type 0) → ((x : T) → P x x) → (xs : List T) (k : ℕ) (x y : T)
     → slice_get xs k ≡ Some x → P x y → AtEachPlace P xs (slice_set xs k y)
-place_changed {T = T} P same xs k x y there holds j a b found placed =
-    elim (changed_there xs k j y b placed) [
-      | inl here ↦
-          let is : x ≡ a =
-          same_Some x a (sym there ∙ subst (λ (i : ℕ). slice_get xs i ≡ Some a) here.0 found) in
-          subst (λ (t : T). P a t) (sym here.1) (subst (λ (t : T). P t y) is holds)
-      | inr before ↦ subst (λ (t : T). P a t) (same_Some a b (sym found ∙ before.1)) (same a)
-    ]
+place_changed {T = T} P same xs k x y there holds = (
+  set_length xs k y,
+  λ j a b found placed.
+      elim (changed_there xs k j y b placed) [
+        | inl here ↦
+            let is : x ≡ a =
+            same_Some x a (sym there ∙ subst (λ (i : ℕ). slice_get xs i ≡ Some a) here.0 found) in
+            subst (λ (t : T). P a t) (sym here.1) (subst (λ (t : T). P t y) is holds)
+        | inr before ↦ subst (λ (t : T). P a t) (same_Some a b (sym found ∙ before.1)) (same a)
+      ],
+)
 
 -- what is so to the one is so to what is so to it, place by place
 pub each_then : {S T : Type 0} (P : S → T → Type 0) (Q : T → T → Type 0)
-    → ((x : S) (y z : T) → P x y → Q y z → P x z) → (xs : List S) (ys zs : List T) → length ys ≡ length xs
+    → ((x : S) (y z : T) → P x y → Q y z → P x z) → (xs : List S) (ys zs : List T)
     → AtEachPlace P xs ys → AtEachPlace Q ys zs → AtEachPlace P xs zs
-each_then {T = T} P Q goes xs ys zs even first second k x z found placed =
-    let y : T = get_or ys k z in
-    let there : slice_get ys k ≡ Some y =
-    slice_get-get_or ys k z (omega (arith, even, slice_get_within xs k x found)) in
-    goes x y z (first k x y found there) (second k y z there placed)
+each_then {T = T} P Q goes xs ys zs first second = (
+  second.0 ∙ first.0,
+  λ k x z found placed.
+      let y : T = get_or ys k z in
+      let there : slice_get ys k ≡ Some y =
+      slice_get-get_or ys k z (omega (arith, first.0, slice_get_within xs k x found)) in
+      goes x y z (first.1 k x y found there) (second.1 k y z there placed),
+)
 
 -- the seats before a place have closed their queues, and the others are as they were
 abbrev pub AreClosedTo : ℕ → List QueueSeat → List QueueSeat → Type 0
@@ -115,9 +145,12 @@ one_more_closed n before now s t are there closed k a b found placed =
 
 -- in the end all have
 pub all_closed : (n : ℕ) (before now : List QueueSeat) → AreClosedTo n before now → length before ≤ n
-    → AtEachPlace HasClosed before now
-all_closed n before now are most k s t found placed =
-    (are k s t found placed).0 (omega (arith, most, slice_get_within before k s found))
+    → length now ≡ length before → AtEachPlace HasClosed before now
+all_closed n before now are most even = (
+  even,
+  λ k s t found placed.
+      (are k s t found placed).0 (omega (arith, most, slice_get_within before k s found)),
+)
 
 module _ {A : Type 0} where
   -- the first seat of a new queue is one of it
@@ -147,38 +180,17 @@ module _ {A : Type 0} where
   pub seat_more : (queues : List (SharedQueue A)) (seats : List QueueSeat) (queue : SharedQueue A)
       (seat : QueueSeat) → AreSeats queues seats → length seats ≡ length queues → IsQueueSeat queue seat
       → AreSeats (queues ++ queue ∷ []) (seats ++ seat ∷ [])
-  seat_more queues seats queue seat are even own k other new found placed =
-      elim (at_last queues queue other k found) [
-        | inl there ↦ elim (at_last seats seat new k placed) [
-          | inl here ↦ are k other new there here
-          | inr last ↦ absurd (omega (arith, last.0, even, slice_get_within queues k other there))
-        ]
-        | inr last ↦ elim (at_last seats seat new k placed) [
-          | inl here ↦ absurd (omega (arith, last.0, even, slice_get_within seats k new here))
-          | inr end ↦
-              subst (λ (s : QueueSeat). IsQueueSeat other s) end.1
-              (subst (λ (q : SharedQueue A). IsQueueSeat q seat) last.1 own)
-        ]
-      ]
+  seat_more queues seats queue seat are even own =
+      pair_more (λ place other new. IsQueueSeat other new) queues seats queue seat even are own
 
   -- a new queue more, with its first seat
   pub new_more : (queues : List (SharedQueue A)) (seats : List QueueSeat) (queue : SharedQueue A)
-      (seat : QueueSeat) → AreNew queues seats → length seats ≡ length queues
-      → IsNewQueue queue (length queues) 0 seat → AreNew (queues ++ queue ∷ []) (seats ++ seat ∷ [])
-  new_more queues seats queue seat are even own k other new found placed =
-      elim (at_last queues queue other k found) [
-        | inl there ↦ elim (at_last seats seat new k placed) [
-          | inl here ↦ are k other new there here
-          | inr last ↦ absurd (omega (arith, last.0, even, slice_get_within queues k other there))
-        ]
-        | inr last ↦ elim (at_last seats seat new k placed) [
-          | inl here ↦ absurd (omega (arith, last.0, even, slice_get_within seats k new here))
-          | inr end ↦
-              subst (λ (n : ℕ). IsNewQueue other n 0 new) (sym last.0)
-              (subst (λ (s : QueueSeat). IsNewQueue other (length queues) 0 s) end.1
-              (subst (λ (q : SharedQueue A). IsNewQueue q (length queues) 0 seat) last.1 own))
-        ]
-      ]
+      (seat : QueueSeat) → AreNew queues seats → IsNewQueue queue (length queues) 0 seat
+      → AreNew (queues ++ queue ∷ []) (seats ++ seat ∷ [])
+  new_more queues seats queue seat are own = (
+    omega (arith, length-append queues (queue ∷ []), length-append seats (seat ∷ []), are.0),
+    pair_more (λ place other new. IsNewQueue other place 0 new) queues seats queue seat are.0 are.1 own,
+  )
 
   -- the last queue and its seat, and those before it
   pub seat_last : (queues : List (SharedQueue A)) (seats : List QueueSeat) (queue : SharedQueue A)

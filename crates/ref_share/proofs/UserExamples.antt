@@ -53,10 +53,13 @@ spent_and_back same = absurd cc
 -- ---- place by place
 
 each_is_one_more : AtEachPlace (λ x y. y ≡ x + 1) (1 ∷ 5 ∷ []) (2 ∷ 6 ∷ [])
-each_is_one_more k x y found placed = grind arith
+each_is_one_more = (refl, λ k x y found placed. grind arith)
 
 the_second_is_not : ¬ (AtEachPlace (λ x y. y ≡ x + 1) (1 ∷ 5 ∷ []) (2 ∷ 7 ∷ []))
-the_second_is_not are = absurd (omega (arith, are 1 5 7 refl refl))
+the_second_is_not are = absurd (omega (arith, are.1 1 5 7 refl refl))
+
+one_for_two : ¬ (AtEachPlace (λ x y. y ≡ x + 1) (1 ∷ 5 ∷ []) (2 ∷ []))
+one_for_two are = absurd (omega (arith, are.0))
 
 -- ---- one after the other
 

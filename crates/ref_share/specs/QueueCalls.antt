@@ -1,6 +1,6 @@
 -- What the calls of a shared queue answer, as calls that its seat has made (this project's profile).
-use Rattle.std.specs.Prelude.{◌≡◌, ℕ, ◌-◌, ◌^◌, ◌<◌, Bool, true, false, List, [], ◌∷◌, ◌++◌, replicate, Result, Ok, Err}
-use Rattle.std.specs.Prelude.{Option, Some, None, length, map}
+use Rattle.std.specs.Prelude.{◌≡◌, ℕ, suc, ◌-◌, ◌^◌, ◌<◌, Bool, true, false, List, [], ◌∷◌, ◌++◌, replicate}
+use Rattle.std.specs.Prelude.{Result, Ok, Err, Option, Some, None, length, map}
 use Rattle.ref_base.specs.declared.fault.Fault.{Fault}
 use Rattle.ref_base.specs.declared.fault.Fault.TheVariants.{WrongQueue, NoMemory, TurnsSpent, BadConfig}
 use Rattle.ref_base.specs.Outs.{Outs}
@@ -153,6 +153,10 @@ module _ (v : QueueView) where
   -- polls, all of them empty but the last
   abbrev pub PollsUntil : Result Polled ShareFault → QueueView → Type 0
   PollsUntil = PollsTo (λ k. Unit {0}) (λ w. ⊥)
+
+  -- polls, all of them empty but perhaps the last
+  abbrev pub PollsAWhile : Result Polled ShareFault → QueueView → Type 0
+  PollsAWhile = PollsTo (λ k. Unit {0}) (λ w. (k : ℕ) × Made v (empty_polls (suc k)) w)
 
   -- a close is one call, and tells whether the queue was open; or no turn is left
   abbrev pub ClosesQueue : Result Bool ShareFault → QueueView → Type 0

@@ -66,10 +66,11 @@ held_back (Err back) = Err (Held back.1 back.0)
 abbrev pub AreSeated : {A : Type 0} → List (SharedQueue A) → List QueueSeat → Type 0
 AreSeated queues seats = AreSeats queues seats × (length seats ≡ length queues)
 
--- what stands in two lists is so to each other, place by place
+-- two lists are of one length, and what stands in them is so to each other, place by place
 abbrev pub AtEachPlace : {S T : Type 0} → (S → T → Type 0) → List S → List T → Type 0
 AtEachPlace {S = S} {T = T} P xs ys =
-    (k : ℕ) (x : S) (y : T) → slice_get xs k ≡ Some x → slice_get ys k ≡ Some y → P x y
+    (length ys ≡ length xs)
+    × ((k : ℕ) (x : S) (y : T) → slice_get xs k ≡ Some x → slice_get ys k ≡ Some y → P x y)
 
 -- the one knows what the other does
 abbrev pub KnowsAsMuch : QueueSeat → QueueSeat → Type 0
@@ -86,8 +87,9 @@ HasClosed s t = (result : Result Bool ShareFault) × ClosesQueue (queue_view s) 
 -- each queue was just made, its number that of its place, with its first seat
 abbrev pub AreNew : {A : Type 0} → List (SharedQueue A) → List QueueSeat → Type 0
 AreNew {A = A} queues seats =
-    (k : ℕ) (queue : SharedQueue A) (seat : QueueSeat) → slice_get queues k ≡ Some queue
-    → slice_get seats k ≡ Some seat → IsNewQueue queue k 0 seat
+    (length seats ≡ length queues)
+    × ((k : ℕ) (queue : SharedQueue A) (seat : QueueSeat) → slice_get queues k ≡ Some queue
+    → slice_get seats k ≡ Some seat → IsNewQueue queue k 0 seat)
 
 -- ---- notices, one after the other
 

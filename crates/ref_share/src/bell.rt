@@ -2,6 +2,7 @@
 
 use std::sync::atomic::{AtomicUsize, Ordering};
 use std::sync::{Condvar, Mutex, Wait};
+use std::time::{Clock, Duration};
 use std::{hint, thread};
 
 // After the k-th of these polls a caller spins for 2^k pauses.
@@ -58,6 +59,15 @@ impl Bell {
         self.leave();
     }
 
+    // As `wait_past`, but for that long at most.
+    fn wait_past_for<R: Wait + Clock>(&self, rt: &R, heard: u64, limit: Duration) {
+        let (rings, _) = self
+            .rung
+            .wait_timeout_while(rt, self.rings.lock(rt), limit, |rings| *rings == heard);
+        drop(rings);
+        self.leave();
+    }
+
     /// Wakes one of those that listen. Where nobody does it costs one load.
     pub(crate) fn ring<R: Wait>(&self, rt: &R) {
         if self.listeners.load(Ordering::SeqCst) > 0 {
@@ -99,11 +109,28 @@ impl Caller<'_> {
 
     /// The waiter has polled, and nothing had come: it waits.
     pub(crate) fn wait<R: Wait>(&mut self, rt: &R) {
-        if let Some(heard) = self.heard.take() {
-            self.bell.wait_past(rt, heard);
-            self.round = 0;
-            return;
+        match self.heard.take() {
+            Some(heard) => {
+                self.bell.wait_past(rt, heard);
+                self.round = 0;
+            }
+            None => self.stay_awake(),
         }
+    }
+
+    /// As `wait`, but for that long at most.
+    pub(crate) fn wait_for<R: Wait + Clock>(&mut self, rt: &R, limit: Duration) {
+        match self.heard.take() {
+            Some(heard) => {
+                self.bell.wait_past_for(rt, heard, limit);
+                self.round = 0;
+            }
+            None => self.stay_awake(),
+        }
+    }
+
+    // A round awake, each longer than the one before.
+    fn stay_awake(&mut self) {
         if self.round < SPIN_ROUNDS {
             for _ in 0..1u32 << self.round {
                 hint::spin_loop();

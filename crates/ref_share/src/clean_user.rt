@@ -1,9 +1,9 @@
 //! What one thread uses a shared cleaner with.
 
-ghost use Rattle.std.specs.Prelude.{◌≡◌, Err};
+ghost use Rattle.std.specs.Prelude.{◌≡◌, ◌+◌, length, Err};
 ghost use Rattle.ref_base.specs.declared.fault.Fault.TheVariants.{NoSuchActor};
 ghost use Rattle.ref_share.specs.declared.answers.ShareFault.TheVariants.{Refused};
-ghost use Rattle.ref_turn.specs.Seats.{Begins};
+ghost use Rattle.ref_turn.specs.Seats.{Begins, Longer};
 ghost use Rattle.ref_share.specs.CleanLoops.{GoesRound, GoesOn};
 ghost use Rattle.ref_share.specs.CleanSeats.{clean_view, IsCleanSeat};
 ghost use Rattle.ref_share.specs.Cleanings.{CleansNow, IsOutside, LooksOnce, RegistersApart, Unregisters};
@@ -60,6 +60,15 @@ impl<'a, J: Task, A: Allocator + Copy> CleanUser<'a, J, A> {
         let cleaner = self.cleaner;
         let seat = cleaner.split(&mut self.seat);
         CleanUser { cleaner, seat }
+    }
+
+    /// How many turns of the cleaner have ended, as `served` tells, and the first ticket with them. Takes no turn.
+    pub fn served(&mut self) -> u64
+        ensures same { self.new ≡ record self.old { seat = self.new.seat } }
+        ensures longer { Longer (clean_view self.old.seat) (clean_view self.new.seat) }
+        ensures count { result ≡ (clean_view self.new.seat).first + length (clean_view self.new.seat).seen }
+    {
+        self.cleaner.served(&mut self.seat)
     }
 
     /// Its seat alone, as to end the cleaner by.

@@ -4,12 +4,12 @@ ghost use Rattle.std.specs.Prelude.{◌≡◌};
 ghost use Rattle.ref_share.specs.Cycles.{CyclesAlone, RunsCycles};
 ghost use Rattle.ref_share.specs.HeapSeats.{heap_view};
 ghost use Rattle.ref_share.specs.Users.{AtEachPlace, HasClosed};
+ghost use Rattle.ref_turn.specs.Seats.{Begins};
 
-use crate::{HeapUser, QueueUsers, ShareFault, cycle, end_batch};
+use crate::{HeapUser, QueueUsers, ShareFault, Stop, cycle, end_batch};
 use ref_base::{Batch, Fault, Urgency, WorkerNo};
 use std::alloc::{Allocator, Global};
 use std::sync::Wait;
-use std::sync::atomic::{AtomicU64, Ordering};
 use std::thread;
 use std::thread::Threads;
 
@@ -33,6 +33,8 @@ impl<'a, A: Allocator + Copy> Collector<'a, A> {
     ) -> Self
         ensures user { user.new ≡ record user.old { seat = user.new.seat } }
         ensures seat { heap_view user.new.seat ≡ heap_view user.old.seat }
+        ensures own { result.user ≡ record user.old { seat = result.user.seat } }
+        ensures begins { Begins (heap_view user.old.seat) (heap_view result.user.seat) }
         ensures queues { result.queues ≡ queues.entry }
         ensures worker { result.worker ≡ worker }
     {
@@ -48,6 +50,7 @@ impl<'a, A: Allocator + Copy> Collector<'a, A> {
     /// One whole cycle, as `cycle`. Its batch is made for it, and where a fault leaves notices in that, they are given
     /// up. `Refused(NoMemory)` where there is no memory for the batch: then nothing was done.
     pub fn cycle<R: Wait>(&mut self, rt: &R, now: u64, urgency: Urgency) -> Result<(), ShareFault>
+        ensures user { self.new.user ≡ record self.old.user { seat = self.new.user.seat } }
         ensures same { self.new.queues.queues ≡ self.old.queues.queues }
         ensures worker { self.new.worker ≡ self.old.worker }
         ensures cycles { CyclesAlone self.old.queues.queues self.old.worker now urgency
@@ -72,16 +75,17 @@ impl<'a, A: Allocator + Copy> Collector<'a, A> {
         answer
     }
 
-    /// Makes cycles, none of them urgent, until one began after `has_ended` was 1. The clock of the first is 0, and of
+    /// Makes cycles, none of them urgent, until one began after the stop was set. The clock of the first is 0, and of
     /// each that follows by one more. It ends with the first fault of a cycle.
-    pub fn run_cycles<R: Wait>(&mut self, rt: &R, has_ended: &AtomicU64) -> Result<(), Fault>
+    pub fn run_cycles<R: Wait>(&mut self, rt: &R, stop: &Stop) -> Result<(), Fault>
+        ensures user { self.new.user ≡ record self.old.user { seat = self.new.user.seat } }
         ensures same { self.new.queues.queues ≡ self.old.queues.queues }
         ensures worker { self.new.worker ≡ self.old.worker }
         ensures runs { RunsCycles self.old.queues.queues self.old.worker (heap_view self.old.user.seat)
             self.old.queues.seats result (heap_view self.new.user.seat) self.new.queues.seats }
     {
         for now in 0..u64::MAX {
-            let is_last = has_ended.load(Ordering::SeqCst) == 1;
+            let is_last = stop.is_set();
             if let Err(fault) = self.cycle(rt, now, Urgency::Normal) {
                 return Err(fault.into_fault());
             }
@@ -94,15 +98,20 @@ impl<'a, A: Allocator + Copy> Collector<'a, A> {
 
     /// Closes the queues that it tells, as `QueueUsers::close`.
     pub fn close<R: Wait>(&mut self, rt: &R)
+        ensures user { self.new.user ≡ self.old.user }
+        ensures worker { self.new.worker ≡ self.old.worker }
         ensures same { self.new.queues.queues ≡ self.old.queues.queues }
         ensures closes { AtEachPlace HasClosed self.old.queues.seats self.new.queues.seats }
     {
         self.queues.close(rt);
     }
+}
 
-    /// Runs the program in one thread and cycles in another, as `run_cycles`, until the program has ended. Then it
+impl Collector<'_> {
+    /// Runs the program, and in a thread of its own cycles, as `run_cycles`, until the program has ended. Then it
     /// closes the queues, so that who waits for them goes on. What the program answered, and how the cycles ended.
-    pub fn run_beside<R: Threads + Wait + Sync, F: FnOnce() -> T + Send, T: Send>(
+    /// Where no thread can be made, the cycle comes after the program.
+    pub fn run_beside<R: Threads + Wait + Sync, F: FnOnce() -> T, T>(
         self,
         rt: &R,
         program: F,
@@ -110,25 +119,51 @@ impl<'a, A: Allocator + Copy> Collector<'a, A> {
         requires { F.pre program }
         ensures { F.post program result.0 }
     {
-        let has_ended = AtomicU64::new(0);
-        thread::join(
+        let has_ended = Stop::new();
+        let (collected, ran) = thread::join(
             rt,
+            || -> Result<(), Fault> { self.run(rt, &has_ended) },
             || -> T
                 requires { F.pre program }
                 ensures { F.post program result }
             {
                 let ran = program();
-                has_ended.store(1, Ordering::SeqCst);
+                has_ended.set();
                 ran
             },
-            || -> Result<(), Fault> { self.run(rt, &has_ended) },
-        )
+        );
+        (ran, collected)
     }
 
-    // Makes cycles until the program has ended, and then closes the queues.
-    fn run<R: Wait>(self, rt: &R, has_ended: &AtomicU64) -> Result<(), Fault> {
+    /// Runs the program and cycles, as `run_beside`, and in a third thread the readers, which go on until the queues
+    /// are closed. What the program and the readers answered, and how the cycles ended. Where no thread can be made,
+    /// the readers come last.
+    pub fn run_with_readers<
+        R: Threads + Wait + Sync,
+        F: FnOnce() -> T,
+        G: FnOnce() -> U + Send,
+        T,
+        U: Send,
+    >(self, rt: &R, program: F, readers: G) -> (T, U, Result<(), Fault>)
+        requires { F.pre program × G.pre readers }
+        ensures program { F.post program result.0 }
+        ensures readers { G.post readers result.1 }
+    {
+        let (read, (ran, collected)) = thread::join(
+            rt,
+            readers,
+            || -> (T, Result<(), Fault>)
+                requires { F.pre program }
+                ensures { F.post program result.0 }
+            { self.run_beside(rt, program) },
+        );
+        (ran, read, collected)
+    }
+
+    // Makes cycles until the stop is set, and then closes the queues.
+    fn run<R: Wait>(self, rt: &R, stop: &Stop) -> Result<(), Fault> {
         let mut collector = self;
-        let ran = collector.run_cycles(rt, has_ended);
+        let ran = collector.run_cycles(rt, stop);
         collector.close(rt);
         ran
     }

@@ -1,9 +1,9 @@
 //! What one thread uses a shared heap with.
 
-ghost use Rattle.std.specs.Prelude.{◌≡◌, IfOk, IfErr, Ok, Err, true};
+ghost use Rattle.std.specs.Prelude.{◌≡◌, ◌+◌, length, IfOk, IfErr, Ok, Err, true};
 ghost use Rattle.ref_base.specs.declared.plain_step.PlainStep.TheVariants as steps;
 ghost use Rattle.ref_base.specs.declared.reply.Reply.TheVariants as replies;
-ghost use Rattle.ref_turn.specs.Seats.{Begins};
+ghost use Rattle.ref_turn.specs.Seats.{Begins, Longer};
 ghost use Rattle.ref_share.specs.HeapCalls.{Performs, HoldsSlot, Adopts, Releases};
 ghost use Rattle.ref_share.specs.HeapCalls.{may_answer, fills_a_slot, tells_nothing};
 ghost use Rattle.ref_share.specs.HeapSeats.{heap_view, IsHeapSeat};
@@ -76,8 +76,18 @@ impl<'a, A: Allocator + Copy> HeapUser<'a, A> {
         ensures same { self.new ≡ record self.old { seat = self.new.seat } }
         ensures seat { heap_view self.new.seat ≡ heap_view self.old.seat }
         ensures other { result ≡ record self.old { seat = result.seat } }
+        ensures begins { Begins (heap_view self.old.seat) (heap_view result.seat) }
     {
         self.split(self.mutator)
+    }
+
+    /// How many turns of the heap have ended, as `served` tells, and the first ticket with them. Takes no turn.
+    pub fn served(&mut self) -> u64
+        ensures same { self.new ≡ record self.old { seat = self.new.seat } }
+        ensures longer { Longer (heap_view self.old.seat) (heap_view self.new.seat) }
+        ensures count { result ≡ (heap_view self.new.seat).first + length (heap_view self.new.seat).seen }
+    {
+        self.heap.served(&mut self.seat)
     }
 
     /// Its seat alone, as to end the heap by.

@@ -36,6 +36,7 @@ mod shared_cleaner;
 mod shared_heap;
 mod shared_queue;
 mod task;
+mod waiting;
 
 pub use answers::{Cleanable, Cleaned, Delivery, Polled, ShareFault};
 pub use clean_loop::Gate;
@@ -59,5 +60,6 @@ pub use room::make_or_collect;
 pub use shared::{SeatFor, Shared};
 pub use shared_cleaner::{CleanSeat, SharedCleaner};
 pub use shared_heap::{HeapFrame, HeapSeat, SharedHeap};
-pub use shared_queue::{MOST_POLLS, QueueFrame, QueueSeat, SharedQueue};
+pub use shared_queue::{QueueFrame, QueueSeat, SharedQueue};
 pub use task::{Numbered, Task};
+pub use waiting::{MOST_POLLS, Stop};

@@ -1,20 +1,21 @@
 //! What one thread uses a shared queue with.
 
-ghost use Rattle.std.specs.Prelude.{◌≡◌, ◌<◌, ◌≤◌, ◌⊎◌, Err};
+ghost use Rattle.std.specs.Prelude.{◌≡◌, ◌+◌, ◌<◌, ◌≤◌, ◌⊎◌, length, Err};
 ghost use Rattle.ref_base.specs.declared.fault.Fault.TheVariants.{BadConfig};
 ghost use Rattle.ref_share.specs.declared.answers.ShareFault.TheVariants.{Refused};
-ghost use Rattle.ref_turn.specs.Seats.{Begins};
-ghost use Rattle.ref_share.specs.QueueCalls.{PollsNow, PollsOnce, PollsWithin, PollsUntil, ClosesQueue};
-ghost use Rattle.ref_share.specs.QueueCalls.{PollsBatchNow, HoldsTaken};
+ghost use Rattle.ref_turn.specs.Seats.{Begins, Longer};
+ghost use Rattle.ref_share.specs.QueueCalls.{PollsNow, PollsOnce, PollsWithin, PollsUntil, PollsAWhile};
+ghost use Rattle.ref_share.specs.QueueCalls.{PollsBatchNow, HoldsTaken, ClosesQueue};
 ghost use Rattle.ref_share.specs.QueueSeats.{queue_view, IsQueueSeat};
 
-use crate::{Polled, QueueSeat, ShareFault, SharedQueue};
+use crate::{Polled, QueueSeat, ShareFault, SharedQueue, Stop};
 use ref_base::{Batch, QueueNo};
 use ref_clear::Notice;
 use ref_queue::PolledBatch;
 use std::alloc::{Allocator, Global};
 use std::marker::Model;
 use std::sync::Wait;
+use std::time::{Clock, Duration};
 
 /// A shared queue, with the seat of one thread. In a clause it is these two.
 ///
@@ -56,6 +57,15 @@ impl<'a, A: Allocator + Copy> QueueUser<'a, A> {
         let queue = self.queue;
         let seat = queue.split(&mut self.seat);
         QueueUser { queue, seat }
+    }
+
+    /// How many turns of the queue have ended, as `served` tells, and the first ticket with them. Takes no turn.
+    pub fn served(&mut self) -> u64
+        ensures same { self.new ≡ record self.old { seat = self.new.seat } }
+        ensures longer { Longer (queue_view self.old.seat) (queue_view self.new.seat) }
+        ensures count { result ≡ (queue_view self.new.seat).first + length (queue_view self.new.seat).seen }
+    {
+        self.queue.served(&mut self.seat)
     }
 
     /// Its seat alone, as to end the queue by.
@@ -121,6 +131,31 @@ impl<'a, A: Allocator + Copy> QueueUser<'a, A> {
         ensures polls { PollsUntil (queue_view self.old.seat) result (queue_view self.new.seat) }
     {
         self.queue.remove_wait(rt, &mut self.seat)
+    }
+
+    /// Waits for that long at most, as `SharedQueue::remove_for`.
+    pub fn remove_for<R: Wait + Clock>(
+        &mut self,
+        rt: &R,
+        limit: Duration,
+    ) -> Result<Polled, ShareFault>
+        ensures same { self.new ≡ record self.old { seat = self.new.seat } }
+        ensures polls { PollsAWhile (queue_view self.old.seat) result (queue_view self.new.seat) }
+    {
+        self.queue.remove_for(rt, &mut self.seat, limit)
+    }
+
+    /// Waits unless the stop is set, as `SharedQueue::remove_unless`.
+    pub fn remove_unless<R: Wait>(&mut self, rt: &R, stop: &Stop) -> Result<Polled, ShareFault>
+        ensures same { self.new ≡ record self.old { seat = self.new.seat } }
+        ensures polls { PollsAWhile (queue_view self.old.seat) result (queue_view self.new.seat) }
+    {
+        self.queue.remove_unless(rt, &mut self.seat, stop)
+    }
+
+    /// Sets the stop and wakes those that wait unless it is set, as `SharedQueue::stop`.
+    pub fn stop<R: Wait>(&self, rt: &R, stop: &Stop) {
+        self.queue.stop(rt, stop);
     }
 
     /// Closes the queue, as `SharedQueue::close`.

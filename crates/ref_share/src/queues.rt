@@ -53,7 +53,7 @@ impl<A: Allocator + Copy> Queues<A> {
 
     // Adds as many new queues, where there is none.
     fn add_all(&mut self, count: u32) -> Result<(), Fault>
-        requires { self.old.queues ≡ [] }
+        requires { (self.old.queues ≡ []) × (self.old.seats ≡ []) }
         ensures count { IfOk result (λ _. length self.new.queues ≡ count) }
         ensures new { IfOk result (λ _. AreNew self.new.queues self.new.seats) }
         ensures err { OnErr result (result ≡ Err NoMemory) }

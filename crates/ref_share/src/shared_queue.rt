@@ -1,10 +1,9 @@
 //! The queue that threads share.
 
-ghost use Rattle.std.specs.Prelude.{◌≡◌, ◌<◌, ◌≤◌, ◌⊎◌, true, false, IfOk, IfErr, OnErr, Err};
-ghost use Rattle.ref_base.specs.declared.fault.Fault.TheVariants.{BadConfig, NoMemory};
-ghost use Rattle.ref_share.specs.declared.answers.ShareFault.TheVariants.{Refused, Busy};
+ghost use Rattle.std.specs.Prelude.{◌≡◌, true, false, IfOk, IfErr, OnErr, Err};
+ghost use Rattle.ref_base.specs.declared.fault.Fault.TheVariants.{NoMemory};
 ghost use Rattle.ref_share.specs.QueueSeats.{queue_view, IsQueueSeat, IsNewQueue, LeavesQueue};
-ghost use Rattle.ref_share.specs.QueueCalls.{PutsNotice, PollsNow, PollsWithin, PollsUntil, ClosesQueue};
+ghost use Rattle.ref_share.specs.QueueCalls.{PutsNotice, PollsNow, ClosesQueue};
 ghost use Rattle.ref_share.specs.QueueCalls.{ComesBack, IsPollAnswer, IsUnmade, PollsOnce, TellsPoll, refuses_put};
 ghost use Rattle.ref_share.specs.QueueCalls.{PutsBatch, PollsBatchNow, HoldsTaken, IsBatchUnmade, has_batch};
 ghost use Rattle.ref_queue.specs.QueueBatches.{left_by};
@@ -23,10 +22,6 @@ use ref_queue::{Polled as Answer, PolledBatch, Put, Queue};
 use ref_turn::{Turn, TurnFault};
 use std::alloc::{Allocator, Global};
 use std::sync::Wait;
-use std::thread;
-
-/// The most polls that `remove_within` may be asked for.
-pub const MOST_POLLS: u32 = 1_000_000;
 
 /// A queue that threads share: those that put notices in, and those that poll. Each call is one turn: one step of the
 /// queue. It must be ended by `finish`, since what stands in it must be.
@@ -184,59 +179,6 @@ impl<A: Allocator + Copy> SharedQueue<A> {
             Ok(Polled::Empty) => None,
             answer => Some(answer),
         }
-    }
-
-    /// Polls up to so many times, from 1 to 1,000,000, and answers `TimedOut` where nothing stood each time: a limit of
-    /// waiting counts polls. Tried in this order: `Refused(BadConfig)` where `polls` is outside its range,
-    /// `Refused(TurnsSpent)` where no turn is left. Never `Empty` or `Busy`. Takes no memory.
-    pub fn remove_within<R: Wait>(
-        &self,
-        rt: &R,
-        seat: &mut QueueSeat<A>,
-        polls: u32,
-    ) -> Result<Polled, ShareFault>
-        requires { IsQueueSeat self.now seat.old }
-        ensures seat { IsQueueSeat self.now seat.new }
-        ensures polls { 0 < polls → polls ≤ 1000000
-            → PollsWithin (queue_view seat.old) polls result (queue_view seat.new) }
-        ensures outside { (polls ≡ 0) ⊎ (1000000 < polls)
-            → (result ≡ Err (Refused BadConfig)) × (queue_view seat.new ≡ queue_view seat.old) }
-    {
-        if polls == 0 || polls > MOST_POLLS {
-            return Err(ShareFault::Refused(Fault::BadConfig));
-        }
-        for _ in 0..polls {
-            if let Some(answer) = self.poll(rt, seat) {
-                return answer;
-            }
-            thread::yield_now();
-        }
-        Ok(Polled::TimedOut)
-    }
-
-    /// Polls until something stands, or the queue is closed and nothing does; after some polls in vain it sleeps until
-    /// something may have come. It may never return. `Refused(TurnsSpent)` where no turn is left. Takes no memory.
-    ///
-    /// As `ReferenceQueue.remove` of Java SE 17, but that it tells a closed queue.
-    pub fn remove_wait<R: Wait>(
-        &self,
-        rt: &R,
-        seat: &mut QueueSeat<A>,
-    ) -> Result<Polled, ShareFault>
-        requires { IsQueueSeat self.now seat.old }
-        ensures seat { IsQueueSeat self.now seat.new }
-        ensures polls { PollsUntil (queue_view seat.old) result (queue_view seat.new) }
-    {
-        let mut caller = self.frame.bell.caller();
-        for _ in rt.forever() {
-            caller.begin_poll(rt);
-            if let Some(answer) = self.poll(rt, seat) {
-                caller.leave();
-                return answer;
-            }
-            caller.wait(rt);
-        }
-        unreachable!()
     }
 
     /// Closes the queue: no put adds anything from now on. True exactly where it was open. `Refused(TurnsSpent)` where

@@ -2,7 +2,6 @@
 
 use ref_queue::Ran;
 use ref_share::Gate;
-use std::sync::atomic::{AtomicU64, Ordering};
 use std::{env, fs, io};
 
 /// A folder with a file for each number, with the handle of the system by which they are made and removed.
@@ -10,7 +9,6 @@ use std::{env, fs, io};
 pub struct Folder<'a> {
     files: &'a HostRuntime,
     path: String,
-    removed: AtomicU64,
 }
 
 impl<'a> Folder<'a> {
@@ -23,16 +21,9 @@ impl<'a> Folder<'a> {
                 temporary.display()
             )?;
             match fs::create_dir(files, path.as_str()) {
+                Ok(()) => return Ok(Folder { files, path }),
                 Err(fault) if fault.kind() == io::ErrorKind::AlreadyExists => {}
-                made => {
-                    made?;
-                    let removed = AtomicU64::new(0);
-                    return Ok(Folder {
-                        files,
-                        path,
-                        removed,
-                    });
-                }
+                Err(fault) => return Err(fault),
             }
         }
         Err(io::Error::from(io::ErrorKind::AlreadyExists))
@@ -40,13 +31,7 @@ impl<'a> Folder<'a> {
 
     /// Writes the file of this number.
     pub fn write(&self, number: u64) -> io::Result<()> {
-        let path = self.path_of(number)?;
-        fs::write(self.files, path.as_str(), path.as_bytes())
-    }
-
-    /// How many files were removed.
-    pub fn removed(&self) -> u64 {
-        self.removed.load(Ordering::SeqCst)
+        fs::write(self.files, self.path_of(number)?.as_str(), b"in use")
     }
 
     /// Removes the folder, which must be empty.
@@ -57,20 +42,15 @@ impl<'a> Folder<'a> {
     fn path_of(&self, number: u64) -> io::Result<String> {
         Ok(format!(in self.files.alloc(); "{}/{number}", self.path)?)
     }
-
-    fn remove(&self, number: u64) -> io::Result<()> {
-        let path = self.path_of(number)?;
-        fs::remove_file(self.files, path.as_str())
-    }
 }
 
-/// The file of each task that is run is removed.
+/// The file of each task that is run is removed. One that can't be is told by the end of the folder, which isn't empty.
 impl Gate for Folder<'_> {
     fn before(&self, _number: u64) {}
 
     fn after(&self, ran: Ran) {
-        if self.remove(ran.number).is_ok() {
-            self.removed.fetch_add(1, Ordering::SeqCst);
+        if let Ok(path) = self.path_of(ran.number) {
+            let _ = fs::remove_file(self.files, path.as_str());
         }
     }
 }

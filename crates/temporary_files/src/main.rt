@@ -1,5 +1,5 @@
 //! Temporary files that are removed once their objects are gone. Two threads make files, and register a task for each
-//! with one cleaner; a third thread removes the files of dead objects, and the program's end the others.
+//! with one cleaner; a third thread removes the files of dead objects, and the cleaner's end the others.
 //!
 //! A task is a number alone. The gate, which has a handle of the system and is told of each task that is run, removes
 //! the file of that number. It prints the same in every run.
@@ -45,44 +45,32 @@ impl From<ShareFault> for Failure {
 fn main(rt: HostRuntime) -> Result<(), Error> {
     let alloc = rt.alloc();
     let folder = Folder::new(&rt)?;
-    let (heap, seat) = SharedHeap::new(alloc, Config::default().mutators(3), 0)?;
-    let user = HeapUser::new(&heap, seat, MutNo(0));
-    let (cleaner, mut last) = SharedCleaner::new(alloc, QUEUE)?;
-    let clean = CleanUser::new(&cleaner, cleaner.split(&mut last));
-    let ran = with_queue(&rt, alloc, user, clean, &folder);
-    let by_thread = folder.removed();
-    run_tasks_left(cleaner.finish(last), &folder);
-    ran?;
-    println!(rt; "{by_thread} files were removed by the cleaner's thread")?;
-    println!(rt; "{} were removed by the end", folder.removed())?;
+    let mut queues = Queues::new(alloc, 1)?;
+    let removed = use_files(&rt, alloc, &folder, &mut queues);
+    queues.end();
+    println!(rt; "{} files were removed by the cleaner's thread", removed?)?;
     folder.end()?;
     println!(rt; "none is left")?;
     Ok(())
 }
 
-/// Makes the queue by which the cleaner learns what is gone, runs the threads, and ends it.
-fn with_queue<R: Threads + Wait + Sync>(
+/// Makes the heap and the cleaner, runs the threads, and ends the cleaner. How many files the cleaner's thread removed.
+fn use_files<R: Threads + Wait + Sync>(
     rt: &R,
     alloc: Global,
-    user: HeapUser,
-    clean: CleanUser<Numbered>,
     folder: &Folder,
-) -> Result<(), Failure> {
-    let mut queues = Queues::new(alloc, 1)?;
-    let ran = run(rt, alloc, user, clean, folder, &mut queues);
-    queues.end();
-    ran
+    queues: &mut Queues,
+) -> Result<u64, Failure> {
+    let (heap, seat) = SharedHeap::new(alloc, Config::default().mutators(3), 0)?;
+    let (cleaner, mut last) = SharedCleaner::new(alloc, QUEUE)?;
+    let user = HeapUser::new(&heap, seat, MutNo(0));
+    let clean = CleanUser::new(&cleaner, cleaner.split(&mut last));
+    let removed = run(rt, alloc, user, clean, &*folder, &mut *queues);
+    run_tasks_left(cleaner.finish(last), folder);
+    removed
 }
 
-/// A thread that registers files, or removes them.
-#[derive(Drop)]
-struct Hand<'a> {
-    heap: HeapUser<'a>,
-    clean: CleanUser<'a, Numbered>,
-    folder: &'a Folder<'a>,
-}
-
-/// Runs the two makers, the collector, and the thread that removes files to their ends.
+/// Makes what each thread uses, and runs them to their ends. How many files the remover removed.
 fn run<'x, R: Threads + Wait + Sync>(
     rt: &R,
     alloc: Global,
@@ -90,7 +78,7 @@ fn run<'x, R: Threads + Wait + Sync>(
     mut clean: CleanUser<'x, Numbered>,
     folder: &'x Folder<'x>,
     queues: &'x mut Queues,
-) -> Result<(), Failure> {
+) -> Result<u64, Failure> {
     let mut told = queues.users()?;
     let queue = told.user(QUEUE)?;
     let collector = Collector::new(alloc, &mut heap, told, WorkerNo(0));
@@ -109,38 +97,36 @@ fn run<'x, R: Threads + Wait + Sync>(
         clean,
         folder,
     };
-    let (removed, made) = thread::join(
+    let ((first, second), removed, collected) = collector.run_with_readers(
         rt,
-        || -> Result<(), Failure> { remover.remove_dead(rt, queue) },
-        || -> Result<(), Failure> { make_beside(rt, collector, left, right) },
+        || -> (Result<(), Failure>, Result<(), Failure>) { make_both(rt, left, right) },
+        || -> Result<u64, Failure> { remover.remove_dead(rt, queue) },
     );
-    removed?;
-    made
-}
-
-/// The makers, and the collector beside them, which closes the queue once they have ended.
-fn make_beside<R: Threads + Wait + Sync>(
-    rt: &R,
-    collector: Collector,
-    left: Hand,
-    right: Hand,
-) -> Result<(), Failure> {
-    let (made, collected) = collector.run_beside(rt, || -> Result<(), Failure> {
-        make_both(rt, left, right)
-    });
+    first?;
+    second?;
     collected?;
-    made
+    removed
 }
 
 /// The two makers, each in a thread.
-fn make_both<R: Threads + Wait + Sync>(rt: &R, left: Hand, right: Hand) -> Result<(), Failure> {
-    let (first, second) = thread::join(
+fn make_both<R: Threads + Wait + Sync>(
+    rt: &R,
+    left: Hand,
+    right: Hand,
+) -> (Result<(), Failure>, Result<(), Failure>) {
+    thread::join(
         rt,
         || -> Result<(), Failure> { left.make(rt, 0) },
         || -> Result<(), Failure> { right.make(rt, FILES) },
-    );
-    first?;
-    second
+    )
+}
+
+/// A thread that makes files, or removes them.
+#[derive(Drop)]
+struct Hand<'a> {
+    heap: HeapUser<'a>,
+    clean: CleanUser<'a, Numbered>,
+    folder: &'a Folder<'a>,
 }
 
 impl Hand<'_> {
@@ -153,27 +139,26 @@ impl Hand<'_> {
         } = self;
         for slot in 0..FILES {
             let number = u64::from(first) + u64::from(slot);
+            let (source, task) = (SlotNo(slot), Numbered(number));
             folder.write(number)?;
-            heap.make(rt, SlotNo(slot), 0)?;
-            let task = Numbered(number);
-            if let Err((fault, _task)) = clean.register(rt, &mut heap, SlotNo(slot), EMPTY, task) {
+            heap.make(rt, source, 0)?;
+            if let Err((fault, _task)) = clean.register(rt, &mut heap, source, EMPTY, task) {
                 return Err(fault.into());
             }
             if slot % 2 == 0 {
-                heap.empty(rt, SlotNo(slot))?;
+                heap.empty(rt, source)?;
             }
         }
         Ok(())
     }
 
-    /// Removes the files of dead objects, until the queue is closed.
-    fn remove_dead<R: Wait>(self, rt: &R, mut queue: QueueUser) -> Result<(), Failure> {
+    /// Removes the files of dead objects, until the queue is closed. How many these were.
+    fn remove_dead<R: Wait>(self, rt: &R, mut queue: QueueUser) -> Result<u64, Failure> {
         let Hand {
             mut heap,
             mut clean,
             folder,
         } = self;
-        clean.clean_loop(rt, &mut heap, &mut queue, folder)?;
-        Ok(())
+        Ok(clean.clean_loop(rt, &mut heap, &mut queue, folder)?)
     }
 }

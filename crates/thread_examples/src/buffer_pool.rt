@@ -99,7 +99,8 @@ fn with_queues<R: Threads + Wait + Sync>(
     counts
 }
 
-/// The program takes the buffers, and then the three threads run to their ends.
+/// The program takes the buffers, and then the three threads run to their ends: the collector goes on until the program
+/// has ended, and then closes the queues.
 fn run<'x, R: Threads + Wait + Sync>(
     rt: &R,
     alloc: Global,
@@ -118,29 +119,18 @@ fn run<'x, R: Threads + Wait + Sync>(
         clean,
         queue: cleaned,
     };
-    let (worked, by_worker) = thread::join(
+    let ((let_go, collected), by_worker) = thread::join(
         rt,
-        || -> Result<(), Fault> { let_go_beside(rt, collector, heap) },
+        || -> (Result<(), Fault>, Result<(), Fault>) {
+            collector.run_beside(rt, || -> Result<(), Fault> { let_go(rt, heap) })
+        },
         || -> Result<u64, Fault> { worker.run(rt) },
     );
-    worked?;
+    let_go?;
+    collected?;
     Ok(Counts {
         by_program,
         by_worker: by_worker?,
         told: count_losses(rt, &mut lost),
     })
-}
-
-/// The program and the collector, each in a thread. The collector goes on until the program has ended, and then closes
-/// the queues.
-fn let_go_beside<R: Threads + Wait + Sync>(
-    rt: &R,
-    collector: Collector,
-    heap: HeapUser,
-) -> Result<(), Fault> {
-    let (let_go, collected) = collector.run_beside(rt, || -> Result<(), Fault> {
-        let_go(rt, heap)
-    });
-    let_go?;
-    collected
 }

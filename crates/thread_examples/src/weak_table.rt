@@ -47,7 +47,8 @@ pub fn example<R: Threads + Wait + Print + Sync>(
     Ok(())
 }
 
-/// Runs the program, the collector, and a cleaner for each queue.
+/// Runs the program, the collector, and a cleaner for each queue. The collector goes on until the program has ended,
+/// and then closes the queues.
 fn fill_and_clean<'x, R: Threads + Wait + Sync>(
     rt: &R,
     alloc: Global,
@@ -68,13 +69,15 @@ fn fill_and_clean<'x, R: Threads + Wait + Sync>(
         table,
     };
     let program = Keeper { heap, table };
-    let (cleaned, worked) = thread::join(
+    let (filled, (first, second), collected) = collector.run_with_readers(
         rt,
-        || -> Result<(), Fault> { clean_both(rt, left, lower, right, upper) },
-        || -> Result<(), Fault> { fill_beside(rt, collector, program) },
+        || -> Result<(), Fault> { program.fill(rt) },
+        || -> (Result<(), Fault>, Result<(), Fault>) { clean_both(rt, left, lower, right, upper) },
     );
-    cleaned?;
-    worked
+    filled?;
+    first?;
+    second?;
+    collected
 }
 
 /// The two cleaners, each in a thread.
@@ -84,28 +87,12 @@ fn clean_both<R: Threads + Wait + Sync>(
     lower: QueueUser,
     right: Keeper,
     upper: QueueUser,
-) -> Result<(), Fault> {
-    let (first, second) = thread::join(
+) -> (Result<(), Fault>, Result<(), Fault>) {
+    thread::join(
         rt,
         || -> Result<(), Fault> { left.clean(rt, lower) },
         || -> Result<(), Fault> { right.clean(rt, upper) },
-    );
-    first?;
-    second
-}
-
-/// The program and the collector, each in a thread. The collector goes on until the program has ended, and then closes
-/// the queues.
-fn fill_beside<R: Threads + Wait + Sync>(
-    rt: &R,
-    collector: Collector,
-    program: Keeper,
-) -> Result<(), Fault> {
-    let (filled, collected) = collector.run_beside(rt, || -> Result<(), Fault> {
-        program.fill(rt)
-    });
-    filled?;
-    collected
+    )
 }
 
 impl Keeper<'_> {

@@ -30,6 +30,8 @@ pub mod rows;
 mod stories;
 mod threads;
 pub mod told;
+mod users;
+mod waiting;
 
 /// One mutator, one worker, one queue, 8 cells, and a span of 10.
 pub const CONFIG: Config = Config {

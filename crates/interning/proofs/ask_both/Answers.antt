@@ -1,7 +1,5 @@
-use denote.Param.Send.{sendable}
-use Rattle.std.proofs.Crossing.{crosses}
-use Rattle.interning.proofs.Crossing.{asker_send}
+use Rattle.ref_share.proofs.Crossing.{crossing}
 use Rattle.interning.proofs.ask_both.Goals as goal
 
-pub join-first-requires-send-F : goal.join-first-requires-send-F
-join-first-requires-send-F g c κs within = search (asker_send, crosses, sendable) depth 60 fits 20000
+pub join-requires-send-F : goal.join-requires-send-F
+join-requires-send-F g c κs within = search crossing depth 60 fits 20000

@@ -1,8 +1,6 @@
-use denote.Param.Send.{sendable}
-use Rattle.std.proofs.Crossing.{crosses}
-use Rattle.ref_share.proofs.Crossing.{shared}
+use Rattle.ref_share.proofs.Crossing.{crossing}
 use Rattle.temporary_files.proofs.Crossing.{hand_send}
 use Rattle.temporary_files.proofs.run.Goals as goal
 
-pub join-removed-requires-send-F : goal.join-removed-requires-send-F
-join-removed-requires-send-F g c κs within = search (hand_send, shared, crosses, sendable) depth 60 fits 20000
+pub run_with_readers-removed-requires-send-G : goal.run_with_readers-removed-requires-send-G
+run_with_readers-removed-requires-send-G g c κs within = search (hand_send, crossing) depth 60 fits 20000

@@ -12,7 +12,7 @@ use super::{CONFIG, DEATH, M, Q, STARTS, Seats, make_calls, new_batch, start};
 use rationed::Rationed;
 use ref_base::{Fault, SlotNo};
 use ref_queue::Job;
-use ref_share::{SharedCleaner, SharedHeap, SharedQueue, end_queue, run_jobs_left};
+use ref_share::{Queues, SharedCleaner, SharedHeap, SharedQueue, end_queue, run_jobs_left};
 use std::alloc::{Allocator, Global};
 use std::process::Abort;
 use std::sync::Wait;
@@ -29,16 +29,22 @@ enum Made {
     QueueLater,
     Cleaner,
     CleanerLater,
+    Queues,
+    Users,
+    MoreUsers,
 }
 
 /// Each of them, and what it is called.
-const EACH: [(&str, Made); 6] = [
+const EACH: [(&str, Made); 9] = [
     ("SharedHeap::new", Made::Heap),
     ("SharedHeap::starting", Made::HeapLater),
     ("SharedQueue::new", Made::Queue),
     ("SharedQueue::starting", Made::QueueLater),
     ("SharedCleaner::new", Made::Cleaner),
     ("SharedCleaner::starting", Made::CleanerLater),
+    ("Queues::new", Made::Queues),
+    ("Queues::users", Made::Users),
+    ("QueueUsers::split", Made::MoreUsers),
 ];
 
 /// Makes it, and ends it again.
@@ -62,6 +68,22 @@ fn make<A: Allocator + Copy>(alloc: A, made: Made) -> Result<(), Fault> {
             let (cleaner, seat) = SharedCleaner::starting(alloc, Q, 7)?;
             run_jobs_left(cleaner.finish(seat), &());
         }
+        Made::Queues => Queues::new(alloc, 3)?.end(),
+        Made::Users | Made::MoreUsers => {
+            let mut queues = Queues::new(alloc, 3)?;
+            let shared = share(alloc, &mut queues, made);
+            queues.end();
+            return shared;
+        }
+    }
+    Ok(())
+}
+
+/// Makes users of the queues, and more of them if that is asked for.
+fn share<A: Allocator + Copy>(alloc: A, queues: &mut Queues<A>, made: Made) -> Result<(), Fault> {
+    let mut users = queues.users()?;
+    if let Made::MoreUsers = made {
+        drop(users.split(alloc)?);
     }
     Ok(())
 }

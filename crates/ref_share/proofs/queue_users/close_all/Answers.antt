@@ -20,4 +20,4 @@ loop-place-preserved g c =
 pub returns-clause-close : goal.returns-clause-close
 returns-clause-close g c =
     all_closed c.loop-place.place c.args.seats.now c.loop-place.seats c.loop-place.invariant.1
-    (omega (arith, c.loop-place-test.false, c.requires.1))
+    (omega (arith, c.loop-place-test.false, c.requires.1)) (omega (arith, c.loop-place.invariant.0.1, c.requires.1))

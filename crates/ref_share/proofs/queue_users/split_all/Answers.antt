@@ -14,7 +14,7 @@ loop-place-preserved g c =
     let more = c.loop-place.more.items in
     let seat = c.split_at.result in
     let know = each_then KnowsAsMuch KnowsAsMuch (λ x y z first second. second ∙ first) before now c.split_at.new.seats
-    (omega (arith, so_far.0.1, c.requires.seats.1)) so_far.1 c.split_at.ensures.know in
+    so_far.1 c.split_at.ensures.know in
     let own = place_more IsQueueSeat c.args.queues.now more seat so_far.3.0
     (λ queue at. c.split_at.ensures.own queue
     (subst (λ i. slice_get c.args.queues.now i ≡ Some queue) so_far.2.0 at)) in
@@ -22,7 +22,7 @@ loop-place-preserved g c =
     (λ old at. elim (slice_get_cases now c.loop-place.place).1 [
       | inl has ↦
           let there = subst (λ i. slice_get before i ≡ Some old) so_far.2.0 at in
-          subst (λ v. Begins v (queue_view seat)) (so_far.1 c.loop-place.place old has.0 there has.2)
+          subst (λ v. Begins v (queue_view seat)) (so_far.1.1 c.loop-place.place old has.0 there has.2)
           (c.split_at.ensures.begins has.0 has.2)
       | inr past ↦ absurd (omega (arith, past.0, c.loop-place-test.true, so_far.0.1))
     ]) in

@@ -1,6 +1,6 @@
 use Rattle.ref_share.proofs.Common.{◌∙◌, ◌+◌, Ok, Err, arith, heap_view}
 use Rattle.ref_share.specs.Cycles.{CyclesAt}
-use Rattle.ref_share.proofs.CountedCycles.{by_the_same, repeats_once_more}
+use Rattle.ref_share.proofs.CountedCycles.{by_the_same, only_the_seat, repeats_once_more}
 use Rattle.ref_share.proofs.collector.Collector.run_cycles.Goals as goal
 
 pub loop-now-preserved : goal.loop-now-preserved
@@ -17,7 +17,18 @@ loop-now-preserved g c =
       repeats_once_more (CyclesAt first.queues.queues first.worker) c.loop-now.now
           (heap_view first.user.seat, first.queues.seats) (heap_view before.user.seat, before.queues.seats)
           (heap_view after.user.seat, after.queues.seats) so_far.2 step,
+      only_the_seat first.user before.user after.user so_far.3 c.in_default.ensures.user,
     )
+
+pub returns-then-is_last-clause-user : goal.returns-then-is_last-clause-user
+returns-then-is_last-clause-user g c =
+    only_the_seat c.args.self.now.user c.loop-now.self.user c.cycle.new.self.user c.loop-now.invariant.3
+    c.in_default.ensures.user
+
+pub returns-in-Err-clause-user : goal.returns-in-Err-clause-user
+returns-in-Err-clause-user g c =
+    only_the_seat c.args.self.now.user c.loop-now.self.user c.cycle.new.self.user c.loop-now.invariant.3
+    c.in-Err.ensures.user
 
 pub returns-then-is_last-clause-runs : goal.returns-then-is_last-clause-runs
 returns-then-is_last-clause-runs g c =

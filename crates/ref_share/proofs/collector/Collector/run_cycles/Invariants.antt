@@ -8,3 +8,4 @@ invariant-loop-now g l =
     (l.self.queues.queues ≡ first.queues.queues) × (l.self.worker ≡ first.worker)
     × CountedRepeats (CyclesAt first.queues.queues first.worker) l.now
     (heap_view first.user.seat, first.queues.seats) (heap_view l.self.user.seat, l.self.queues.seats)
+    × (l.self.user ≡ record first.user { seat = l.self.user.seat })

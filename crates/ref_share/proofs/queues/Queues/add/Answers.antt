@@ -46,7 +46,7 @@ returns-clause-new g c =
     let count : length queues ≡ c.args.number =
     subst (λ q. length q.queues ≡ c.args.number) (sym c.self.view_is) c.requires.number in
     let more : AreNew (queues ++ queue ∷ []) (seats ++ seat ∷ []) =
-    new_more queues seats queue seat old c.self.invariant.1
+    new_more queues seats queue seat old
     (subst (λ n. IsNewQueue queue n 0 seat) (sym count) c.in_ok-queue.ensures.made) in
     rw (
       c.push_reserved.ensures.items,

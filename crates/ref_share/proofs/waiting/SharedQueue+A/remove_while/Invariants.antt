@@ -1,5 +1,5 @@
 use Rattle.ref_share.proofs.Common.{ℕ, empty_polls, queue_view, IsQueueSeat, Made}
-use Rattle.ref_share.proofs.shared_queue.SharedQueue+A.remove_wait.Given as goal
+use Rattle.ref_share.proofs.waiting.SharedQueue+A.remove_while.Given as goal
 
 abbrev pub invariant-loop : goal.invariant-loop
 invariant-loop g l =

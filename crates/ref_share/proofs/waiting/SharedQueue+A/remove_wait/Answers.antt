@@ -1,6 +1,6 @@
 use Rattle.ref_share.proofs.Common.{suc, queue_view}
 use Rattle.ref_share.proofs.Polls.{made_none, one_more_empty}
-use Rattle.ref_share.proofs.shared_queue.SharedQueue+A.remove_wait.Goals as goal
+use Rattle.ref_share.proofs.waiting.SharedQueue+A.remove_wait.Goals as goal
 
 pub loop-init : goal.loop-init
 loop-init g c = (c.requires, (0, made_none (queue_view c.args.seat.now)))
