@@ -137,7 +137,7 @@ fn run_threads<'x, R: Threads + Wait + Sync>(
         || -> Result<(), Fault> { remove_dead(rt, heap, queue, entries) },
     );
     removed?;
-    collected?;
+    collected.ended?;
     Ok((first?, second?))
 }
 

@@ -29,7 +29,9 @@ use Rattle.ref_share.specs.contracts.clean_machine.CleanMachineMachine.TheImpl a
 use Rattle.ref_share.specs.contracts.clean_machine.CleanReply.{the_row as clean_reply}
 use Rattle.ref_share.specs.contracts.clean_machine.CleanStep.{the_row as clean_step}
 use Rattle.ref_share.specs.contracts.clean_user.CleanUser.{the_row as clean_user}
+use Rattle.ref_share.specs.contracts.collector.Collected.{the_row as collected}
 use Rattle.ref_share.specs.contracts.collector.Collector.{the_row as collector}
+use Rattle.ref_share.specs.contracts.collector.Own.{the_row as own_row}
 use Rattle.ref_share.specs.contracts.heap_user.HeapUser.{the_row as heap_user}
 use Rattle.ref_share.specs.contracts.queue_user.QueueUser.{the_row as queue_user}
 use Rattle.ref_share.specs.contracts.queue_users.QueueUsers.{the_row as queue_users}
@@ -131,6 +133,13 @@ pub collector_send : (κ : NamedLft) → IsSend (collector κ the_row ghosts (cl
 collector_send κ =
     search (heap_user_send, queue_users_send, global_send, crosses, sendable) depth 60 fits 20000
 
+pub collected_send : (κ : NamedLft) → IsSend (collected κ)
+collected_send κ =
+    search (heap_user_send, queue_users_send, collector_send, global_send, crosses, sendable) depth 60 fits 20000
+
+pub own_send : IsSend own_row
+own_send = search (heap_seat_send, queue_seat_send, global_send, crosses, sendable) depth 60 fits 20000
+
 -- ---- a table by numbers of objects, behind a lock
 
 module _ (V : RattleType) (o : ord.Ghosts object_row.Denot) (e : eq.Ghosts object_row.Denot)
@@ -153,6 +162,7 @@ pub ruleset shared = (
   clean_user_send,
   stop_sync,
   collector_send,
+  collected_send,
   table_sync,
 )
 

@@ -1,7 +1,7 @@
 -- What a whole cycle may have called, and what not, with two queues: nothing is dead, so that each kind of work is
 -- asked for once and answers nothing.
 use Rattle.ref_share.proofs.Common.{◌≡◌, ℕ, List, [], ◌∷◌, ◌++◌, length, map, Option, Ok, Err, inl, inr, refl, ap}
-use Rattle.ref_share.proofs.Common.{arith}
+use Rattle.ref_share.proofs.Common.{arith, zero, suc}
 use Rattle.ref_share.proofs.Common.{length-append, ClearHeap, Idle, entry, Busy, HeapView, HeapEntry}
 use Rattle.ref_share.proofs.Common.{QueueSeat, SharedQueue, Reply}
 use Rattle.ref_base.specs.declared.fault.Fault.TheVariants.{GreyLeft, NoCell, NoMemory, WrongPhase}
@@ -12,6 +12,7 @@ use Rattle.ref_base.specs.declared.reply.Reply.TheVariants as told
 use Rattle.ref_base.specs.declared.urgency.Urgency.TheVariants.{Normal, Urgent}
 use Rattle.ref_world.specs.declared.heap_machine.HeapReply.TheVariants as replies
 use Rattle.ref_share.specs.Cycles.{HasMore, IsLast, GoesThrough, IsBegun, MarksAndClears, Cycles, CyclesAlone}
+use Rattle.ref_share.specs.Cycles.{RunsCycles}
 use Rattle.ref_share.specs.Deliveries.{DeliversAll}
 use Rattle.ref_share.specs.WantsOfRoom.{Does, DoesUnlessFull, DoesAfter}
 use Rattle.ref_share.specs.declared.answers.ShareFault.TheVariants.{Refused}
@@ -151,10 +152,10 @@ module _ {A : Type 0} (start : Option ClearHeap) (queues : List (SharedQueue A))
   no_memory_and_no_call = inr (refl, refl, refl)
 
   -- promise: Collector::cycle: a cycle that ended was begun
-  ended_and_never_begun : (w : HeapView) (after : List QueueSeat)
-      → CyclesAlone queues 0 5 Normal (seat []) seats (Ok tt) w after
-      → ¬ ((u : HeapView) → ¬ (IsBegun 5 Normal (seat []) (Ok tt) u))
-  ended_and_never_begun w after cycles never =
+  ended_and_never_begun : (now : ℕ) (v w : HeapView) (from after : List QueueSeat)
+      → CyclesAlone queues 0 now Normal v from (Ok tt) w after
+      → ¬ ((u : HeapView) → ¬ (IsBegun now Normal v (Ok tt) u))
+  ended_and_never_begun now v w from after cycles never =
       elim cycles [
         | inl is ↦ elim is.1 [
           | inl begun ↦ elim begun.1.0 [
@@ -165,6 +166,14 @@ module _ {A : Type 0} (start : Option ClearHeap) (queues : List (SharedQueue A))
         ]
         | inr none ↦ let not = none.0 in absurd cc
       ]
+
+  -- promise: Collector::run_cycles, Collector::run_beside: the last of the cycles that were run was begun
+  ran_and_none_was_begun : (w : HeapView) (after : List QueueSeat)
+      → RunsCycles queues 0 (seat []) seats (Ok tt) w after
+      → ¬ ((now : ℕ) (v u : HeapView) → ¬ (IsBegun now Normal v (Ok tt) u))
+  ran_and_none_was_begun w after (zero, some, are) never = absurd (omega (arith, some))
+  ran_and_none_was_begun w after (suc now, some, are) never =
+      ended_and_never_begun now are.0.0 w are.0.1 after are.2 (never now are.0.0)
 
   -- promise: cycle: a cycle that never begins is none
   never_begun : ¬ (IsBegun 5 Normal (seat []) (Ok tt) (seat []))

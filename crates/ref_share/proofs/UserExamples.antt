@@ -1,16 +1,20 @@
 -- What users of shared things may be told, and what not.
-use Rattle.ref_share.proofs.Common.{◌≡◌, ◌+◌, [], ◌∷◌, Some, None, Ok, Err, true, false, refl, arith}
-use Rattle.ref_share.proofs.Common.{HeldNotice, Took}
-use Rattle.ref_base.specs.declared.fault.Fault.TheVariants.{NoCell}
+use Rattle.ref_share.proofs.Common.{◌≡◌, ◌+◌, ℕ, [], ◌∷◌, Some, None, Result, Ok, Err, true, false, refl, arith}
+use Rattle.ref_share.proofs.Common.{HeldNotice, Took, ap, inr, heap_view}
+use Rattle.std.specs.Borrow.{MutBor}
+use Rattle.ref_base.specs.declared.fault.Fault.{Fault}
+use Rattle.ref_base.specs.declared.fault.Fault.TheVariants.{NoCell, NoMemory}
 use Rattle.ref_base.specs.declared.heap_step.HoldName.{HoldName}
 use Rattle.ref_base.specs.declared.plain_step.PlainStep.TheVariants as plain
 use Rattle.ref_base.specs.declared.reply.Reply.TheVariants as told
+use Rattle.ref_share.specs.Collectors.{HasRun}
 use Rattle.ref_share.specs.Cycles.{CountedRepeats}
 use Rattle.ref_share.specs.HeapCalls.{may_answer}
 use Rattle.ref_share.specs.Users.{AtEachPlace, told_as, reply_of_found, reply_of_done, held_back}
-use Rattle.ref_share.specs.Users.{notice_of_poll, notice_if_polled}
+use Rattle.ref_share.specs.Users.{IsStillTheUser, QueueUse, notice_of_poll, notice_if_polled}
 use Rattle.ref_share.specs.declared.answers.Polled.TheVariants.{Empty}
-use Rattle.ref_share.specs.declared.answers.ShareFault.TheVariants.{Busy, Held}
+use Rattle.ref_share.specs.declared.collector.Collector.{Collector}
+use Rattle.ref_share.specs.declared.answers.ShareFault.TheVariants.{Busy, Held, Refused}
 
 -- ---- replies by kind
 
@@ -83,3 +87,30 @@ module _ (notice : HeldNotice) where
 
   taken_and_lost : ¬ (notice_of_poll (Ok (Took notice)) ≡ None)
   taken_and_lost same = absurd cc
+
+module _ {A : Type 0} (s t : MutBor (QueueUse A)) where
+  it_alone_may_call : t.ghost_name ≡ s.ghost_name → t.now ≡ record s.now { seat = t.now.seat } → IsStillTheUser s t
+  it_alone_may_call name same = (name, same)
+
+  it_is_of_another_queue : ¬ (t.now.queue ≡ s.now.queue) → ¬ (IsStillTheUser s t)
+  it_is_of_another_queue another is = another (ap (λ (u : QueueUse A). u.queue) is.1)
+
+-- ---- a collector that comes back
+
+module _ {A : Type 0} (c : Collector A) where
+  -- one without queues, as this worker
+  abbrev alone : ℕ → Collector A
+  alone worker = record c { queues = record { queues = []; seats = [] }; worker = worker }
+
+  no_memory_for_the_first_batch : HasRun (alone 1) (Err NoMemory) (alone 1)
+  no_memory_for_the_first_batch = (
+    refl,
+    (
+      [],
+      (0, (heap_view c.user.seat, []), refl, (Refused NoMemory, refl, inr (refl, refl, refl))),
+      (refl, λ k x y found closed. absurd cc),
+    ),
+  )
+
+  it_is_another_worker : (ended : Result (Unit {0}) Fault) → ¬ (HasRun (alone 1) ended (alone 2))
+  it_is_another_worker ended has = absurd (omega (arith, ap (λ (d : Collector A). d.worker) has.0))

@@ -11,6 +11,7 @@ pub mod QueueCalls
 pub mod Repeats
 pub mod Deliveries
 pub mod Cycles
+pub mod Collectors
 pub mod WantsOfRoom
 pub mod WorkerCalls
 pub mod QueueStates

@@ -1,5 +1,6 @@
 -- What one thread uses shared things with: each of them beside the thread's own seat of it (this project's profile).
 use Rattle.std.specs.Prelude.{◌≡◌, ℕ, Bool, List, length, slice_get, Option, Some, None, Result, Ok, Err}
+use Rattle.std.specs.Borrow.{MutBor}
 use Rattle.ref_base.specs.declared.fault.Fault.{Fault}
 use Rattle.ref_base.specs.declared.reply.Reply.{Reply}
 use Rattle.ref_base.specs.declared.reply.Reply.TheVariants as replies
@@ -102,6 +103,10 @@ notice_of_poll answer = None
 abbrev pub notice_if_polled : Option (Result Polled ShareFault) → Option HeldNotice
 notice_if_polled None = None
 notice_if_polled (Some answer) = notice_of_poll answer
+
+-- one reference to one user, whose seat alone may have made calls
+abbrev pub IsStillTheUser : {A : Type 0} → MutBor (QueueUse A) → MutBor (QueueUse A) → Type 0
+IsStillTheUser s t = (t.ghost_name ≡ s.ghost_name) × (t.now ≡ record s.now { seat = t.now.seat })
 
 -- polls until something comes, and what the last took
 abbrev pub GivesWaiting : QueueView → Option HeldNotice → QueueView → Type 0

@@ -109,24 +109,28 @@ impl Caller<'_> {
 
     /// The waiter has polled, and nothing had come: it waits.
     pub(crate) fn wait<R: Wait>(&mut self, rt: &R) {
-        match self.heard.take() {
-            Some(heard) => {
-                self.bell.wait_past(rt, heard);
-                self.round = 0;
-            }
-            None => self.stay_awake(),
+        if let Some(heard) = self.heard_or_awake() {
+            self.bell.wait_past(rt, heard);
         }
     }
 
     /// As `wait`, but for that long at most.
     pub(crate) fn wait_for<R: Wait + Clock>(&mut self, rt: &R, limit: Duration) {
-        match self.heard.take() {
-            Some(heard) => {
-                self.bell.wait_past_for(rt, heard, limit);
-                self.round = 0;
-            }
-            None => self.stay_awake(),
+        if let Some(heard) = self.heard_or_awake() {
+            self.bell.wait_past_for(rt, heard, limit);
         }
+    }
+
+    // Where it listens: how often the bell had been rung as it began to, and its rounds begin anew. Else it stays awake
+    // for a round.
+    fn heard_or_awake(&mut self) -> Option<u64> {
+        let heard = self.heard.take();
+        if heard.is_some() {
+            self.round = 0;
+        } else {
+            self.stay_awake();
+        }
+        heard
     }
 
     // A round awake, each longer than the one before.

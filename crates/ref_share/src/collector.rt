@@ -1,13 +1,17 @@
 //! The collector's thread.
 
 ghost use Rattle.std.specs.Prelude.{◌≡◌};
+ghost use Rattle.ref_share.specs.Collectors.{AreOwn, HasRun, HasReturned, collector_of};
 ghost use Rattle.ref_share.specs.Cycles.{CyclesAlone, RunsCycles};
 ghost use Rattle.ref_share.specs.HeapSeats.{heap_view};
 ghost use Rattle.ref_share.specs.Users.{AtEachPlace, HasClosed};
 ghost use Rattle.ref_turn.specs.Seats.{Begins};
 
-use crate::{HeapUser, QueueUsers, ShareFault, Stop, cycle, end_batch};
-use ref_base::{Batch, Fault, Urgency, WorkerNo};
+use crate::{
+    HeapSeat, HeapUser, QueueSeat, QueueUsers, ShareFault, SharedHeap, SharedQueue, Stop, cycle,
+    end_batch,
+};
+use ref_base::{Batch, Fault, MutNo, Urgency, WorkerNo};
 use std::alloc::{Allocator, Global};
 use std::sync::Wait;
 use std::thread;
@@ -107,64 +111,170 @@ impl<'a, A: Allocator + Copy> Collector<'a, A> {
     }
 }
 
-impl Collector<'_> {
+/// A collector whose cycles have ended, and how they did.
+#[derive(Drop)]
+pub struct Collected<'a> {
+    /// The collector, which has closed its queues.
+    pub collector: Collector<'a>,
+    /// The fault of the cycle that failed, where it was none that told it to stop.
+    pub ended: Result<(), Fault>,
+}
+
+// What a collector has beside heap and queues. A closure's clauses say nothing where it takes along a value that
+// names a lifetime. That is why this goes to the thread, and comes back, by itself.
+#[derive(Drop)]
+struct Own {
+    alloc: Global,
+    mutator: MutNo,
+    worker: WorkerNo,
+    heap: HeapSeat,
+    queues: Vec<QueueSeat>,
+}
+
+impl<'a> Collector<'a> {
     /// Runs the program, and in a thread of its own cycles, as `run_cycles`, until the program has ended. Then it
-    /// closes the queues, so that who waits for them goes on. What the program answered, and how the cycles ended.
-    /// Where no thread can be made, the cycle comes after the program.
+    /// closes the queues, so that who waits for them goes on. What the program answered, and the collector. Where no
+    /// thread can be made, the cycle comes after the program.
     pub fn run_beside<R: Threads + Wait + Sync, F: FnOnce() -> T, T>(
         self,
         rt: &R,
         program: F,
-    ) -> (T, Result<(), Fault>)
+    ) -> (T, Collected<'a>)
         requires { F.pre program }
-        ensures { F.post program result.0 }
+        ensures program { F.post program result.0 }
+        ensures collected { HasRun self.entry result.1.ended result.1.collector }
     {
-        let has_ended = Stop::new();
-        let (collected, ran) = thread::join(
-            rt,
-            || -> Result<(), Fault> { self.run(rt, &has_ended) },
-            || -> T
-                requires { F.pre program }
-                ensures { F.post program result }
-            {
-                let ran = program();
-                has_ended.set();
-                ran
-            },
-        );
-        (ran, collected)
+        let (heap, queues, own) = self.apart();
+        let (ran, (own, ended)) = go_beside(rt, heap, queues, own, program);
+        let collector = Collector::of(heap, queues, own);
+        (ran, Collected { collector, ended })
     }
 
     /// Runs the program and cycles, as `run_beside`, and in a third thread the readers, which go on until the queues
-    /// are closed. What the program and the readers answered, and how the cycles ended. Where no thread can be made,
-    /// the readers come last.
+    /// are closed. What the program and the readers answered, and the collector. Where no thread can be made, the
+    /// readers come last.
     pub fn run_with_readers<
         R: Threads + Wait + Sync,
         F: FnOnce() -> T,
         G: FnOnce() -> U + Send,
         T,
         U: Send,
-    >(self, rt: &R, program: F, readers: G) -> (T, U, Result<(), Fault>)
+    >(self, rt: &R, program: F, readers: G) -> (T, U, Collected<'a>)
         requires { F.pre program × G.pre readers }
         ensures program { F.post program result.0 }
         ensures readers { G.post readers result.1 }
+        ensures collected { HasRun self.entry result.2.ended result.2.collector }
     {
-        let (read, (ran, collected)) = thread::join(
+        let (heap, queues, own) = self.apart();
+        let (read, (ran, (own, ended))) = thread::join(
             rt,
             readers,
-            || -> (T, Result<(), Fault>)
-                requires { F.pre program }
-                ensures { F.post program result.0 }
-            { self.run_beside(rt, program) },
+            || -> (T, (Own, Result<(), Fault>))
+                requires { F.pre program × AreOwn heap.now queues.now own }
+                ensures { F.post program result.0
+                    × HasReturned heap.entry.now queues.entry.now own result.1.1 result.1.0 }
+            { go_beside(rt, heap, queues, own, program) },
         );
-        (ran, read, collected)
+        let collector = Collector::of(heap, queues, own);
+        (ran, read, Collected { collector, ended })
     }
 
-    // Makes cycles until the stop is set, and then closes the queues.
-    fn run<R: Wait>(self, rt: &R, stop: &Stop) -> Result<(), Fault> {
-        let mut collector = self;
-        let ran = collector.run_cycles(rt, stop);
-        collector.close(rt);
-        ran
+    fn apart(self) -> (&'a SharedHeap, &'a [SharedQueue], Own)
+        ensures parts { self.entry ≡ collector_of result.0.now result.1.now result.2 }
+        ensures own { AreOwn result.0.now result.1.now result.2 }
+    {
+        let Collector {
+            alloc,
+            user,
+            queues,
+            worker,
+        } = self;
+        let HeapUser {
+            heap,
+            seat,
+            mutator,
+        } = user;
+        let QueueUsers { queues, seats } = queues;
+        let own = Own {
+            alloc,
+            mutator,
+            worker,
+            heap: seat,
+            queues: seats,
+        };
+        (heap, queues, own)
     }
+
+    fn of(heap: &'a SharedHeap, queues: &'a [SharedQueue], own: Own) -> Collector<'a>
+        requires { AreOwn heap.now queues.now own }
+        ensures { result ≡ collector_of heap.now queues.now own }
+    {
+        let Own {
+            alloc,
+            mutator,
+            worker,
+            heap: seat,
+            queues: seats,
+        } = own;
+        Collector {
+            alloc,
+            user: HeapUser {
+                heap,
+                seat,
+                mutator,
+            },
+            queues: QueueUsers { queues, seats },
+            worker,
+        }
+    }
+}
+
+// Runs the program, and in a thread of its own the collector of this heap and these queues, until the program has
+// ended.
+fn go_beside<R: Threads + Wait + Sync, F: FnOnce() -> T, T>(
+    rt: &R,
+    heap: &SharedHeap,
+    queues: &[SharedQueue],
+    own: Own,
+    program: F,
+) -> (T, (Own, Result<(), Fault>))
+    requires { F.pre program × AreOwn heap.now queues.now own }
+    ensures program { F.post program result.0 }
+    ensures left { HasReturned heap.now queues.now own result.1.1 result.1.0 }
+{
+    let has_ended = Stop::new();
+    let (left, ran) = thread::join(
+        rt,
+        || -> (Own, Result<(), Fault>)
+            requires { AreOwn heap.now queues.now own }
+            ensures { HasReturned heap.entry.now queues.entry.now own result.1 result.0 }
+        { run(rt, heap, queues, own, &has_ended) },
+        || -> T
+            requires { F.pre program }
+            ensures { F.post program result }
+        {
+            let ran = program();
+            has_ended.set();
+            ran
+        },
+    );
+    (ran, left)
+}
+
+// Makes cycles until the stop is set, and then closes the queues.
+fn run<R: Wait>(
+    rt: &R,
+    heap: &SharedHeap,
+    queues: &[SharedQueue],
+    own: Own,
+    stop: &Stop,
+) -> (Own, Result<(), Fault>)
+    requires { AreOwn heap.now queues.now own }
+    ensures { HasReturned heap.now queues.now own result.1 result.0 }
+{
+    let mut collector = Collector::of(heap, queues, own);
+    let ended = collector.run_cycles(rt, stop);
+    collector.close(rt);
+    let (_, _, own) = collector.apart();
+    (own, ended)
 }

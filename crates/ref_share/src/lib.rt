@@ -43,7 +43,7 @@ pub use clean_loop::Gate;
 pub use clean_machine::{CleanMachine, CleanReply, CleanStep};
 pub use clean_user::CleanUser;
 pub use cleaned_heap::CleanedHeap;
-pub use collector::Collector;
+pub use collector::{Collected, Collector};
 pub use cycles::cycle;
 pub use delivery::{deliver_all, deliver_batch, deliver_one, enqueue};
 pub use endings::{end_batch, end_queue, run_jobs_left, run_tasks_left};

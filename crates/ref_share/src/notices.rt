@@ -4,7 +4,7 @@ ghost use Rattle.std.specs.Prelude.{◌≡◌};
 ghost use Rattle.std.specs.Iterator.{at_most};
 ghost use Rattle.std.specs.Sync.Forever.{forever_left};
 ghost use Rattle.ref_share.specs.QueueSeats.{queue_view};
-ghost use Rattle.ref_share.specs.Users.{GivesWaiting, GivesStanding, notice_of_poll};
+ghost use Rattle.ref_share.specs.Users.{GivesWaiting, GivesStanding, IsStillTheUser, notice_of_poll};
 
 use crate::{Polled, QueueUser, ShareFault};
 use ref_clear::Notice;
@@ -32,7 +32,10 @@ pub struct Standing<'q, 'a, R: Wait, A: Allocator + Copy = Global> {
 impl<'a, A: Allocator + Copy> QueueUser<'a, A> {
     /// The notices as they come, until the queue is closed. Each must be spent: `into_hold` gives its hold, and
     /// `HeapUser::give_back` takes that.
-    pub fn notices<'q, R: Wait>(&'q mut self, rt: &'q R) -> Notices<'q, 'a, R, A> {
+    pub fn notices<'q, R: Wait>(&'q mut self, rt: &'q R) -> Notices<'q, 'a, R, A>
+        ensures user { result.user.now ≡ self.old }
+        ensures same_reference { result.user.ghost_name ≡ self.entry.ghost_name }
+    {
         Notices {
             user: self,
             rt,
@@ -41,7 +44,10 @@ impl<'a, A: Allocator + Copy> QueueUser<'a, A> {
     }
 
     /// The notices that stand now. Each must be spent, as those of `notices`.
-    pub fn standing<'q, R: Wait>(&'q mut self, rt: &'q R) -> Standing<'q, 'a, R, A> {
+    pub fn standing<'q, R: Wait>(&'q mut self, rt: &'q R) -> Standing<'q, 'a, R, A>
+        ensures user { result.user.now ≡ self.old }
+        ensures same_reference { result.user.ghost_name ≡ self.entry.ghost_name }
+    {
         Standing {
             user: self,
             rt,
@@ -53,7 +59,8 @@ impl<'a, A: Allocator + Copy> QueueUser<'a, A> {
 impl<'q, 'a, R: Wait, A: Allocator + Copy> Iterator for Notices<'q, 'a, R, A> {
     type Item = Notice;
 
-    ghost next_gives = { λ a given b. GivesWaiting (queue_view a.user.now.seat) given (queue_view b.user.now.seat) };
+    ghost next_gives = { λ a given b. IsStillTheUser a.user b.user
+        × GivesWaiting (queue_view a.user.now.seat) given (queue_view b.user.now.seat) };
 
     ghost remaining = { λ s. at_most (forever_left s.rounds) };
 
@@ -66,7 +73,8 @@ impl<'q, 'a, R: Wait, A: Allocator + Copy> Iterator for Notices<'q, 'a, R, A> {
 impl<'q, 'a, R: Wait, A: Allocator + Copy> Iterator for Standing<'q, 'a, R, A> {
     type Item = Notice;
 
-    ghost next_gives = { λ a given b. GivesStanding (queue_view a.user.now.seat) given (queue_view b.user.now.seat) };
+    ghost next_gives = { λ a given b. IsStillTheUser a.user b.user
+        × GivesStanding (queue_view a.user.now.seat) given (queue_view b.user.now.seat) };
 
     ghost remaining = { λ s. at_most (forever_left s.rounds) };
 

@@ -35,14 +35,6 @@ impl<'a, A: Allocator + Copy> Model for QueueUsers<'a, A> {
 }
 
 impl<'a, A: Allocator + Copy> QueueUsers<'a, A> {
-    /// The queues, with a seat of each.
-    pub fn new(queues: &'a [SharedQueue<A>], seats: Vec<QueueSeat<A>, A>) -> Self
-        requires { AreSeated queues.now seats.items }
-        ensures { result ≡ record { queues = queues.now; seats = seats.items } }
-    {
-        QueueUsers { queues, seats }
-    }
-
     /// Users of these queues for one thread more. Each seat has seen what this one's has. The one error is `NoMemory`.
     pub fn split(&mut self, alloc: A) -> Result<QueueUsers<'a, A>, Fault>
         ensures same { self.new.queues ≡ self.old.queues }
@@ -83,15 +75,6 @@ impl<'a, A: Allocator + Copy> QueueUsers<'a, A> {
         ensures closes { AtEachPlace HasClosed self.old.seats self.new.seats }
     {
         close_all(rt, self.queues, &mut self.seats);
-    }
-
-    /// The seats alone, as to end the queues by.
-    pub fn into_seats(self) -> Vec<QueueSeat<A>, A>
-        ensures own { result.items ≡ self.entry.seats }
-        ensures seats { AreSeated self.entry.queues result.items }
-    {
-        let QueueUsers { seats, .. } = self;
-        seats
     }
 }
 

@@ -34,7 +34,7 @@ pub type QueueSeat<A = Global> = SeatFor<QueueMachine<A>>;
 #[derive(Drop)]
 pub struct QueueFrame {
     pub(crate) queue: QueueNo,
-    // Rung where something may have come for those that wait in `remove_wait`.
+    // Rung where something may have come for those that wait until something does.
     pub(crate) bell: Bell,
 }
 

@@ -104,7 +104,7 @@ fn run<'x, R: Threads + Wait + Sync>(
     );
     first?;
     second?;
-    collected?;
+    collected.ended?;
     removed
 }
 

@@ -77,7 +77,7 @@ fn fill_and_clean<'x, R: Threads + Wait + Sync>(
     filled?;
     first?;
     second?;
-    collected
+    collected.ended
 }
 
 /// The two cleaners, each in a thread.

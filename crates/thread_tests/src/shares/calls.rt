@@ -9,6 +9,7 @@ ghost use Rattle.thread_tests.specs.QueueRows.{queue_row};
 
 use super::rows::{Call, OfHeap, OfQueue, Sending};
 use super::told::{Told, Word, bare, counted, delivery, either, not, outs_told, refused, replied};
+use super::waiting::waited;
 use super::{M, Q, Seats, W, new_batch};
 use ref_base::{
     Batch, Cause, Fault, HeapStep, MOST_IN_BATCH, Nos, Outs, Parcel, PlainStep, Reply, SlotNo,
@@ -198,6 +199,10 @@ fn of_queue<R: Wait, A: Allocator + Copy>(
         }
         OfQueue::Wait => {
             let answer = queue.remove_wait(rt, &mut seats.queue);
+            polled(rt, heap, &mut seats.heap, answer)
+        }
+        OfQueue::Until(until) => {
+            let answer = waited(rt, queue, &mut seats.queue, until);
             polled(rt, heap, &mut seats.heap, answer)
         }
         OfQueue::Close => match queue.close(rt, &mut seats.queue) {

@@ -44,9 +44,21 @@ pub enum OfQueue {
     PollNow,
     Within(u32),
     Wait,
+    Until(Until),
     Close,
     /// How many turns of the queue ended.
     Served,
+}
+
+/// What ends a wait for a queue in which nothing comes.
+#[derive(Clone, Copy)]
+pub enum Until {
+    /// A clock that goes on by a second each time it is read has told so many seconds.
+    Seconds(u32),
+    /// The clock can't be read, and the limit is an hour.
+    Unread,
+    /// A stop, which is set before, or never.
+    Stop(bool),
 }
 
 /// A call for which queues stand in lists.
@@ -101,10 +113,18 @@ pub fn call_of(rt: &impl Abort, text: &str) -> Call {
         "poll_now" => Call::Queue(OfQueue::PollNow),
         "remove_within" => Call::Queue(OfQueue::Within(number(rt, rest))),
         "remove_wait" => Call::Queue(OfQueue::Wait),
+        "remove_for" => wait_until(Until::Seconds(number(rt, rest))),
+        "remove_for_unread" => wait_until(Until::Unread),
+        "remove_unless_set" => wait_until(Until::Stop(true)),
+        "remove_unless" => wait_until(Until::Stop(false)),
         "close" => Call::Queue(OfQueue::Close),
         "served" => Call::Queue(OfQueue::Served),
         _ => of_both(rt, name, rest, text),
     }
+}
+
+fn wait_until(until: Until) -> Call {
+    Call::Queue(OfQueue::Until(until))
 }
 
 fn of_both(rt: &impl Abort, name: &str, rest: &str, text: &str) -> Call {

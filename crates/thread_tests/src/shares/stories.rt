@@ -6,6 +6,11 @@ use super::{DEATH, NOTHING, Q, STARTS, Starts, agree};
 pub const TWO_REFERENCES: &'static str =
     "m0 new s0 0 : object 1; m0 weak s1 s0 q0 0 : object 2; m0 weak s2 s0 q0 0 : object 3";
 
+/// Object 1, and references 2 to 6 to it in slots 1 to 5.
+pub const FIVE_REFERENCES: &'static str = "
+    m0 new s0 0 : object 1; m0 weak s1 s0 q0 0 : object 2; m0 weak s2 s0 q0 0 : object 3
+    m0 weak s3 s0 q0 0 : object 4; m0 weak s4 s0 q0 0 : object 5; m0 weak s5 s0 q0 0 : object 6";
+
 #[test]
 fn what_is_put_in_is_taken_out_in_order(rt: HostRuntime) {
     let alloc = rt.alloc();

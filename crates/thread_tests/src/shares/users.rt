@@ -1,24 +1,38 @@
 //! Users of several queues, and a collector, each with a seat of its own.
 
-use super::{M, Q, W};
-use ref_base::{
-    Config, Fault, ObjNo, Parcel, PlainStep, QueueNo, Reply, SlotNo, Strength, Urgency,
-};
+use super::{M, W};
+use ref_base::{Config, Fault, ObjNo, Parcel, PlainStep, QueueNo, SlotNo, Strength, Urgency};
 use ref_share::{Collector, HeapUser, QueueUsers, Queues, SharedHeap, Stop};
 use std::alloc::Global;
 use std::process::Abort;
 use std::sync::Wait;
+use std::thread::Threads;
 
 /// How many queues there are.
 const QUEUES: u32 = 3;
 
-/// Object 1 in slot 0, and for each queue a weak reference to it, numbered from 2 on in the order of the queues, in the
-/// slots behind.
-fn make_references<R: Wait>(rt: &R, heap: &mut HeapUser<'_>) -> Result<(), Fault> {
-    heap.make(rt, SlotNo(0), 0)?;
+/// An object in slot 0, and for each queue a weak reference to it in a slot behind, in the order of the queues. Their
+/// numbers follow that of the object, which is answered.
+fn make_references<R: Wait>(rt: &R, heap: &mut HeapUser<'_>) -> Result<ObjNo, Fault> {
+    let object = heap.make(rt, SlotNo(0), 0)?;
     for queue in 0..QUEUES {
         let (slot, queue) = (SlotNo(queue + 1), Some(QueueNo(queue)));
         heap.refer(rt, Strength::Weak, slot, SlotNo(0), queue)?;
+    }
+    Ok(object)
+}
+
+/// Each reference is enqueued, and once more in vain.
+fn enqueue_twice<R: Wait + Abort>(
+    rt: &R,
+    heap: &mut HeapUser<'_>,
+    queues: &mut QueueUsers<'_>,
+) -> Result<(), Fault> {
+    for slot in 1..=QUEUES {
+        for want in [true, false] {
+            let is_added = heap.enqueue(rt, SlotNo(slot), queues)?;
+            assert!(rt; is_added == want, "slot {slot}");
+        }
     }
     Ok(())
 }
@@ -40,95 +54,98 @@ fn take_all<R: Wait>(
     Ok((count, last))
 }
 
-/// What each queue gives one user after another enqueued each reference twice.
-fn enqueue_each<R: Wait + Abort>(
+/// In each queue stands a notice of its own reference to the object, which is taken; or where there is no object, none.
+fn take_each<R: Wait + Abort>(
     rt: &R,
-    alloc: Global,
     heap: &mut HeapUser<'_>,
-    queues: &mut Queues,
+    queues: &mut QueueUsers<'_>,
+    object: Option<ObjNo>,
 ) -> Result<(), Fault> {
-    let mut putting = queues.users()?;
-    let mut taking = putting.split(alloc)?;
-    make_references(rt, heap)?;
-    for slot in 1..=QUEUES {
-        for want in [true, false] {
-            let is_added = heap.enqueue(rt, SlotNo(slot), &mut putting)?;
-            assert!(rt; is_added == want, "slot {slot}");
-        }
-    }
     for queue in 0..QUEUES {
-        let taken = take_all(rt, heap, &mut taking, queue)?;
-        assert!(rt; taken == (1, Some(ObjNo(queue + 2))), "queue {queue}");
-        assert!(rt; take_all(rt, heap, &mut putting, queue)? == (0, None));
+        let own = object.map(|object| ObjNo(object.0.wrapping_add(queue + 1)));
+        let want = (u64::from(own.is_some()), own);
+        let taken = take_all(rt, heap, queues, queue)?;
+        assert!(rt; taken == want, "queue {queue}");
     }
     Ok(())
 }
 
-/// The users of one thread close the queues for all, and there is no queue behind the last.
-fn close_each<R: Wait + Abort>(rt: &R, alloc: Global, queues: &mut Queues) -> Result<(), Fault> {
-    let mut closing = queues.users()?;
-    let mut other = closing.split(alloc)?;
-    closing.close(rt);
-    for queue in 0..QUEUES {
-        let mut user = other.user(QueueNo(queue))?;
-        assert!(rt; user.number() == QueueNo(queue) && !user.close(rt)?);
-    }
-    let behind = [QueueNo(QUEUES), QueueNo(u32::MAX)];
-    for queue in behind {
-        assert!(rt;
-            other
-                .user(queue)
-                .is_err_and(|fault| fault == Fault::BadQueue)
-        );
-    }
-    Ok(())
-}
-
-#[test]
-fn each_queue_tells_its_own_users(rt: HostRuntime) {
-    let alloc = rt.alloc();
-    let config = Config::default().queues(QUEUES);
-    let Ok((heap, seat)) = SharedHeap::new(alloc, config, 0) else {
-        panic!(rt; "there is no heap");
-    };
-    let Ok(mut queues) = Queues::new(alloc, QUEUES) else {
-        panic!(rt; "there are no queues");
-    };
-    let mut heap = HeapUser::new(&heap, seat, M);
-    let enqueued = enqueue_each(&rt, alloc, &mut heap, &mut queues);
-    let closed = close_each(&rt, alloc, &mut queues);
-    queues.end();
-    assert!(rt; enqueued == Ok(()) && closed == Ok(()));
-}
-
-/// Object 1, to which two references of two queues refer, dies in the one cycle of a collector that is told to stop
-/// before it begins. Which cycle a second collector's begins then is told.
-fn collect<'x, R: Wait + Abort>(
+/// What one thread's users put in, another's take, and then nothing stands for the first.
+fn put_and_take<R: Wait + Abort>(
     rt: &R,
-    alloc: Global,
-    mut heap: HeapUser<'x>,
-    queues: &'x mut Queues,
-) -> Result<Reply, Fault> {
-    let mut taking = queues.users()?;
-    make_references(rt, &mut heap)?;
+    heap: &mut HeapUser<'_>,
+    putting: &mut QueueUsers<'_>,
+    taking: &mut QueueUsers<'_>,
+) -> Result<(), Fault> {
+    let object = make_references(rt, heap)?;
+    enqueue_twice(rt, heap, putting)?;
+    take_each(rt, heap, taking, Some(object))?;
+    take_each(rt, heap, putting, None)
+}
+
+/// Each queue was closed by another, and there is none behind the last.
+fn are_closed<R: Wait + Abort>(rt: &R, queues: &mut QueueUsers<'_>) -> Result<(), Fault> {
+    for queue in 0..QUEUES {
+        let was_open = queues.user(QueueNo(queue))?.close(rt)?;
+        assert!(rt; !was_open, "queue {queue}");
+    }
+    for queue in [QueueNo(QUEUES), QueueNo(u32::MAX)] {
+        let behind = queues.user(queue);
+        assert!(rt; behind.is_err_and(|fault| fault == Fault::BadQueue));
+    }
+    Ok(())
+}
+
+/// The object that the slots refer to dies in the one cycle of a collector that is told to stop before it begins.
+fn collect_once<R: Wait + Abort>(
+    rt: &R,
+    heap: &mut HeapUser<'_>,
+    collector: &mut Collector<'_>,
+    taking: &mut QueueUsers<'_>,
+) -> Result<(), Fault> {
+    let object = make_references(rt, heap)?;
     heap.empty(rt, SlotNo(0))?;
-    let mut collector = Collector::new(alloc, &mut heap, taking.split(alloc)?, W);
     let stop = Stop::new();
     stop.set();
     collector.run_cycles(rt, &stop)?;
-    collector.cycle(rt, 7, Urgency::Urgent)?;
-    for queue in 0..QUEUES {
-        let taken = take_all(rt, &mut heap, &mut taking, queue)?;
-        assert!(rt; taken == (1, Some(ObjNo(queue + 2))), "queue {queue}");
-    }
+    take_each(rt, heap, taking, Some(object))
+}
+
+/// A collector goes beside a program that does nothing, and comes back. It has made a cycle, or was refused one where
+/// another had begun; in both cases the queues are closed.
+fn run_beside<'a, R: Threads + Wait + Abort + Sync>(
+    rt: &R,
+    collector: Collector<'a>,
+    want: Result<(), Fault>,
+) -> Collector<'a> {
+    let (ran, collected) = collector.run_beside(rt, || -> u32 { QUEUES });
+    assert!(rt; ran == QUEUES && collected.ended == want);
+    collected.collector
+}
+
+/// Users of one thread, and a collector, tell users of another.
+fn tell<'x, R: Threads + Wait + Abort + Sync>(
+    rt: &R,
+    alloc: Global,
+    heap: &mut HeapUser<'x>,
+    queues: &'x mut Queues,
+) -> Result<(), Fault> {
+    let mut putting = queues.users()?;
+    let mut taking = putting.split(alloc)?;
+    put_and_take(rt, heap, &mut putting, &mut taking)?;
+    let mut collector = Collector::new(alloc, heap, putting, W);
+    collect_once(rt, heap, &mut collector, &mut taking)?;
+    let mut collector = run_beside(rt, collector, Ok(()));
+    are_closed(rt, &mut taking)?;
+    let (now, urgency) = (9, Urgency::Normal);
+    heap.perform(rt, PlainStep::Begin { now, urgency })?;
+    let mut collector = run_beside(rt, collector, Err(Fault::WrongPhase));
     collector.close(rt);
-    assert!(rt; !taking.user(Q)?.close(rt)?);
-    let (now, urgency) = (8, Urgency::Normal);
-    heap.perform(rt, PlainStep::Begin { now, urgency })
+    are_closed(rt, &mut taking)
 }
 
 #[test]
-fn a_collector_that_is_told_to_stop_makes_one_cycle(rt: HostRuntime) {
+fn users_and_a_collector_tell_each_queue_its_own(rt: HostRuntime) {
     let alloc = rt.alloc();
     let config = Config::default().queues(QUEUES);
     let Ok((heap, seat)) = SharedHeap::new(alloc, config, 0) else {
@@ -137,8 +154,7 @@ fn a_collector_that_is_told_to_stop_makes_one_cycle(rt: HostRuntime) {
     let Ok(mut queues) = Queues::new(alloc, QUEUES) else {
         panic!(rt; "there are no queues");
     };
-    let user = HeapUser::new(&heap, seat, M);
-    let begun = collect(&rt, alloc, user, &mut queues);
+    let told = tell(&rt, alloc, &mut HeapUser::new(&heap, seat, M), &mut queues);
     queues.end();
-    assert!(rt; begun == Ok(Reply::Cycle(3)), "{begun:?}");
+    assert!(rt; told == Ok(()));
 }

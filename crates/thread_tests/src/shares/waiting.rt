@@ -1,13 +1,17 @@
 //! Waits for a queue that may end before it is closed: after a time, or by a stop.
 
+ghost use Rattle.ref_share.specs.QueueSeats.{IsQueueSeat};
+
 use super::calls::of_poll;
+use super::rows::Until;
+use super::stories::FIVE_REFERENCES;
 use super::told::{Told, expect, refused};
-use super::{CONFIG, M, Q};
+use super::{CONFIG, M, NOTHING, Q, STARTS, agree, queue_from};
 use ref_base::{Fault, Parcel, SlotNo, Strength};
 use ref_share::{
-    HeapUser, Polled, QueueUser, ShareFault, SharedHeap, SharedQueue, Stop, end_queue,
+    HeapUser, Polled, QueueSeat, QueueUser, ShareFault, SharedHeap, SharedQueue, Stop, end_queue,
 };
-use std::alloc::Global;
+use std::alloc::{Allocator, Global};
 use std::process::Abort;
 use std::sync::Wait;
 use std::sync::atomic::{AtomicU64, Ordering};
@@ -38,28 +42,6 @@ impl<R> Clock for Ticking<'_, R> {
     }
 }
 
-/// What there is as the queue is waited for.
-#[derive(Clone, Copy)]
-enum Before {
-    Nothing,
-    Notice,
-    Close,
-    NoticeAndClose,
-}
-
-/// By what the wait ends, if nothing comes.
-#[derive(Clone, Copy)]
-enum Until {
-    /// The clock was read that many times since.
-    Seconds(u64),
-    /// The clock can't be read, and the limit is an hour.
-    Broken,
-    /// A stop that is set before.
-    Set,
-    /// A stop that is never set.
-    Unset,
-}
-
 /// An hour, in seconds.
 const HOUR: u64 = 3_600;
 
@@ -75,45 +57,47 @@ fn put_one<R: Wait>(
     Ok(heap.enqueue_to(rt, reference, queue)?)
 }
 
-fn prepare<R: Wait>(
+/// Waits for the queue, and for nothing else where it stays empty.
+pub fn waited<R: Wait, A: Allocator + Copy>(
     rt: &R,
-    heap: &mut HeapUser<'_>,
-    queue: &mut QueueUser<'_>,
-    before: Before,
-) -> Result<bool, Fault> {
-    match before {
-        Before::Nothing => Ok(true),
-        Before::Notice => put_one(rt, heap, queue),
-        Before::Close => Ok(queue.close(rt)?),
-        Before::NoticeAndClose => Ok(put_one(rt, heap, queue)? && queue.close(rt)?),
+    queue: &SharedQueue<A>,
+    seat: &mut QueueSeat<A>,
+    until: Until,
+) -> Result<Polled, ShareFault>
+    requires { IsQueueSeat queue.now seat.old }
+    ensures { IsQueueSeat queue.now seat.new }
+{
+    match until {
+        Until::Seconds(limit) => wait_by(rt, queue, seat, false, u64::from(limit)),
+        Until::Unread => wait_by(rt, queue, seat, true, HOUR),
+        Until::Stop(is_set) => {
+            let stop = Stop::new();
+            if is_set {
+                stop.set();
+            }
+            queue.remove_unless(rt, seat, &stop)
+        }
     }
 }
 
-fn wait<R: Wait>(rt: &R, queue: &mut QueueUser<'_>, until: Until) -> Result<Polled, ShareFault> {
-    let stop = Stop::new();
-    match until {
-        Until::Seconds(limit) => {
-            let ticking = Ticking {
-                rt,
-                reads: AtomicU64::new(0),
-                is_broken: false,
-            };
-            queue.remove_for(&ticking, Duration::from_secs(limit))
-        }
-        Until::Broken => {
-            let ticking = Ticking {
-                rt,
-                reads: AtomicU64::new(0),
-                is_broken: true,
-            };
-            queue.remove_for(&ticking, Duration::from_secs(HOUR))
-        }
-        Until::Set => {
-            stop.set();
-            queue.remove_unless(rt, &stop)
-        }
-        Until::Unset => queue.remove_unless(rt, &stop),
-    }
+/// Waits by a clock, which may be broken, so many seconds at most.
+fn wait_by<R: Wait, A: Allocator + Copy>(
+    rt: &R,
+    queue: &SharedQueue<A>,
+    seat: &mut QueueSeat<A>,
+    is_broken: bool,
+    limit: u64,
+) -> Result<Polled, ShareFault>
+    requires { IsQueueSeat queue.now seat.old }
+    ensures { IsQueueSeat queue.now seat.new }
+{
+    let reads = AtomicU64::new(0);
+    let ticking = Ticking {
+        rt,
+        reads,
+        is_broken,
+    };
+    queue.remove_for(&ticking, seat, Duration::from_secs(limit))
 }
 
 /// What a wait is told. The hold of a notice is given up.
@@ -127,81 +111,33 @@ fn told_of(answer: Result<Polled, ShareFault>) -> Told {
     }
 }
 
-/// What a wait for a new queue, whose turns are counted from `first` on, is told, and how many turns ended then.
-fn wait_once<R: Wait + Abort>(
-    rt: &R,
-    alloc: Global,
-    first: u64,
-    (before, until): (Before, Until),
-) -> (Told, u64) {
-    let Ok((heap, heap_seat)) = SharedHeap::new(alloc, CONFIG, 0) else {
-        panic!(rt; "there is no heap");
-    };
-    let Ok((queue, mut last)) = SharedQueue::starting(alloc, Q, first) else {
-        panic!(rt; "there is no queue");
-    };
-    let user = QueueUser::new(&queue, queue.split(&mut last));
-    let told = told_and_served(
-        rt,
-        HeapUser::new(&heap, heap_seat, M),
-        user,
-        (before, until),
-    );
-    end_queue(queue.finish(last));
-    told
-}
-
-fn told_and_served<R: Wait + Abort>(
-    rt: &R,
-    mut heap: HeapUser,
-    mut user: QueueUser,
-    (before, until): (Before, Until),
-) -> (Told, u64) {
-    assert!(rt; prepare(rt, &mut heap, &mut user, before) == Ok(true));
-    let told = told_of(wait(rt, &mut user, until));
-    (told, user.served())
-}
-
+/// Each clock is read once before the first poll, and once more behind each poll in vain.
 #[test]
 fn a_wait_polls_once_at_least_and_ends_by_its_limit_or_its_stop(rt: HostRuntime) {
-    // Each clock is read once before the first poll, and once more behind each poll in vain.
-    let table = [
-        (Before::Nothing, Until::Seconds(0), "timed out", 1),
-        (Before::Nothing, Until::Seconds(1), "timed out", 1),
-        (Before::Nothing, Until::Seconds(5), "timed out", 5),
-        (Before::Nothing, Until::Broken, "timed out", 1),
-        (Before::Nothing, Until::Set, "timed out", 1),
-        (Before::Notice, Until::Seconds(0), "took 2", 2),
-        (Before::Notice, Until::Seconds(5), "took 2", 2),
-        (Before::Notice, Until::Broken, "took 2", 2),
-        (Before::Notice, Until::Set, "took 2", 2),
-        (Before::Notice, Until::Unset, "took 2", 2),
-        (Before::Close, Until::Seconds(5), "closed", 2),
-        (Before::Close, Until::Broken, "closed", 2),
-        (Before::Close, Until::Set, "closed", 2),
-        (Before::Close, Until::Unset, "closed", 2),
-        (Before::NoticeAndClose, Until::Seconds(0), "took 2", 3),
-        (Before::NoticeAndClose, Until::Set, "took 2", 3),
-        (Before::NoticeAndClose, Until::Unset, "took 2", 3),
-    ];
-    for (place, (before, until, want, turns)) in table.into_iter().enumerate() {
-        let (told, served) = wait_once(&rt, rt.alloc(), 0, (before, until));
-        assert!(rt;
-            told.is(rt.alloc(), want) && served == turns,
-            "row {place}: {told} after {served}"
-        );
-    }
-    for until in [Until::Seconds(5), Until::Broken, Until::Set, Until::Unset] {
-        let (told, served) = wait_once(&rt, rt.alloc(), u64::MAX, (Before::Nothing, until));
-        expect(
-            &rt,
-            rt.alloc(),
-            told,
-            "refused: TurnsSpent",
-            "no turn is left",
-        );
-        assert!(rt; served == u64::MAX);
-    }
+    let alloc = rt.alloc();
+    let in_vain = "
+        remove_for 0 : timed out; served : served 1; remove_for 1 : timed out; served : served 2
+        remove_for 5 : timed out; served : served 7; remove_for_unread : timed out; served : served 8
+        remove_unless_set : timed out; served : served 9";
+    agree(&rt, alloc, STARTS, in_vain, "", NOTHING);
+    // What stands is taken by the first poll, and behind a close, too.
+    let calls = "
+        enqueue 1 : enqueued; remove_for 0 : took 2; enqueue 2 : enqueued; remove_for 5 : took 3
+        enqueue 3 : enqueued; remove_for_unread : took 4; enqueue 4 : enqueued; remove_unless_set : took 5
+        enqueue 5 : enqueued; remove_unless : took 6; served : served 10
+        remove_for 5 : timed out; close : was open; remove_for 5 : closed; remove_for_unread : closed
+        remove_unless_set : closed; remove_unless : closed; served : served 20";
+    let five = &[2, 3, 4, 5, 6];
+    agree(&rt, alloc, STARTS, FIVE_REFERENCES, calls, (five, &[]));
+    let calls = "
+        enqueue 1 : enqueued; enqueue 2 : enqueued; close : was open; remove_for 0 : took 2
+        remove_unless : took 3; remove_unless_set : closed; served : served 6";
+    agree(&rt, alloc, STARTS, FIVE_REFERENCES, calls, (&[2, 3], &[]));
+    // No turn is left.
+    let calls = "
+        remove_for 5 : refused: TurnsSpent; remove_for_unread : refused: TurnsSpent
+        remove_unless_set : refused: TurnsSpent; remove_unless : refused: TurnsSpent";
+    agree(&rt, alloc, queue_from(u64::MAX), calls, "", NOTHING);
 }
 
 /// Whether that many turns of the queue end, within 1,000,000 looks.
