@@ -1,0 +1,4 @@
+pub mod Handles
+pub mod LooseValues
+pub mod Plays
+pub mod WrittenLemmas

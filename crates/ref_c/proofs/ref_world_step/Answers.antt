@@ -1,0 +1,10 @@
+use Rattle.std.proofs.Common.{[]}
+use Rattle.ref_c.proofs.WrittenLemmas.{nothing-written}
+use Rattle.ref_c.proofs.ref_world_step.Goals as goal
+
+pub returns : goal.returns
+returns c =
+    let table = c.args.list.now in
+    let listed = c.list_answer-used.ensures table [] (nothing-written table) in
+    rw (c.take-held.ensures.taken, c.give_back.ensures)
+    (c.asked-answer.result, c.asked-answer.ensures, c.numbers.ensures, listed.0)
