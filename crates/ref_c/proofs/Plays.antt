@@ -8,7 +8,7 @@ use Rattle.std.specs.declared.option.Option.{Option}
 use Rattle.ref_c.proofs.WrittenLemmas.{nothing-written, written-more, written-none}
 use Rattle.ref_c.specs.Holding.{KeptWorld}
 use Rattle.ref_c.specs.ReplyNumbers.{all_listed, all_numbers, listed_by, numbers_of}
-use Rattle.ref_c.specs.WorldSteps.{Plays, Steps, TellsPlay}
+use Rattle.ref_c.specs.WorldSteps.{Plays, Steps}
 use Rattle.ref_c.specs.Written.{IsWritten, lesser, written_over}
 use Rattle.ref_c.specs.declared.answer.Answer.{Answer}
 use Rattle.ref_c.specs.declared.answer.RefReply.{RefReply}

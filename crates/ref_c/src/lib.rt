@@ -16,6 +16,8 @@ mod kept;
 mod list;
 mod loose;
 mod step;
+#[cfg(test)]
+mod tests;
 
 use crate::answer::{Answer, RefReply};
 use crate::handle::RefWorld;
@@ -82,9 +84,10 @@ pub extern "C" fn ref_world_step(
 }
 
 /// Does the steps one after the other, as `ref_world_step` does each, and tells their replies in order. Returns how
-/// many it did. A refused step is no end, nor are numbers that are no step: what stands behind it is done too. Where there
-/// are fewer replies than steps, as many steps are done as there are replies, and nothing beyond. What the batches'
-/// replies list stands one behind the other in the list, as far as there is room. In the time and memory of the steps.
+/// many it did. A refused step is no end, nor are numbers that are no step: what stands behind it is done too. Where
+/// there are fewer replies than steps, as many steps are done as there are replies, and nothing beyond. What the
+/// batches' replies list stands one behind the other in the list, as far as there is room. In the time and memory of
+/// the steps.
 #[unsafe(no_mangle)]
 pub extern "C" fn ref_world_play(
     alloc: Global,
