@@ -54,6 +54,14 @@ fn take_all<R: Wait>(
     Ok((count, last))
 }
 
+/// One notice, of the reference to this object that the queue of this number is told of; or where there is none, none.
+fn want_of(object: Option<ObjNo>, queue: u32) -> (u64, Option<ObjNo>) {
+    match object {
+        Some(ObjNo(number)) => (1, Some(ObjNo(number.wrapping_add(queue).wrapping_add(1)))),
+        None => (0, None),
+    }
+}
+
 /// In each queue stands a notice of its own reference to the object, which is taken; or where there is no object, none.
 fn take_each<R: Wait + Abort>(
     rt: &R,
@@ -62,10 +70,8 @@ fn take_each<R: Wait + Abort>(
     object: Option<ObjNo>,
 ) -> Result<(), Fault> {
     for queue in 0..QUEUES {
-        let own = object.map(|object| ObjNo(object.0.wrapping_add(queue + 1)));
-        let want = (u64::from(own.is_some()), own);
         let taken = take_all(rt, heap, queues, queue)?;
-        assert!(rt; taken == want, "queue {queue}");
+        assert!(rt; taken == want_of(object, queue), "queue {queue}");
     }
     Ok(())
 }
