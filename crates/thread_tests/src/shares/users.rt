@@ -54,24 +54,30 @@ fn take_all<R: Wait>(
     Ok((count, last))
 }
 
-/// One notice, of the reference to this object that the queue of this number is told of; or where there is none, none.
-fn want_of(object: Option<ObjNo>, queue: u32) -> (u64, Option<ObjNo>) {
-    match object {
-        Some(ObjNo(number)) => (1, Some(ObjNo(number.wrapping_add(queue).wrapping_add(1)))),
-        None => (0, None),
-    }
-}
-
-/// In each queue stands a notice of its own reference to the object, which is taken; or where there is no object, none.
+/// In each queue stands a notice of its own reference to the object, which is taken.
 fn take_each<R: Wait + Abort>(
     rt: &R,
     heap: &mut HeapUser<'_>,
     queues: &mut QueueUsers<'_>,
-    object: Option<ObjNo>,
+    ObjNo(object): ObjNo,
+) -> Result<(), Fault> {
+    for queue in 0..QUEUES {
+        let own = ObjNo(object.wrapping_add(queue + 1));
+        let taken = take_all(rt, heap, queues, queue)?;
+        assert!(rt; taken == (1, Some(own)), "queue {queue}");
+    }
+    Ok(())
+}
+
+/// Nothing stands in any queue.
+fn are_empty<R: Wait + Abort>(
+    rt: &R,
+    heap: &mut HeapUser<'_>,
+    queues: &mut QueueUsers<'_>,
 ) -> Result<(), Fault> {
     for queue in 0..QUEUES {
         let taken = take_all(rt, heap, queues, queue)?;
-        assert!(rt; taken == want_of(object, queue), "queue {queue}");
+        assert!(rt; taken == (0, None), "queue {queue}");
     }
     Ok(())
 }
@@ -85,8 +91,8 @@ fn put_and_take<R: Wait + Abort>(
 ) -> Result<(), Fault> {
     let object = make_references(rt, heap)?;
     enqueue_twice(rt, heap, putting)?;
-    take_each(rt, heap, taking, Some(object))?;
-    take_each(rt, heap, putting, None)
+    take_each(rt, heap, taking, object)?;
+    are_empty(rt, heap, putting)
 }
 
 /// Each queue was closed by another, and there is none behind the last.
@@ -114,7 +120,7 @@ fn collect_once<R: Wait + Abort>(
     let stop = Stop::new();
     stop.set();
     collector.run_cycles(rt, &stop)?;
-    take_each(rt, heap, taking, Some(object))
+    take_each(rt, heap, taking, object)
 }
 
 /// A collector goes beside a program that does nothing, and comes back. It has made a cycle, or was refused one where
