@@ -1,0 +1,150 @@
+/* No memory: each request is refused in turn. `ref_world_new` answers 3 then and leaves the handle as it was; a put is
+ * refused with 3 and can be made again; no other step asks. What was given is given back.
+ *
+ * It is linked with --wrap=malloc, --wrap=realloc and --wrap=free, so that it sees each request.
+ * Prints the counts. Exit status: 0 each is the one that is due; 1 one isn't. */
+#include "ref.h"
+#include <stdio.h>
+#include <stdlib.h>
+
+void *__real_malloc(size_t size);
+void *__real_realloc(void *at, size_t size);
+void __real_free(void *at);
+void *__wrap_malloc(size_t size);
+void *__wrap_realloc(void *at, size_t size);
+void __wrap_free(void *at);
+
+/* How many requests are still met (below 0: all), how many were made, and how many blocks are out. */
+static long left = -1, asked, out;
+
+static int is_refused(void) {
+    asked++;
+    if (left > 0) left--;
+    return left == 0;
+}
+
+void *__wrap_malloc(size_t size) {
+    void *at = is_refused() ? NULL : __real_malloc(size);
+    out += at != NULL;
+    return at;
+}
+
+void *__wrap_realloc(void *at, size_t size) {
+    void *to = is_refused() ? NULL : __real_realloc(at, size);
+    out += at == NULL && to != NULL;
+    return to;
+}
+
+void __wrap_free(void *at) {
+    out -= at != NULL;
+    __real_free(at);
+}
+
+/* From now on, `met` requests are met and the next ones refused; below 0, all are met. */
+static void meet(long met) {
+    left = met < 0 ? -1 : met + 1;
+    asked = 0;
+}
+
+static int wrong(const char *what, long at, uint32_t told) {
+    meet(-1);
+    printf("wrong: %s, at %ld: %u, and %ld blocks are out\n", what, at, told, out);
+    return 1;
+}
+
+static const struct ref_config config = {8, 8, 16, 4096, 10, 0};
+
+/* Each request of `ref_world_new` is refused in turn: by a handle with no world, and by one that has a world. */
+static int try_new(void) {
+    long met = 0;
+    for (;; met++) {
+        struct ref_world world = {0}, other = {0};
+        long before;
+        uint32_t fault;
+        if (ref_world_new(&other, &config) != 0) return wrong("a second world", met, 0);
+        ref_new(&other, 0, 0, 0);
+        before = out;
+        meet(met);
+        fault = ref_world_new(&world, &config);
+        meet(-1);
+        if (fault == 0) {
+            ref_world_end(&world);
+            ref_world_end(&other);
+            break;
+        }
+        if (fault != 3 || world.at != NULL || out != before) return wrong("a first world", met, fault);
+        meet(met);
+        fault = ref_world_new(&other, &config);
+        meet(-1);
+        if (fault != 3 || out != before) return wrong("a world instead of another", met, fault);
+        if (ref_new(&other, 0, 0, 0).object != 2) return wrong("the world that stays", met, 0);
+        ref_world_end(&other);
+    }
+    if (out != 0) return wrong("a world that is ended", met, 0);
+    printf("new: %ld requests, each refused in turn, and nothing is left\n", met);
+    return 0;
+}
+
+/* Each request of 2,000 puts is refused once. */
+static int try_puts(struct ref_world *world) {
+    long again = 0;
+    for (uint32_t i = 0; i < 2000; i++) {
+        struct ref_reply reply;
+        ref_weak(world, 0, 1, 0, 0, 0);
+        if (ref_unhook(world, 0, 1).kind != REF_IS_OWN_NOTICE) return wrong("unhook", i, 0);
+        meet(0);
+        reply = ref_put(world, 0);
+        meet(-1);
+        if (reply.kind == REF_IS_REFUSED) {
+            if (reply.fault != 3) return wrong("a put", i, reply.fault);
+            again++;
+            reply = ref_put(world, 0);
+        }
+        if (reply.kind != REF_IS_ADDED || reply.number != i) return wrong("a put", i, reply.kind);
+    }
+    printf("2000 puts: %ld refused once, and then made\n", again);
+    return again == 0;
+}
+
+/* No other step asks for memory: a mutator's, and those of a whole cycle. */
+static int try_others(struct ref_world *world) {
+    meet(0);
+    for (uint32_t i = 0; i < 1000; i++) {
+        struct ref_reply reply = ref_poll(world, 0, 0);
+        if (reply.kind != REF_IS_TOOK) return wrong("a poll", i, reply.kind);
+        ref_release(world, 0);
+        ref_new(world, 0, 2, 3);
+        ref_soft(world, 0, 3, 2, 1, 0);
+        ref_phantom(world, 0, 4, 2, 2, 0);
+        ref_store(world, 0, 2, 1, 3);
+        ref_load(world, 0, 5, 2, 1);
+        ref_get(world, 0, 6, 5);
+        if (i % 100 == 0) {
+            ref_begin(world, i, 0);
+            while (ref_scan(world, 0).kind == REF_IS_SCANNED) {}
+            ref_end_mark(world);
+            while (ref_clear_next(world, 0).kind != REF_IS_NOTHING) {}
+            ref_end_clear(world);
+            while (ref_hand(world, 0).kind == REF_IS_NOTICE) ref_worker_release(world, 0);
+            while (ref_sweep(world, 0).kind == REF_IS_SWEPT) {}
+            if (ref_end_sweep(world).kind != REF_IS_DONE) return wrong("a cycle", i, 0);
+        }
+    }
+    if (asked != 0) return wrong("a step that is no put asked for memory", asked, 0);
+    meet(-1);
+    printf("other steps: no request\n");
+    return 0;
+}
+
+int main(void) {
+    struct ref_world world = {0};
+    int is_wrong;
+    setvbuf(stdout, NULL, _IONBF, 0); /* so that no request is the printer's */
+    if (try_new() != 0) return 1;
+    if (ref_world_new(&world, &config) != 0) return wrong("a world", 0, 0);
+    ref_new(&world, 0, 0, 0);
+    is_wrong = try_puts(&world) != 0 || try_others(&world) != 0;
+    ref_world_end(&world);
+    if (out != 0) is_wrong = wrong("the end", 0, 0);
+    return is_wrong;
+}
