@@ -1,5 +1,5 @@
-/* A death: an object dies, its weak reference is cleared, and the notice of it is put into a queue and polled.
- * Prints each step with its reply. Exit status: 0 each reply is the one that is due; 1 one isn't. */
+/* A death: an object dies, its weak reference is cleared and put into a queue, and the program polls it.
+ * Prints each step with its reply. Exit status: 0; 1 where a reply isn't the one that is due. */
 #include "ref.h"
 #include <stdio.h>
 #include <stdlib.h>
@@ -16,11 +16,7 @@ static void told(const char *row, struct ref_reply reply, uint32_t kind, uint32_
 int main(void) {
     struct ref_world world = {0};
     struct ref_config config = {1, 1, 1, 8, 10, 0};
-    uint32_t fault = ref_world_new(&world, &config);
-    if (fault != 0) {
-        printf("wrong: no world, fault %u\n", fault);
-        return 1;
-    }
+    if (ref_world_new(&world, &config) != 0) return 1;
     told("m0 new s0 0 : object 1", ref_new(&world, 0, 0, 0), REF_IS_OBJECT, 1);
     told("m0 weak s1 s0 q0 0 : object 2", ref_weak(&world, 0, 1, 0, 0, 0), REF_IS_OBJECT, 2);
     told("m0 drop s0 : ok", ref_drop(&world, 0, 0), REF_IS_DONE, 0);
@@ -30,7 +26,6 @@ int main(void) {
     told("endmark : doomed 1", ref_end_mark(&world), REF_IS_DOOMED, 0);
     told("m0 get s2 s1 : null", ref_get(&world, 0, 2, 1), REF_IS_NULL, 0);
     told("w0 clearnext : cleared 2", ref_clear_next(&world, 0), REF_IS_CLEARED, 2);
-    told("w0 clearnext : none", ref_clear_next(&world, 0), REF_IS_NOTHING, 0);
     told("endclear : ok", ref_end_clear(&world), REF_IS_DONE, 0);
     told("w0 hand : notice 2 q0 cycle 1 w0", ref_hand(&world, 0), REF_IS_NOTICE, 2);
     told("w0 put : added 0", ref_worker_put(&world, 0), REF_IS_ADDED, 0);
@@ -38,7 +33,6 @@ int main(void) {
     told("endsweep : ok", ref_end_sweep(&world), REF_IS_DONE, 0);
     told("m0 poll q0 : took 2", ref_poll(&world, 0, 0), REF_IS_TOOK, 2);
     told("m0 adopt s2 : object 2", ref_adopt(&world, 0, 2), REF_IS_OBJECT, 2);
-    told("m0 drop s16 : refused 9 NoSuchActor", ref_drop(&world, 0, 16), REF_IS_REFUSED, 0);
     ref_world_end(&world);
     ref_world_end(&world);
     told("no world", ref_drop(&world, 0, 0), REF_IS_NO_WORLD, 0);
