@@ -18,7 +18,8 @@
  *   report     one cleared reference in four isn't reported
  *   early      a reference is reported whose referent lives
  *
- * Prints what it found. Exit status: 0 all collections agree; 1 one doesn't; 2 the shadow went wrong. */
+ * Prints what it found. Exit status: 0 all collections agree; 1 one doesn't; 2 the shadow went wrong, or
+ * there is no such fault. */
 #include "ref.h"
 #include <stdio.h>
 #include <stdlib.h>
@@ -43,6 +44,14 @@ static struct thing *roots[ROOTS], *all;
 static uint64_t now;
 static int living, keeps_more, cleared_before;
 static const char *fault = "";
+
+/* Whether there is a fault of this name, which the toy then has. */
+static int takes_fault(const char *name) {
+    static const char *const faults[] = {"field", "soft", "weak", "phantom", "report", "early"};
+    for (size_t i = 0; i < sizeof faults / sizeof *faults; i++)
+        if (strcmp(faults[i], name) == 0) fault = faults[i];
+    return *fault != '\0';
+}
 
 static int has_fault(const char *name) {
     return strcmp(fault, name) == 0;
@@ -260,10 +269,16 @@ static void change(void) {
 int main(int argc, char **argv) {
     struct ref_config config = {1, 1, 1, CELLS, SPAN, 0};
     int is_well = 1;
-    for (int i = 1; i < argc; i++)
-        if (strcmp(argv[i], "more") == 0) keeps_more = 1;
-        else fault = argv[i];
-    if (ref_world_new(&world, &config) != 0) return 2;
+    for (int i = 1; i < argc; i++) {
+        if (strcmp(argv[i], "more") == 0) {
+            keeps_more = 1;
+        } else if (!takes_fault(argv[i])) {
+            printf("there is no fault %s\n", argv[i]);
+            return 2;
+        }
+    }
+    did = calloc(1, sizeof *did);
+    if (did == NULL || ref_world_new(&world, &config) != 0) return 2;
     for (int round = 0; is_well && round < ROUNDS; round++)
         if (living > CELLS - 8 || any(200) == 0) is_well = collect();
         else change();
