@@ -2,7 +2,8 @@
  *
  * A handle is zero at first, and then only these calls write it. One call at a time uses a handle: a program whose
  * threads share one puts a lock of its own around each call. No call keeps a pointer that it was given. No pointer is
- * null, also where it is to no elements. No call comes from a signal handler.
+ * null, also where it is to no elements, and what a call writes overlaps nothing else that it is given. No call comes
+ * from a signal handler.
  *
  * Any numbers are safe. Link the static library and the toolchain's libc library. */
 #ifndef REF_H
