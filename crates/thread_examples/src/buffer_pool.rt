@@ -122,8 +122,9 @@ fn run<'x, R: Threads + Wait + Sync>(
     let ((let_go, collected), by_worker) = thread::join(
         rt,
         || -> (Result<(), Fault>, Result<(), Fault>) {
-            let (let_go, collected) =
-                collector.run_beside(rt, || -> Result<(), Fault> { let_go(rt, heap) });
+            let (let_go, collected) = collector.run_beside(rt, || -> Result<(), Fault> {
+                let_go(rt, heap)
+            });
             (let_go, collected.ended)
         },
         || -> Result<u64, Fault> { worker.run(rt) },
