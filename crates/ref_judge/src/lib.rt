@@ -4,6 +4,7 @@
 
 mod hand;
 mod hands;
+mod history;
 mod judge;
 pub mod laws;
 mod line;
@@ -18,6 +19,7 @@ mod sweeping;
 mod traces;
 mod worker;
 
+pub use history::{Because, Earlier, History, Settled};
 pub use judge::Judge;
 pub use order::Order;
 pub use profile::Profile;

@@ -2,9 +2,8 @@
 
 use crate::called::Called;
 use crate::fault::LogFault;
-use crate::history::Because;
 use ref_base::Row;
-use ref_judge::{Breach, Instead};
+use ref_judge::{Because, Breach, Instead};
 use std::alloc::AllocError;
 use std::fmt;
 use thiserror::Error;

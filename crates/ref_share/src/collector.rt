@@ -116,7 +116,7 @@ impl<'a, A: Allocator + Copy> Collector<'a, A> {
 pub struct Collected<'a> {
     /// The collector, which has closed its queues.
     pub collector: Collector<'a>,
-    /// The fault of the cycle that failed, where it was none that told it to stop.
+    /// `Ok` where its cycles ended since it was told to stop, and else the fault of the cycle that failed.
     pub ended: Result<(), Fault>,
 }
 

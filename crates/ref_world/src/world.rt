@@ -2,6 +2,7 @@
 
 ghost use Rattle.std.specs.Prelude.{◌≡◌, true, IfOk, Some, None};
 ghost use Rattle.ref_base.specs.Collectors.{first_state};
+ghost use Rattle.ref_base.specs.Graphs.{is_there};
 ghost use Rattle.ref_base.specs.Heaps.{slot_at, reference_at};
 ghost use Rattle.ref_base.specs.Refusals.{clear_refusal, has_slot, is_actor, is_mutator, is_queue};
 ghost use Rattle.ref_objects.specs.Grounds.{starting_refusal, IsMade, IsRefused};
@@ -84,6 +85,14 @@ impl<A: Allocator + Copy> World<A> {
             Some(Kind::Reference(_)) => Ok(no),
             _ => Err(Fault::NotAReference),
         }
+    }
+
+    /// Whether an object of this number is there: it was made, and no sweep has freed it. Any number may be asked, and
+    /// numbers are never used again. In logarithmic time. Takes no memory.
+    pub fn is_there(&self, object: ObjNo) -> bool
+        ensures { result ≡ is_there (model_heap self.now.heap).objects object }
+    {
+        self.heap.kind_of(object).is_some()
     }
 
     /// The queue of this number. The one error is `BadQueue`.

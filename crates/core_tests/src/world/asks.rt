@@ -1,4 +1,4 @@
-//! What is asked of a world beside its steps: the reference in a slot, and what a queue has.
+//! What is asked of a world beside its steps: the reference in a slot, if an object is there, and what a queue has.
 
 ghost use Rattle.std.specs.Prelude.{◌≡◌, IfOk, length};
 ghost use Rattle.ref_world.specs.Cores.{core_queue_at};
@@ -6,7 +6,7 @@ ghost use Rattle.ref_world.specs.Cores.{core_queue_at};
 use super::{CONFIG, THREE_CLEARED, TWO_WORKERS, world_of};
 use crate::queues::listed;
 use crate::steps::{Steps, Told, agree, made};
-use ref_base::{Config, Fault, MutNo, QueueNo, Reply, SlotNo, Step};
+use ref_base::{Config, Fault, MutNo, ObjNo, QueueNo, Reply, SlotNo, Step};
 use ref_world::World;
 use std::alloc::{Allocator, Global};
 use std::process::Abort;
@@ -29,7 +29,7 @@ fn standing_in<A: Allocator + Copy>(
     Ok(standing.len())
 }
 
-/// Calls name a queue, or a slot and its mutator.
+/// Calls name a queue, an object, or a slot and its mutator.
 impl Steps for Asked {
     fn step(&mut self, step: Step) -> Told {
         Told::Reply(World::step(&mut self.world, step))
@@ -41,6 +41,7 @@ impl Steps for Asked {
         };
         match name {
             "ref_in" => made(self.world.ref_in(MutNo(mutator), SlotNo(numbers.0))),
+            "is_there" => Told::Reply(Reply::Refers(self.world.is_there(ObjNo(numbers.0)))),
             "standing" => match standing_in(self.alloc, &self.world, QueueNo(numbers.0)) {
                 Ok(count) => Told::Number(Some(count as u64)),
                 Err(fault) => Told::Reply(Reply::Refused(fault)),
@@ -73,6 +74,16 @@ fn a_slot_tells_its_reference(rt: HostRuntime) {
         ref_in 1 : object 2; ref_in 0 : refused 8 NotAReference; ref_in 2 : refused 6 EmptySlot
         ref_in 16 : refused 9 NoSuchActor; ref_in 1 1 : refused 9 NoSuchActor";
     tell(&rt, rt.alloc(), CONFIG, made, story);
+}
+
+#[test]
+fn an_object_is_there_until_a_sweep_frees_it(rt: HostRuntime) {
+    let story = "
+        is_there 0 : false; is_there 1 : true; is_there 5 : true; is_there 7 : false
+        w0 sweep : swept 3; is_there 1 : false; is_there 2 : true; is_there 3 : false; is_there 4 : true
+        is_there 5 : false; endsweep : ok; m0 new s4 0 : object 7; is_there 7 : true; is_there 1 : false
+        is_there 4294967295 : false";
+    tell(&rt, rt.alloc(), TWO_WORKERS, THREE_CLEARED, story);
 }
 
 #[test]

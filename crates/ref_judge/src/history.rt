@@ -1,11 +1,11 @@
-//! Which earlier row of a log settled what a row breaks.
+//! Which earlier row of a trace settled what a row breaks.
 
+use crate::{Breach, Instead, Judge, Rule};
 use ref_base::{Fault, ObjNo, PlainStep, QueueNo, Reply, Row, Step};
-use ref_judge::{Breach, Instead, Judge, Rule};
 use std::alloc::Allocator;
 use std::fmt;
 
-/// A row of a log that stands before another.
+/// A row of a trace that stands before another.
 #[derive(Clone, Copy, Debug, PartialEq, Eq)]
 pub struct Earlier {
     /// Its number among the rows, counted from 1.
@@ -64,9 +64,9 @@ impl fmt::Display for Because {
     }
 }
 
-/// The rows so far that settled something, the last of each kind. Its memory is the same for each log.
+/// The rows so far that settled something, the last of each kind. It takes no memory, however many rows it is told.
 #[derive(Drop)]
-pub(crate) struct History {
+pub struct History {
     begin: Option<Earlier>,
     mark_end: Option<Earlier>,
     phase: Option<Earlier>,
@@ -90,7 +90,7 @@ impl History {
         }
     }
 
-    /// One more row, which is legal, if it is one of the collector.
+    /// One more row, of this number, which is legal. None is a row that is no collector's. In constant time.
     pub fn note(&mut self, number: u64, row: Option<Row>) {
         let Some(row) = row else {
             return;
@@ -177,7 +177,8 @@ impl History {
         self.some_left = None;
     }
 
-    /// The row that settled what this one breaks, if it is known.
+    /// The row that settled what this one breaks, if it is known: for a reader, since no clause says which it is. The
+    /// judge is the one that objected to the row. In the time of a search.
     pub fn because<A: Allocator + Copy>(
         &self,
         judge: &Judge<A>,
