@@ -14,6 +14,7 @@ mod move_runs;
 mod queue_runs;
 mod scale_runs;
 mod script_run;
+mod step_runs;
 mod tills;
 mod timing;
 

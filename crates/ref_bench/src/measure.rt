@@ -10,6 +10,7 @@ use crate::move_runs::Moves;
 use crate::queue_runs::{queue_alone, shared_queue_alone};
 use crate::scale_runs::{Scale, Size};
 use crate::script_run::script_steps;
+use crate::step_runs::{StepList, world_steps};
 use crate::timing::Sample;
 use ref_base::Fault;
 use std::alloc::Global;
@@ -35,10 +36,12 @@ pub enum Measure {
     CleanedJob(u32),
     /// One step of a script: read, done and printed.
     ScriptStep,
+    /// One step of a list, by `World::step`.
+    WorldStep(StepList),
 }
 
 /// All measures, in the order in which they are printed, each behind what its line says.
-pub const ALL: [(&str, Measure); 43] = [
+pub const ALL: [(&str, Measure); 45] = [
     ("queue, a put or poll", Measure::Queue),
     (
         "shared queue, one thread, a put or poll",
@@ -190,6 +193,14 @@ pub const ALL: [(&str, Measure); 43] = [
         Measure::CleanedJob(3_000),
     ),
     ("a script, a step", Measure::ScriptStep),
+    (
+        "loads and gets along a chain, by World::step",
+        Measure::WorldStep(StepList::Reads),
+    ),
+    (
+        "cycles of weak references, by World::step",
+        Measure::WorldStep(StepList::Cycles),
+    ),
 ];
 
 impl Measure {
@@ -210,6 +221,7 @@ impl Measure {
             Measure::HeapCallAmong(n) => heap_calls(rt, alloc, n, size.saturating_mul(2_000)),
             Measure::CleanedJob(n) => jobs_registered_and_run(rt, alloc, n),
             Measure::ScriptStep => script_steps(rt, alloc, size.saturating_mul(500)),
+            Measure::WorldStep(list) => world_steps(rt, alloc, list, size),
         }
     }
 
