@@ -1,5 +1,5 @@
 /* A death: an object dies, its weak reference is cleared and put into a queue, and the program polls it.
- * Prints each step with its reply. Exit status: 0; 1 where a reply isn't the one that is due. */
+ * Prints each step with its reply. Exit status: 0; 1 where a reply has another kind or object than is due. */
 #include "ref.h"
 #include <stdio.h>
 #include <stdlib.h>

@@ -1,5 +1,6 @@
 /* No memory: each request is refused in turn. `ref_world_new` answers 3 then and leaves the handle as it was; a put is
- * refused with 3 and can be made again; no other step asks. What was given is given back.
+ * refused with 3 and can be made again; no other step asks. A judge says that memory was refused, and judges the row
+ * when it is told again. What was given is given back.
  *
  * It is linked with --wrap=malloc, --wrap=realloc and --wrap=free, so that it sees each request.
  * Prints the counts. Exit status: 0 each is the one that is due; 1 one isn't. */
@@ -136,7 +137,54 @@ static int try_others(struct ref_world *world) {
     return 0;
 }
 
+/* Each request of `ref_judge_new` is refused in turn. */
+static int try_new_judge(struct ref_judge *judge) {
+    struct ref_profile strict = {0, 0, 0};
+    for (long met = 0;; met++) {
+        long before = out;
+        uint32_t fault;
+        meet(met);
+        fault = ref_judge_new(judge, &config, &strict);
+        meet(-1);
+        if (fault == 0) return 0;
+        if (fault != 3 || judge->at != NULL || out != before) return wrong("a judge", met, fault);
+    }
+}
+
+/* The row is legal. Where memory is refused it is told again. */
+static int is_legal(struct ref_judge *judge, struct ref_step step, struct ref_reply reply, long *again) {
+    struct ref_verdict verdict;
+    meet(0);
+    verdict = ref_judged(judge, step, reply);
+    meet(-1);
+    if (verdict.kind == REF_SAYS_NO_MEMORY) {
+        ++*again;
+        verdict = ref_judged(judge, step, reply);
+    }
+    return verdict.kind == REF_SAYS_LEGAL;
+}
+
+/* The first request of each of 2,000 puts is refused to a judge of them. */
+static int try_judged_puts(struct ref_judge *judge) {
+    long again = 0;
+    struct ref_step made = {REF_NEW, 0, 0, 0, 0, 0, 0}, refer = {REF_WEAK, 0, 1, 0, 0, 0, 0};
+    struct ref_step unhook = {REF_UNHOOK, 0, 1, 0, 0, 0, 0}, puts = {REF_PUT, 0, 0, 0, 0, 0, 0};
+    struct ref_reply object = {REF_IS_OBJECT, 0, 1, 0, 0, 0, 0}, added = {REF_IS_ADDED, 0, 0, 0, 0, 0, 0};
+    if (!is_legal(judge, made, object, &again)) return wrong("a judged object", 0, 0);
+    for (uint32_t i = 0; i < 2000; i++) {
+        struct ref_reply notice = {REF_IS_OWN_NOTICE, 0, i + 2, 0, 0, 0, 0};
+        object.object = i + 2;
+        added.number = i;
+        if (!is_legal(judge, refer, object, &again) || !is_legal(judge, unhook, notice, &again) ||
+            !is_legal(judge, puts, added, &again))
+            return wrong("a judged put", i, 0);
+    }
+    printf("2000 judged puts: memory refused to %ld, which were then judged\n", again);
+    return again == 0;
+}
+
 int main(void) {
+    struct ref_judge judge = {0};
     struct ref_world world = {0};
     int is_wrong;
     setvbuf(stdout, NULL, _IONBF, 0); /* so that no request is the printer's */
@@ -145,6 +193,8 @@ int main(void) {
     ref_new(&world, 0, 0, 0);
     is_wrong = try_puts(&world) != 0 || try_others(&world) != 0;
     ref_world_end(&world);
+    is_wrong = is_wrong || try_new_judge(&judge) != 0 || try_judged_puts(&judge) != 0;
+    ref_judge_end(&judge);
     if (out != 0) is_wrong = wrong("the end", 0, 0);
     return is_wrong;
 }

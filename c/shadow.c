@@ -113,6 +113,16 @@ static void want(struct ref_reply reply, uint32_t kind, const char *what) {
     exit(2);
 }
 
+/* What the core's scans told is there after its sweeps, and no other object. */
+static void ask_what_is_there(void) {
+    for (const struct thing *t = all; t != NULL; t = t->next) {
+        uint32_t is_there = ref_world_is_there(&world, t->number);
+        if (is_there == did[t->number].is_kept) continue;
+        printf("the shadow went wrong: object %u is %s\n", t->number, is_there ? "there" : "freed");
+        exit(2);
+    }
+}
+
 /* The core's cycle. What it reports is let go of. */
 static void play_cycle(void) {
     struct ref_reply reply;
@@ -129,6 +139,7 @@ static void play_cycle(void) {
     }
     while (ref_sweep(&world, W).kind == REF_IS_SWEPT) {}
     want(ref_end_sweep(&world), REF_IS_DONE, "endsweep");
+    ask_what_is_there();
 }
 
 /* Prints what is wrong of an object, if anything is told. */

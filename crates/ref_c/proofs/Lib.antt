@@ -1,5 +1,9 @@
+pub mod GivenLemmas
 pub mod Handles
+pub mod JudgeExamples
+pub mod JudgeHandles
 pub mod LooseValues
 pub mod NumberExamples
 pub mod Plays
+pub mod WorldHandles
 pub mod WrittenLemmas

@@ -1,7 +1,8 @@
 -- What a call does with the world that a handle has.
-use Rattle.std.specs.Prelude.{ℕ, ◌≡◌, ◌⊎◌, Option, None, Some, Ok, Err, if◌then◌else◌, ◌==◌, List, [], ◌∷◌}
+use Rattle.std.specs.Prelude.{ℕ, ◌≡◌, ◌⊎◌, Bool, false, Option, None, Some, Ok, Err, if◌then◌else◌, ◌==◌, List, [], ◌∷◌}
 use Rattle.ref_base.specs.Collectors.{first_state}
 use Rattle.ref_base.specs.Faults.{number_of}
+use Rattle.ref_base.specs.Graphs.{is_there}
 use Rattle.ref_base.specs.declared.config.Config.{Config}
 use Rattle.ref_base.specs.declared.fault.Fault.{Fault}
 use Rattle.ref_base.specs.declared.reply.Reply.{Reply}
@@ -10,6 +11,7 @@ use Rattle.ref_base.specs.declared.step.Step.{Step}
 use Rattle.ref_objects.specs.Grounds.{IsMade, starting_refusal}
 use Rattle.ref_world.specs.Cores.{first_core}
 use Rattle.ref_world.specs.Standing.{IsRowOf, Stands}
+use Rattle.ref_world.specs.WorldHeaps.{model_heap}
 use Rattle.ref_c.specs.Holding.{KeptWorld}
 use Rattle.ref_c.specs.ReplyNumbers.{all_listed, all_numbers, listed_by, numbers_of}
 use Rattle.ref_c.specs.StepNumbers.{numbered_step}
@@ -64,6 +66,16 @@ abbrev pub TellsStep : Option KeptWorld → RefStep → RefReply → List ℕ �
 TellsStep old step reply list list' new =
     (answer : Answer) × Steps old step answer new × (reply ≡ numbers_of answer)
     × (list' ≡ written_over list (listed_by answer))
+
+-- ---- a question
+
+-- whether an object of this number is there: in a world, and in one that a handle has
+abbrev pub is_object_of : KeptWorld → ℕ → Bool
+is_object_of kept n = is_there (model_heap kept.world.heap).objects n
+
+abbrev pub is_object_in : Option KeptWorld → ℕ → Bool
+is_object_in None n = false
+is_object_in (Some kept) n = is_object_of kept n
 
 -- ---- a play
 

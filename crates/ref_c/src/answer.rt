@@ -18,7 +18,7 @@ pub enum Answer {
 
 /// An answer by numbers: its kind, and what it tells. What a kind doesn't tell is 0.
 #[repr(C)]
-#[derive(Clone, Copy)]
+#[derive(Clone, Copy, PartialEq, Eq)]
 pub struct RefReply {
     /// 64 to 91, as the header names them.
     pub kind: u32,
@@ -38,6 +38,7 @@ pub struct RefReply {
 
 impl Answer {
     /// The numbers of the answer. Takes no memory.
+    #[inline(always)]
     pub fn numbers(&self) -> RefReply
         ensures { result ≡ numbers_of self.now }
     {
@@ -50,8 +51,9 @@ impl Answer {
 }
 
 impl RefReply {
-    // One that tells its kind alone.
-    fn of(kind: u32) -> Self
+    /// One that tells its kind alone. Takes no memory.
+    #[inline(always)]
+    pub fn of(kind: u32) -> Self
         ensures { result ≡ of_kind kind }
     {
         RefReply {
@@ -66,6 +68,7 @@ impl RefReply {
     }
 
     // One that tells an object too.
+    #[inline(always)]
     fn object(kind: u32, object: ObjNo) -> Self
         ensures { result ≡ of_object kind object }
     {
@@ -76,6 +79,7 @@ impl RefReply {
     }
 
     // One that tells how many, too.
+    #[inline(always)]
     fn count(kind: u32, count: u32) -> Self
         ensures { result ≡ of_count kind count }
     {
@@ -86,6 +90,7 @@ impl RefReply {
     }
 
     // One that tells a number that may be large, too.
+    #[inline(always)]
     fn number(kind: u32, number: u64) -> Self
         ensures { result ≡ of_number kind number }
     {
@@ -96,8 +101,9 @@ impl RefReply {
     }
 }
 
-// The numbers of a reply.
-fn numbers_of(reply: &Reply) -> RefReply
+/// The numbers of a reply. Takes no memory.
+#[inline(always)]
+pub fn numbers_of(reply: &Reply) -> RefReply
     ensures { result ≡ reply_numbers reply.now }
 {
     match reply {
@@ -147,6 +153,7 @@ fn numbers_of(reply: &Reply) -> RefReply
 }
 
 // The numbers of a notice.
+#[inline(always)]
 fn notice(object: ObjNo, queue: QueueNo, cause: Cause) -> RefReply
     ensures { result ≡ reply_numbers (Reply.Notice object queue cause) }
 {

@@ -4,7 +4,7 @@ ghost use Rattle.std.specs.Prelude.{◌≡◌, MatchOption};
 ghost use Rattle.std.specs.declared.option.Option.{Option};
 ghost use Rattle.std.specs.declared.option.Option.TheVariants.{None, Some};
 ghost use Rattle.ref_c.specs.declared.kept.Kept.{Kept};
-ghost use Rattle.ref_c.specs.Holding.{held_coded, kept_in, holds};
+ghost use Rattle.ref_c.specs.Holding.{held_coded, holds_world, kept_in};
 
 use crate::kept::Kept;
 use crate::loose::Loose;
@@ -21,7 +21,7 @@ pub struct RefWorld {
 }
 
 impl Model for RefWorld {
-    ghost also_owns = { λ h. holds h.at h.held };
+    ghost also_owns = { λ h. holds_world h.at h.held };
 }
 
 impl RefWorld {

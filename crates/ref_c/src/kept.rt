@@ -6,11 +6,14 @@ ghost use Rattle.ref_objects.specs.Grounds.{IsMade};
 ghost use Rattle.ref_world.specs.Cores.{first_core};
 ghost use Rattle.ref_world.specs.Standing.{Stands};
 ghost use Rattle.ref_c.specs.StepNumbers.{numbered_step};
-ghost use Rattle.ref_c.specs.WorldSteps.{Answers, first_refusal};
+ghost use Rattle.ref_c.specs.ToldSteps.{TellsAnswer};
+ghost use Rattle.ref_c.specs.WorldSteps.{Answers, first_refusal, is_object_of};
+ghost use Rattle.ref_c.specs.declared.answer.Answer.{Answer};
 
-use crate::answer::Answer;
+use crate::answer::{Answer, RefReply, numbers_of};
+use crate::list::list_reply;
 use crate::step::{RefStep, step_of};
-use ref_base::{Config, Fault};
+use ref_base::{Config, Fault, ObjNo};
 use ref_world::World;
 use std::alloc::Global;
 
@@ -34,14 +37,36 @@ impl Kept {
         }
     }
 
-    /// Does the step of these numbers, if they are one. In the time and memory of `World::step`.
-    pub fn answer(&mut self, numbers: &RefStep) -> Answer
-        ensures { Answers self.old (numbered_step numbers.now) result self.new }
+    /// Does the step of these numbers, if they are one, and tells its answer. What it lists goes behind so many places
+    /// of the list that are used: how many are used then. In the time and memory of `World::step`.
+    pub fn tell(
+        &mut self,
+        numbers: &RefStep,
+        reply: &mut RefReply,
+        list: &mut [u64],
+        used: usize,
+    ) -> usize
+        ensures { (answer : Answer) × Answers self.old (numbered_step numbers.now) answer self.new
+            × TellsAnswer answer reply.new list.old used list.new result }
     {
         match step_of(numbers) {
-            Some(step) => Answer::Replied(self.world.step(step)),
-            None => Answer::NoStep,
+            Some(step) => {
+                let told = self.world.step(step);
+                *reply = numbers_of(&told);
+                list_reply(&told, list, used)
+            }
+            None => {
+                *reply = Answer::NoStep.numbers();
+                used
+            }
         }
+    }
+
+    /// Whether an object of this number is there. In logarithmic time. Takes no memory.
+    pub fn is_there(&self, object: ObjNo) -> bool
+        ensures { result ≡ is_object_of self.now object }
+    {
+        self.world.is_there(object)
     }
 }
 

@@ -1,30 +1,38 @@
-//! The core for C: a world behind an opaque handle, and its steps by numbers, one at a time or as a table.
+//! The core for C: a world behind an opaque handle, and its steps by numbers, one at a time or as a table. And a judge
+//! behind another, which is told steps with their replies and says which row is the first that isn't legal.
 //!
-//! A handle is nothing, where its pointer is null, or has a world. By the C program: a handle is zero at first, and
-//! then only these calls write it; one call at a time uses it.
+//! A handle is nothing, where its pointer is null, or has a world or a judge. By the C program: a handle is zero at
+//! first, and then only these calls write it; one call at a time uses it.
 #![tactic(auto)]
 
-ghost use Rattle.std.specs.Prelude.{◌≡◌, length, take};
+ghost use Rattle.std.specs.Prelude.{◌≡◌, if◌then◌else◌, length, take};
 ghost use Rattle.std.specs.declared.option.Option.TheVariants.{None, Some};
 ghost use Rattle.ref_c.specs.Holding.{kept_in};
+ghost use Rattle.ref_c.specs.ToldSteps.{TellsAnswer};
 ghost use Rattle.ref_c.specs.Written.{lesser};
-ghost use Rattle.ref_c.specs.WorldSteps.{MakesWorld, Steps, TellsPlay, TellsStep, numbered_config};
+ghost use Rattle.ref_c.specs.WorldSteps.{MakesWorld, Steps, TellsPlay, TellsStep, is_object_in};
+ghost use Rattle.ref_c.specs.WorldSteps.{numbered_config};
+ghost use Rattle.ref_c.specs.declared.answer.Answer.{Answer};
 
 mod answer;
+mod given;
 mod handle;
+mod judge;
+mod judge_handle;
+mod judged;
 mod kept;
 mod list;
 mod loose;
 mod step;
 #[cfg(test)]
 mod tests;
+mod verdict;
 
 use crate::answer::{Answer, RefReply};
 use crate::handle::RefWorld;
 use crate::kept::Kept;
-use crate::list::list_answer;
 use crate::step::RefStep;
-use ref_base::{Config, SpanRule};
+use ref_base::{Config, ObjNo, SpanRule};
 use std::alloc::Global;
 
 /// What a world is made with, as `Config` says it.
@@ -77,10 +85,8 @@ pub extern "C" fn ref_world_step(
     ensures { TellsStep handle.old.held step.now reply.new list.old list.new handle.new.held }
 {
     let mut held = handle.take(alloc);
-    let answer = asked(&mut held, step);
+    let _used = tell(&mut held, step, reply, list, 0);
     give_back(alloc, handle, held);
-    *reply = answer.numbers();
-    let _used = list_answer(&answer, list, 0);
 }
 
 /// Does the steps one after the other, as `ref_world_step` does each, and tells their replies in order. Returns how
@@ -104,12 +110,24 @@ pub extern "C" fn ref_world_play(
     let count = lesser(steps.len(), replies.len());
     let mut used = 0usize;
     for place in 0..count {
-        let answer = asked(&mut held, &steps[place]);
-        replies[place] = answer.numbers();
-        used = list_answer(&answer, list, used);
+        used = tell(&mut held, &steps[place], &mut replies[place], list, used);
     }
     give_back(alloc, handle, held);
     count
+}
+
+/// Whether an object of this number is there: 1 where it was made and no sweep has freed it, and else 0. Any number may
+/// be asked, and numbers are never used again. 0 also where the handle has no world. In logarithmic time. Takes no
+/// memory.
+#[unsafe(no_mangle)]
+pub extern "C" fn ref_world_is_there(alloc: Global, handle: &mut RefWorld, object: u32) -> u32
+    ensures told { result ≡ (if is_object_in handle.old.held object then 1 else 0) }
+    ensures kept { handle.new.held ≡ handle.old.held }
+{
+    let held = handle.take(alloc);
+    let is_there = has_object(&held, object);
+    give_back(alloc, handle, held);
+    u32::from(is_there)
 }
 
 /// Ends the world, if the handle has one. The handle is nothing then. Takes no memory.
@@ -147,13 +165,35 @@ fn numbered_config(config: &RefConfig) -> Config
     }
 }
 
-// Does the step of these numbers in the world, if there is one.
-fn asked(held: &mut Option<Box<Kept>>, numbers: &RefStep) -> Answer
-    ensures { Steps (kept_in held.old) numbers.now result (kept_in held.new) }
+// Does the step of these numbers in the world, if there is one, and tells its answer. What it lists goes behind so many
+// places of the list that are used: how many are used then.
+#[inline(always)]
+fn tell(
+    held: &mut Option<Box<Kept>>,
+    numbers: &RefStep,
+    reply: &mut RefReply,
+    list: &mut [u64],
+    used: usize,
+) -> usize
+    ensures { (answer : Answer) × Steps (kept_in held.old) numbers.now answer (kept_in held.new)
+        × TellsAnswer answer reply.new list.old used list.new result }
 {
     match held {
-        Some(kept) => kept.answer(numbers),
-        None => Answer::NoWorld,
+        Some(kept) => kept.tell(numbers, reply, list, used),
+        None => {
+            *reply = Answer::NoWorld.numbers();
+            used
+        }
+    }
+}
+
+// Whether there is a world in which an object of this number is.
+fn has_object(held: &Option<Box<Kept>>, object: u32) -> bool
+    ensures { result ≡ is_object_in (kept_in held.now) object }
+{
+    match held {
+        Some(kept) => kept.is_there(ObjNo(object)),
+        None => false,
     }
 }
 

@@ -1,27 +1,16 @@
-//! The numbers that an answer lists, in a table of the caller's.
+//! The numbers that a reply lists, in a table of the caller's.
 
 ghost use Rattle.std.specs.Prelude.{◌≡◌, ◌+◌, ◌<◌, ◌^◌, ℕ, List, [], ◌∷◌, ◌++◌, length};
 ghost use Rattle.ref_base.specs.Outs.{outs_of, out_of};
-ghost use Rattle.ref_c.specs.ReplyNumbers.{listed_by, out_numbers, outs_numbers, reply_listed};
+ghost use Rattle.ref_c.specs.ReplyNumbers.{out_numbers, outs_numbers, reply_listed};
 ghost use Rattle.ref_c.specs.Written.{IsWritten};
 
-use crate::answer::Answer;
 use ref_base::{Done, ObjNo, Reply};
 
-/// Lists what the answer lists, behind so many places that are used: how many are used then. What finds no room is left
+/// Lists what the reply lists, behind so many places that are used: how many are used then. What finds no room is left
 /// out. Takes no memory.
-pub fn list_answer(answer: &Answer, table: &mut [u64], used: usize) -> usize
-    ensures { (first new : List ℕ) → IsWritten first new table.old used
-        → IsWritten first (new ++ listed_by answer.now) table.new result }
-{
-    match answer {
-        Answer::Replied(reply) => list_reply(reply, table, used),
-        Answer::NoStep | Answer::NoWorld => used,
-    }
-}
-
-// Lists what a reply lists.
-fn list_reply(reply: &Reply, table: &mut [u64], used: usize) -> usize
+#[inline(always)]
+pub fn list_reply(reply: &Reply, table: &mut [u64], used: usize) -> usize
     ensures { (first new : List ℕ) → IsWritten first new table.old used
         → IsWritten first (new ++ reply_listed reply.now) table.new result }
 {

@@ -27,6 +27,7 @@ pub struct RefStep {
 }
 
 /// The step that these numbers are, if they are one. Takes no memory.
+#[inline(always)]
 pub fn step_of(s: &RefStep) -> Option<Step>
     ensures { result ≡ numbered_step s.now }
 {
@@ -40,6 +41,7 @@ pub fn step_of(s: &RefStep) -> Option<Step>
 }
 
 // The step of a mutator that hands nothing over, but for references that are for no queue.
+#[inline(always)]
 fn of_mutator(s: &RefStep) -> Option<PlainStep>
     ensures { result ≡ mutator_step s.now }
 {
@@ -92,6 +94,7 @@ fn of_mutator(s: &RefStep) -> Option<PlainStep>
 }
 
 // The step that makes a reference which is for no queue.
+#[inline(always)]
 fn unqueued(s: &RefStep) -> PlainStep
     ensures { result ≡ unqueued_step s.now }
 {
@@ -103,6 +106,7 @@ fn unqueued(s: &RefStep) -> PlainStep
 }
 
 // The step that makes a reference.
+#[inline(always)]
 fn refer(s: &RefStep, strength: Strength, queue: Option<QueueNo>) -> PlainStep
     ensures { result ≡ reference_step strength queue s.now }
 {
@@ -117,6 +121,7 @@ fn refer(s: &RefStep, strength: Strength, queue: Option<QueueNo>) -> PlainStep
 }
 
 // The step of a mutator about its hand and the queues.
+#[inline(always)]
 fn of_hand(s: &RefStep) -> Step
     ensures { result ≡ hand_step s.now }
 {
@@ -144,6 +149,7 @@ fn of_hand(s: &RefStep) -> Step
 }
 
 // The step of a worker, or a turn of cycles and moves.
+#[inline(always)]
 fn of_worker(s: &RefStep) -> Option<Step>
     ensures { result ≡ worker_step s.now }
 {
@@ -161,6 +167,7 @@ fn of_worker(s: &RefStep) -> Option<Step>
 }
 
 // The step of a cycle or a move that hands nothing over.
+#[inline(always)]
 fn of_cycle(s: &RefStep) -> Option<PlainStep>
     ensures { result ≡ cycle_step s.now }
 {

@@ -1,12 +1,16 @@
 //! Each kind of step and of reply by numbers, against worked traces; and what a handle of nothing, a short list, a
 //! short table and numbers that are no step are answered.
 
+mod judging;
+mod logs;
 mod stories;
 
 use crate::answer::{Answer, RefReply};
 use crate::handle::RefWorld;
 use crate::step::{RefStep, step_of};
-use crate::{RefConfig, ref_world_end, ref_world_new, ref_world_play, ref_world_step};
+use crate::{
+    RefConfig, ref_world_end, ref_world_is_there, ref_world_new, ref_world_play, ref_world_step,
+};
 use ref_base::{Cause, Done, Fault, Nos, ObjNo, Outs, QueueNo, Reply, WorkerNo};
 use std::alloc::Global;
 use std::process::Abort;
@@ -37,7 +41,8 @@ const NO_REPLY: RefReply = RefReply {
     number: 1000,
 };
 
-/// The numbers of a row: of its step, of its reply, and those that the reply lists, with how many these are.
+/// The numbers of a row: of its step, of its reply, and those that the reply lists, with how many these are. And those
+/// of its verdict and of the answer that this names: all 0 where it is legal.
 #[derive(Drop)]
 struct Row<'a> {
     text: &'a str,
@@ -45,6 +50,8 @@ struct Row<'a> {
     told: [u64; 7],
     lists: [u64; 8],
     count: usize,
+    says: [u64; 6],
+    instead: [u64; 7],
 }
 
 /// Reads the numbers of a text, with a space between each two, as far as there is room: how many.
@@ -67,6 +74,8 @@ fn row_of<'a>(rt: &impl Abort, line: &'a str) -> Row<'a> {
         told: [0; 7],
         lists: [BLANK; 8],
         count: 0,
+        says: [0; 6],
+        instead: [0; 7],
     };
     let mut parts = line.split('|');
     row.text = parts.next().unwrap_or("").trim();
@@ -74,6 +83,8 @@ fn row_of<'a>(rt: &impl Abort, line: &'a str) -> Row<'a> {
     let told = read(parts.next().unwrap_or(""), &mut row.told);
     assert!(rt; asks == 6 && told == 7, "no row: {line}");
     row.count = read(parts.next().unwrap_or(""), &mut row.lists);
+    let _said = read(parts.next().unwrap_or(""), &mut row.says);
+    let _named = read(parts.next().unwrap_or(""), &mut row.instead);
     row
 }
 
@@ -310,6 +321,32 @@ fn a_handle_of_nothing(rt: HostRuntime) {
 /// No room for a number.
 fn list_of_none() -> [u64; 0] {
     []
+}
+
+/// Object 5 is referred to by a reference alone, so that a cycle frees it. A handle of nothing has no object.
+#[test]
+fn objects_that_are_there(rt: HostRuntime) -> Result<(), Fail> {
+    let alloc = rt.alloc();
+    let mut none = RefWorld::empty();
+    assert!(rt; ref_world_is_there(alloc, &mut none, 1) == 0);
+    let mut world = made(&rt, alloc);
+    let agreed = agree(&rt, alloc, &mut world, CYCLES);
+    for (object, is_there) in [
+        (0, 0),
+        (1, 0),
+        (2, 1),
+        (3, 0),
+        (5, 0),
+        (8, 1),
+        (9, 1),
+        (10, 0),
+    ] {
+        let told = ref_world_is_there(alloc, &mut world, object);
+        assert!(rt; told == is_there, "{object}: {told}");
+    }
+    ended(&rt, alloc, none);
+    ended(&rt, alloc, world);
+    agreed
 }
 
 /// The next object's number tells which world the handle has: a configuration outside the limits leaves it as it was.

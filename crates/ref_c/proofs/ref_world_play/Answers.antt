@@ -14,9 +14,10 @@ loop-place-preserved c =
     let a = c.args in let l = c.loop-place in let steps = a.steps.now in let replies = a.replies.now in
     let below : l.place < lesser (length steps) (length replies) =
     omega (arith, c.lesser-count.ensures, c.loop-place-test.true) in
-    rw c.numbers.ensures
-    (next-played a.handle.now.held (kept_in l.held) (kept_in c.asked-answer.new.held) steps l.place _
-    c.asked-answer.result replies l.replies a.list.now l.list c.list_answer-used.new.table l.used
-    c.list_answer-used.result l.invariant c.asked-answer.ensures
+    let (answer, does, (numbers, lists)) = c.tell-used.ensures in
+    rw numbers
+    (next-played a.handle.now.held (kept_in l.held) (kept_in c.tell-used.new.held) steps l.place _
+    answer replies l.replies a.list.now l.list c.tell-used.new.list l.used
+    c.tell-used.result l.invariant does
     (below-first (length steps) (length replies) l.place below)
-    (below-second (length steps) (length replies) l.place below) c.list_answer-used.ensures)
+    (below-second (length steps) (length replies) l.place below) lists)

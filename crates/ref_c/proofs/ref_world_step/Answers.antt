@@ -5,6 +5,6 @@ use Rattle.ref_c.proofs.ref_world_step.Goals as goal
 pub returns : goal.returns
 returns c =
     let table = c.args.list.now in
-    let listed = c.list_answer-used.ensures table [] (nothing-written table) in
-    rw (c.take-held.ensures.taken, c.give_back.ensures)
-    (c.asked-answer.result, c.asked-answer.ensures, c.numbers.ensures, listed.0)
+    let (answer, does, (numbers, lists)) = c.tell-used.ensures in
+    let listed = lists table [] (nothing-written table) in
+    rw (c.take-held.ensures.taken, c.give_back.ensures) (answer, does, numbers, listed.0)

@@ -244,3 +244,41 @@ pub const REPLIES: &'static str = "
 88 | moved 1
 89 | refused 9 NoSuchActor
 ";
+
+/// The rules, and what each says.
+pub const RULES: &'static str = "
+1 | this step has one answer here
+2 | this step is refused here, and this is the first fault that applies
+3 | this step has other answers
+4 | a scan takes an object that was made before the cycle, that a kept path led to in this mark, \
+and that wasn't scanned in it
+5 | that no object is left to scan holds till a load or a get answers an object
+6 | that an object is left to scan is said only where one is
+7 | that an object is left to scan holds till one is scanned, loaded or got
+8 | a mark's end dooms all that was made before the cycle and not scanned in it
+9 | no root is doomed: no slot, no notice in a hand or a queue, none that is pending
+10 | no field of what lives on holds what is doomed
+11 | a soft reference within its span keeps its referent, unless the cycle is urgent
+12 | a reference that a mark's end clears was scanned by a worker in this cycle
+13 | a worker looks at references that it scanned in this cycle, in that order, and passes none \
+that the mark's end cleared
+14 | a look answers cleared of what this mark's end cleared, else kept with a referent and skipped without
+15 | each reference that the mark's end cleared is looked at before clearing ends
+16 | that a reference is left to look at holds till one is looked at
+17 | that a reference is left to look at is said only where one was scanned and not looked at
+18 | a notice is put in once, at the next position, into an open queue, and only want of memory refuses it
+19 | a batch tells of each notice of the hand, up to the first for which memory is refused
+20 | a poll takes what stands next in its queue, as many as asked for or all, and nothing only \
+where none stands
+21 | a move answers an object that is there
+";
+
+/// What earlier rows settle, as the judge prints it.
+pub const SETTLED: &'static str = "
+1 | said so
+2 | began the cycle
+3 | began the phase
+4 | ended the mark
+5 | doomed object 1
+6 | closed the queue
+";

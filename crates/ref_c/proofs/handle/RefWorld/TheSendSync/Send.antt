@@ -10,14 +10,14 @@ use Rattle.std.proofs.Crossing.{crosses, frees}
 use Rattle.std.specs.declared.option.Option.{Option}
 use Rattle.std.specs.declared.option.Option.TheVariants.{None, Some}
 use Rattle.std_alloc.proofs.SendSync.{quiet, lies}
-use Rattle.ref_c.specs.Holding.{KeptWorld, holds}
+use Rattle.ref_c.specs.Holding.{KeptWorld, holds_world}
 use Rattle.ref_c.specs.contracts.kept.Kept as kept
 use Rattle.ref_c.specs.contracts.handle.RefWorld.{the_row, the_type}
 
 kept_send : IsSend kept.the_row
 kept_send = search (crosses, sendable) depth 60 fits 20000
 
-keyless : (p : Ptr) (x : Option KeptWorld) → Keyless (holds p x)
+keyless : (p : Ptr) (x : Option KeptWorld) → Keyless (holds_world p x)
 keyless p None = tt
 keyless p (Some x) = λ a. (lies kept.the_row kept_send p x, frees.frees a (raw (lone (kept.the_row).mir)) p)
 

@@ -18,7 +18,8 @@ use denote.Triple.Walked.{Stays, walk_of}
 use Rattle.std.proofs.raw_atomic.Walks.{proved_at, leaves}
 use Rattle.std.specs.declared.option.Option.{Option}
 use Rattle.std.specs.declared.option.Option.TheVariants.{None}
-use Rattle.ref_c.proofs.Handles.{one, handle_in}
+use Rattle.ref_c.proofs.Handles.{one}
+use Rattle.ref_c.proofs.WorldHandles.{world_in}
 use Rattle.ref_c.proofs.handle.RefWorld.empty.Code as code
 use Rattle.ref_c.proofs.handle.RefWorld.empty.Statement.{statement}
 use Rattle.ref_c.specs.Holding.{KeptWorld}
@@ -43,7 +44,7 @@ empty_spec 𝓤 𝓛 𝓜 𝓡 wired =
     sets ! (agg ! (and_then ! (lit ! tt) (no_more !))) refl (tt, (record { fits = lit< tt }, tt)) $
     returns ! (look_at ! 0 refl) $ free_all ! refl $ drop ! $
     -- [the tokens], and then the handle and what is ensured
-    feq_i ! Ptr null_ptr null_ptr refl $ handle_in ! null_ptr None $
+    feq_i ! Ptr null_ptr null_ptr refl $ world_in ! null_ptr None $
     use0 𝓛 (raw (fact 𝓤 (none ≡ none))) (fact_i 𝓤 (none ≡ none) (emp 𝓤) refl) $
     nothing ! $ move ! (3 ∷ 0 ∷ 2 ∷ 1 ∷ []) $
     by ! (leaves 𝓛 ended stayed says z (one (ptr_val null_ptr)) (record { at = null_ptr; held = None }) tt tt)))

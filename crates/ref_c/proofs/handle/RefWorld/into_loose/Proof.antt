@@ -30,7 +30,8 @@ use Rattle.std.proofs.raw_atomic.Walks.{proved_at, leaves}
 use Rattle.std.specs.contracts.alloc.Global as heap
 use Rattle.std.specs.contracts.impls.GlobalAllocator.TheImpl.{ghosts}
 use Rattle.std_alloc.proofs.ResultValues.{and_tt}
-use Rattle.ref_c.proofs.Handles.{one, Handle, handle_out, either_holds, tested}
+use Rattle.ref_c.proofs.Handles.{one, either_holds, tested}
+use Rattle.ref_c.proofs.WorldHandles.{WorldHandle, world_out}
 use Rattle.ref_c.proofs.LooseValues.{Row, closed, handles, word, word_fits}
 use Rattle.ref_c.proofs.handle.RefWorld.into_loose.Code as code
 use Rattle.ref_c.proofs.handle.RefWorld.into_loose.Statement.{statement}
@@ -48,9 +49,9 @@ into_loose_spec 𝓤 𝓛 𝓜 𝓡 wired =
     let fn : Fn = code.function in
     let says = clauses 𝓛 𝓜.mem 𝓡.returns in
     let stayed : Stays ended.signature.params ended.kept =
-    (stay_dropped (plain (λ _. Handle)) yes, (stay_dropped (plain (λ _. Z)) yes, tt)) in
+    (stay_dropped (plain (λ _. WorldHandle)) yes, (stay_dropped (plain (λ _. Z)) yes, tt)) in
     let goes : AllGo 𝓛 ended.signature.lifetimes ended.signature.params ended.kept stayed = (
-      Goes-dropped 𝓛 0 (plain (λ _. Handle)) yes (λ κs x w. refl),
+      Goes-dropped 𝓛 0 (plain (λ _. WorldHandle)) yes (λ κs x w. refl),
       (Goes-dropped 𝓛 0 (plain (λ _. Z)) yes (λ κs x w. refl), tt),
     ) in
     let 𝓣 = tables 𝓤 𝓛.H 𝓜 𝓡 𝓡.env in
@@ -64,7 +65,7 @@ into_loose_spec 𝓤 𝓛 𝓜 𝓡 wired =
     qed 𝓛 ((tokens ⊛ arguments) ∷ raw ((says z.0.0 z.0.3).requires z.1) ∷ []) ∵
     split ! $ move ! (1 ∷ []) $ fsplit ! $ move ! (1 ∷ []) $ fsplit ! $
     handle_tells (handles R Z laws ghosts) ! g z.0.4.1.0 (λ h is_handle fits. move ! (2 ∷ []) $
-    handle_out ! d z.0.4.0 (λ is_word.
+    world_out ! d z.0.4.0 (λ is_word.
     -- [what the handle holds; the allocator's handle; nothing more; the tokens; the empty requires]
     let Start : Ptr → List Val = λ p. one (ptr_val p) ∷ h ∷ [] in
     let begins : (p : Ptr) → d.at ≡ p → ent 𝓤 (Run (Start p)) (Run (z.0.4.0 ++ (z.0.4.1.0 ++ []))) = λ p is.
@@ -72,7 +73,7 @@ into_loose_spec 𝓤 𝓛 𝓜 𝓡 wired =
     (sym (is_word ∙ ap (λ (q : Ptr). one (ptr_val q) ∷ []) is))
     (subst (λ (us : List Val). ent 𝓤 (Run (Start p)) (Run (one (ptr_val p) ∷ (us ++ []))))
     (sym is_handle) (id⊢ 𝓤 (Run (Start p)))) in
-    either_holds ! d.at d.held
+    either_holds R ! d.at d.held
     (λ is was.
     suffices ! (Run (Start null_ptr)) (begins null_ptr is) $
     enter ! 𝓣.C 𝓣.Λ fn (Start null_ptr) Post $
@@ -92,7 +93,7 @@ into_loose_spec 𝓤 𝓛 𝓜 𝓡 wired =
     (λ no. absurd no)))
     (λ b o a x is was.
     let p = block_ptr b o in
-    use1 𝓛 (given (Testable p) (‵ (boxed a p x))) (tested 𝓛 a p x) $ learn ! (λ testable.
+    use1 𝓛 (given (Testable p) (‵ (boxed R a p x))) (tested R 𝓛 a p x) $ learn ! (λ testable.
     let inside : Val = word b o h in
     let typed = word_fits R Z laws ghosts b o h fits in
     let v : Val = live 1 (vcons inside vnil) in

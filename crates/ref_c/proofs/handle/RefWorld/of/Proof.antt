@@ -24,7 +24,8 @@ use Rattle.std.specs.contracts.impls.GlobalAllocator.TheImpl.{ghosts}
 use Rattle.std.specs.declared.alloc.Global.{Global}
 use Rattle.std.specs.declared.option.Option.{Option}
 use Rattle.std.specs.declared.option.Option.TheVariants.{Some}
-use Rattle.ref_c.proofs.Handles.{one, handle_in}
+use Rattle.ref_c.proofs.Handles.{one}
+use Rattle.ref_c.proofs.WorldHandles.{world_in}
 use Rattle.ref_c.proofs.LooseValues.{Row, opened, word, word_fits}
 use Rattle.ref_c.proofs.handle.RefWorld.of.Code as code
 use Rattle.ref_c.proofs.handle.RefWorld.of.Statement.{statement}
@@ -65,7 +66,7 @@ of_spec 𝓤 𝓛 𝓜 𝓡 wired =
     sets ! (agg ! (and_then ! (get ! refl) (no_more !))) refl (tt, (tt, tt)) $
     returns ! (look_at ! 0 refl) $ free_all ! refl $ keep ! (0 ∷ 3 ∷ []) $
     -- [the box; the tokens], and then the handle and what is ensured
-    fpack ! Global (λ a. boxed a (block_ptr b o) loose.value) loose.alloc $ handle_in ! (block_ptr b o) held $
+    fpack ! Global (λ a. boxed R a (block_ptr b o) loose.value) loose.alloc $ world_in ! (block_ptr b o) held $
     use0 𝓛 (raw (fact 𝓤 (held ≡ held))) (fact_i 𝓤 (held ≡ held) (emp 𝓤) refl) $
     nothing ! $ nothing ! $ fjoin ! $ move ! (3 ∷ 0 ∷ 2 ∷ 1 ∷ []) $
     by ! (leaves 𝓛 ended stayed says z (one (vptr b o)) (record { at = block_ptr b o; held = held }) (tt, tt)
