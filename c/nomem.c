@@ -1,12 +1,14 @@
 /* No memory: each request is refused in turn. `ref_world_new` answers 3 then and leaves the handle as it was; a put is
  * refused with 3 and can be made again; no other step asks. A judge says that memory was refused, and judges the row
- * when it is told again. What was given is given back.
+ * when it is told again. A text that is run or listed is told so, and nothing is written. What was given is given back.
  *
  * It is linked with --wrap=malloc, --wrap=realloc and --wrap=free, so that it sees each request.
  * Prints the counts. Exit status: 0 each is the one that is due; 1 one isn't. */
 #include "ref.h"
+#include "ref_text.h"
 #include <stdio.h>
 #include <stdlib.h>
+#include <string.h>
 
 void *__real_malloc(size_t size);
 void *__real_realloc(void *at, size_t size);
@@ -183,6 +185,32 @@ static int try_judged_puts(struct ref_judge *judge) {
     return again == 0;
 }
 
+typedef void text_call(const uint8_t *text, size_t length, uint8_t *buffer, size_t room, struct ref_text *told);
+
+/* Each request of a call with this text is refused in turn, and all behind it. */
+static int try_text(text_call *call, const char *text, const char *prints) {
+    uint8_t buffer[256];
+    struct ref_text told;
+    for (long met = 0;; met++) {
+        memset(buffer, '~', sizeof buffer);
+        meet(met);
+        call((const uint8_t *)text, strlen(text), buffer, sizeof buffer, &told);
+        meet(-1);
+        if (out != 0) return wrong("a text", met, told.status);
+        if (told.status == REF_TEXT_PRINTED && told.length == strlen(prints) && !memcmp(buffer, prints, told.length)) {
+            printf("a text: %ld requests, each refused in turn\n", met);
+            return met == 0;
+        }
+        if (told.status != REF_TEXT_NO_MEMORY || buffer[0] != '~') return wrong("a text", met, told.status);
+    }
+}
+
+static int try_texts(void) {
+    return try_text(ref_text_run, "refscript 1\nconfig 1 1 1 8 10\nm0 new s0 0\n",
+                    "reftrace 1\n1 m0 new s0 0 : object 1\n") ||
+           try_text(ref_text_strength, "refgraph 1\nroot 1\nplain 1 2\nplain 2\n", "1 strong\n2 strong\n");
+}
+
 int main(void) {
     struct ref_judge judge = {0};
     struct ref_world world = {0};
@@ -195,6 +223,7 @@ int main(void) {
     ref_world_end(&world);
     is_wrong = is_wrong || try_new_judge(&judge) != 0 || try_judged_puts(&judge) != 0;
     ref_judge_end(&judge);
+    is_wrong = is_wrong || try_texts() != 0;
     if (out != 0) is_wrong = wrong("the end", 0, 0);
     return is_wrong;
 }

@@ -285,8 +285,9 @@ enum ref_settled {
 uint32_t ref_judge_new(struct ref_judge *judge, const struct ref_config *config, const struct ref_profile *profile);
 
 /* Judges the next row: a step and its reply. What a kind of reply doesn't tell is 0, and `list` has just the numbers
- * that it lists, as ref_world_step writes them: `listed` is how many, twice the count for OUTS, and 0 for none. Of a legal row the judge is told
- * then. Of later rows than an illegal one nothing is said. A scan, a look and a put may ask for memory. */
+ * that it lists, as ref_world_step writes them: `listed` is how many, twice the count for OUTS, and 0 for none. Of a
+ * legal row the judge is told then. Of later rows than an illegal one nothing is said. A scan, a look and a put may ask
+ * for memory. */
 void ref_judge_row(struct ref_judge *judge, const struct ref_step *step, const struct ref_reply *reply,
                    const uint64_t *list, size_t listed, struct ref_verdict *verdict);
 
@@ -306,8 +307,8 @@ static inline struct ref_verdict ref_judged(struct ref_judge *judge, struct ref_
  *
  * A cycle: begin; scans, until each worker is answered NOTHING; end of the mark; each worker looks at the references
  * that it found, until NOTHING; end of the clearing; sweeps, until NOTHING; end of the sweep. What a worker cleared it
- * hands on, and puts in, at any time. Between cycles objects may move: a choice, moves until NOTHING, and the end of the
- * moves. The program's steps go on all the while.
+ * hands on, and puts in, at any time. Between cycles objects may move: a choice, moves until NOTHING, and the end of
+ * the moves. The program's steps go on all the while.
  *
  * A hand is filled by one step, which is refused while it holds a notice. What it holds leaves it by puts that add it,
  * by adopts and by releases. */

@@ -22,7 +22,6 @@ pub use Rattle.ref_world.specs.Cores.{Core}
 pub use Rattle.ref_world.specs.Standing.{Stands}
 pub use Rattle.ref_share.specs.HeapSeats.{IsHeapSeat}
 pub use Rattle.ref_share.specs.QueueSeats.{IsQueueSeat}
-pub use Rattle.refrun.specs.JobViews.{job_number, note_of}
 pub use Rattle.ref_script.specs.Lines.{lines_of, most_bytes}
 pub use Rattle.refrun.specs.ScriptRuns.{IsScriptRun, RegistersStageJob, StageJobs, first_jobs}
 pub use Rattle.refrun.specs.ScriptStanding.{IsScriptRowOf, jobs}

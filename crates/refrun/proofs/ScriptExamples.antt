@@ -2,11 +2,12 @@
 use Rattle.refrun.proofs.Common.{ℕ, zero, suc, ◌+◌, ◌<◌, List, [], ◌∷◌, None, Some, get_or, refl, sym, arith, nat_eq}
 use Rattle.refrun.proofs.Common.{false, true≢false, State, StageJobs, first_jobs, RegistersStageJob, TookInOrder}
 use Rattle.refrun.proofs.Common.{IsFirstFailure}
-use Rattle.std.proofs.Common.{◌≢◌}
+use Rattle.std.proofs.Common.{◌≡◌, ◌≢◌, length}
 use Rattle.std.specs.List.{IsDistinct}
 use Rattle.ref_base.specs.CollectorRows.{IsRow}
 use Rattle.ref_base.specs.declared.reply.Reply.TheVariants.{Done}
 use Rattle.ref_base.specs.declared.plain_step.PlainStep.TheVariants.{Clear}
+use Rattle.refrun.specs.JobViews.{answering, answering_jobs}
 use Rattle.refrun.specs.ScriptRuns.{RunsJob}
 use Rattle.refrun.specs.declared.lists.Check.TheVariants.{Order, Rest, Reports}
 use Rattle.refrun.specs.declared.evidence.Evidence.TheVariants.{NoReport}
@@ -54,6 +55,13 @@ it_ran a b row = (3, (refl, ((λ m. first_out 2 (tt, 3) [] refl m), refl)), refl
 it_is_not_gone_while_it_is_registered : (a b : State) (new : StageJobs ℕ)
     → ¬ (RunsJob number note 2 0 1 a one_registered replies.Gone b new)
 it_is_not_gone_while_it_is_registered a b new is = let answer = is.0.0 in absurd cc
+
+-- those of `refrun run`
+there_are_64_of_them : length answering_jobs ≡ 64
+there_are_64_of_them = refl
+
+the_last_of_them : get_or answering_jobs 63 (answering 0) ≡ record { number = 63; note = 1063 }
+the_last_of_them = refl
 
 -- ---- lists: 2 and 3 were put in, and two pollers took one each
 

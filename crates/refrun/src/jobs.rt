@@ -3,29 +3,29 @@
 ghost use Rattle.std.specs.Prelude.{◌≡◌, ◌≢◌, ◌<◌, ◌==◌, Some, None, All, MatchOption, length, HoldsAt};
 ghost use Rattle.ref_base.specs.Heaps.{slot_at};
 ghost use Rattle.ref_base.specs.Refusals.{clear_refusal};
-ghost use Rattle.refrun.specs.JobViews.{job_number, note_of};
 ghost use Rattle.refrun.specs.ScriptRuns.{RegistersStageJob};
 ghost use Rattle.refrun.specs.ScriptStanding.{IsScriptRowOf, jobs};
 ghost use Rattle.ref_world.specs.WorldHeaps.{model_heap};
 
+use crate::script_job::ScriptJob;
 use ref_base::{MutNo, ObjNo, PlainStep, Reply, SlotNo, Step};
-use ref_queue::{CleanTable, Job};
+use ref_queue::CleanTable;
 use ref_script::{ScriptReply, ScriptStep};
 use ref_world::World;
 use std::alloc::Allocator;
 
 /// A world, a cleaner's table, and the jobs that were never registered in it, in any order.
-pub struct Stage<A: Allocator> {
+pub struct Stage<J, A: Allocator> {
     pub world: World<A>,
-    pub table: CleanTable<(), Job, A>,
-    pub left: Vec<Job, A>,
+    pub table: CleanTable<(), J, A>,
+    pub left: Vec<J, A>,
 }
 
-impl<A: Allocator + Copy> Stage<A> {
+impl<J: ScriptJob, A: Allocator + Copy> Stage<J, A> {
     /// Does one step, and answers it.
     #[inline(always)]
     pub fn step(&mut self, step: ScriptStep) -> ScriptReply
-        ensures { IsScriptRowOf job_number note_of self.old.world (jobs self.old.table self.old.left.items) step
+        ensures { IsScriptRowOf J.number_of J.note_of self.old.world (jobs self.old.table self.old.left.items) step
             result self.new.world (jobs self.new.table self.new.left.items) }
     {
         match step {
@@ -48,7 +48,7 @@ impl<A: Allocator + Copy> Stage<A> {
     /// Registers the job of this number for the object, if that job is left.
     fn register(&mut self, object: ObjNo, number: u32) -> ScriptReply
         ensures world { self.new.world ≡ self.old.world }
-        ensures answer { RegistersStageJob job_number object number (jobs self.old.table self.old.left.items) result
+        ensures answer { RegistersStageJob J.number_of object number (jobs self.old.table self.old.left.items) result
             (jobs self.new.table self.new.left.items) }
     {
         let Some(index) = index_of(self.left.as_slice(), u64::from(number)) else {
@@ -70,7 +70,7 @@ impl<A: Allocator + Copy> Stage<A> {
     fn run(&mut self, object: ObjNo, mutator: MutNo, reference: SlotNo) -> ScriptReply
         requires refused { clear_refusal (model_heap self.old.world.heap) mutator reference ≡ None }
         requires held { slot_at (model_heap self.old.world.heap) mutator reference ≡ Some object }
-        ensures { IsScriptRowOf job_number note_of self.old.world (jobs self.old.table self.old.left.items)
+        ensures { IsScriptRowOf J.number_of J.note_of self.old.world (jobs self.old.table self.old.left.items)
             (ScriptStep.Run mutator reference) result self.new.world (jobs self.new.table self.new.left.items) }
     {
         match self.table.take(object) {
@@ -94,19 +94,19 @@ impl<A: Allocator + Copy> Stage<A> {
 }
 
 /// The place of the job of this number.
-fn index_of(jobs: &[Job], number: u64) -> Option<usize>
-    ensures { MatchOption result (All (λ job. job_number job ≢ number) jobs.now)
-        (λ i. (i < length jobs.now) × HoldsAt (λ job. job_number job ≡ number) jobs.now i) }
+fn index_of<J: ScriptJob>(jobs: &[J], number: u64) -> Option<usize>
+    ensures { MatchOption result (All (λ job. J.number_of job ≢ number) jobs.now)
+        (λ i. (i < length jobs.now) × HoldsAt (λ job. J.number_of job ≡ number) jobs.now i) }
 {
     jobs.iter().position(
-        |job: &Job|
-            ensures { result ≡ (job_number job.now == number) }
+        |job: &J|
+            ensures { result ≡ (J.number_of job.now == number) }
         { job.number() == number },
     )
 }
 
 /// Drops each job of a table, and ends the table.
-fn end_table<A: Allocator + Copy>(table: CleanTable<(), Job, A>) {
+fn end_table<J: ScriptJob, A: Allocator + Copy>(table: CleanTable<(), J, A>) {
     let mut table = table;
     while let Some((_, (), _job)) = table.take_any() {}
     match table.end() {

@@ -8,6 +8,7 @@ mod jobs;
 mod lists;
 mod outcomes;
 mod random;
+mod script_job;
 mod station;
 mod stress_options;
 mod tally;
@@ -21,7 +22,8 @@ pub use random::{Parts, random_script};
 pub use ref_text::{
     FromReader, LineFault, ReadError, TextFault, TextSink, TextSource, ToWriter, WriteFailed,
 };
+pub use script_job::{PlainJob, ScriptJob, plain_jobs};
 pub use stress_options::StressOptions;
 pub use tally::{Counts, Tally};
 pub use threads::{StressLists, stress, stress_lists};
-pub use trace::run_script;
+pub use trace::{run_script, run_script_with};

@@ -13,6 +13,7 @@ ghost use Rattle.refrun.specs.Traces.{AnswersRun, PrintsTrace, TellsRow, TellsRu
 ghost use Rattle.ref_script.specs.Answers.{KeepsUnlessDone, TellsFault, is_cannot_read, is_cannot_write};
 
 use crate::jobs::Stage;
+use crate::script_job::ScriptJob;
 use ref_base::{SpanRule, say_number};
 use ref_queue::{CleanTable, Job};
 use ref_script::{
@@ -56,6 +57,27 @@ pub fn run_script<R: TextSource, W: TextSink, A: Allocator + Copy>(
     ensures cannot_read { R.has_failed reader.new ≡ (R.has_failed reader.old || is_cannot_read result) }
     ensures cannot_write { W.has_failed writer.new ≡ (W.has_failed writer.old || is_cannot_write result) }
 {
+    run_script_with(alloc, reader, writer, jobs)
+}
+
+/// Reads a script, runs it with jobs of any kind, and writes its trace: `run_script`, which has answers and memory the
+/// same, is of jobs with actions. A job that no `run` took is dropped.
+pub fn run_script_with<R: TextSource, W: TextSink, A: Allocator + Copy, J: ScriptJob>(
+    alloc: A,
+    reader: &mut R,
+    writer: &mut W,
+    jobs: Vec<J, A>,
+) -> Result<(), TextFault>
+    ensures answer { IfSome (R.remaining reader.old) (λ text. AnswersRun J.number_of J.note_of jobs.items text
+        (W.contents writer.old) (W.contents writer.new) result) }
+    ensures refused { IfSome (R.remaining reader.old) (λ text.
+        IfSome (script_fault text) (λ fault. TellsFault fault result)) }
+
+    // Whatever is known of the text.
+    ensures kept { KeepsUnlessDone (W.contents writer.old) (W.contents writer.new) result }
+    ensures cannot_read { R.has_failed reader.new ≡ (R.has_failed reader.old || is_cannot_read result) }
+    ensures cannot_write { W.has_failed writer.new ≡ (W.has_failed writer.old || is_cannot_write result) }
+{
     let text = text_of(alloc, reader)?;
     let trace = trace_behind(alloc, text.as_slice(), jobs)?;
     match writer.write_text(trace.as_slice()) {
@@ -65,13 +87,13 @@ pub fn run_script<R: TextSource, W: TextSink, A: Allocator + Copy>(
 }
 
 /// The text of the trace of the script that a text spells, or the fault of the text's first faulty line.
-fn trace_behind<A: Allocator + Copy>(
+fn trace_behind<A: Allocator + Copy, J: ScriptJob>(
     alloc: A,
     text: &[u8],
-    jobs: Vec<Job, A>,
+    jobs: Vec<J, A>,
 ) -> Result<Printed<A>, TextFault>
     requires { length text.now ≤ most_bytes }
-    ensures prints { IfOk result (λ trace. PrintsTrace job_number note_of jobs.items text.now trace) }
+    ensures prints { IfOk result (λ trace. PrintsTrace J.number_of J.note_of jobs.items text.now trace) }
     ensures sound { IfOk result (λ trace. script_fault text.now ≡ None) }
     ensures fault { IfErr result (λ e. FailsFor e (first_fault ScriptHeader 1 (lines_of text.now))) }
 {
@@ -81,12 +103,12 @@ fn trace_behind<A: Allocator + Copy>(
 }
 
 /// The text of a trace of the script's steps with these jobs. The world that answered them has ended.
-fn trace_of<A: Allocator + Copy>(
+fn trace_of<A: Allocator + Copy, J: ScriptJob>(
     alloc: A,
     script: Script<A>,
-    jobs: Vec<Job, A>,
+    jobs: Vec<J, A>,
 ) -> Result<Printed<A>, TextFault>
-    ensures told { IfOk result (λ text. TellsTrace job_number note_of script.config jobs.items script.steps.items
+    ensures told { IfOk result (λ text. TellsTrace J.number_of J.note_of script.config jobs.items script.steps.items
         text) }
     ensures err { OnErr result (result ≡ Err TextFault.NoMemory) }
 {
@@ -106,13 +128,13 @@ fn trace_of<A: Allocator + Copy>(
 }
 
 /// Does these steps, and tells them: the header of this rule's version, and their rows numbered from 1.
-fn told_run<A: Allocator + Copy>(
+fn told_run<A: Allocator + Copy, J: ScriptJob>(
     alloc: A,
     rule: SpanRule,
-    stage: &mut Stage<A>,
+    stage: &mut Stage<J, A>,
     steps: &[ScriptStep],
 ) -> Result<Printed<A>, AllocError>
-    ensures { IfOk result (λ text. TellsRun job_number note_of rule stage.old.world
+    ensures { IfOk result (λ text. TellsRun J.number_of J.note_of rule stage.old.world
         (jobs stage.old.table stage.old.left.items) steps.now text stage.new.world
         (jobs stage.new.table stage.new.left.items)) }
 {
@@ -135,14 +157,14 @@ fn told_run<A: Allocator + Copy>(
 
 /// Does a step, and adds the line of its row, which has this number.
 #[inline(always)]
-fn tell_step<A: Allocator + Copy>(
-    stage: &mut Stage<A>,
+fn tell_step<A: Allocator + Copy, J: ScriptJob>(
+    stage: &mut Stage<J, A>,
     trace: &mut Formatter<Printed<A>>,
     number: u64,
     step: &ScriptStep,
 ) -> fmt::Result
     requires { IsPlainFormatter trace.old }
-    ensures row { OnOk result (TellsRow job_number note_of number stage.old.world
+    ensures row { OnOk result (TellsRow J.number_of J.note_of number stage.old.world
         (jobs stage.old.table stage.old.left.items) step.now (formatter_writer trace.old)
         (formatter_writer trace.new) stage.new.world
         (jobs stage.new.table stage.new.left.items)) }
@@ -160,14 +182,14 @@ fn tell_step<A: Allocator + Copy>(
 
 /// Does a step of any kind and writes its row. It is kept out of its caller, whose replies are narrow.
 #[inline(never)]
-fn tell_other<A: Allocator + Copy>(
-    stage: &mut Stage<A>,
+fn tell_other<A: Allocator + Copy, J: ScriptJob>(
+    stage: &mut Stage<J, A>,
     trace: &mut Formatter<Printed<A>>,
     number: u64,
     step: &ScriptStep,
 ) -> fmt::Result
     requires { IsPlainFormatter trace.old }
-    ensures row { OnOk result (TellsRow job_number note_of number stage.old.world
+    ensures row { OnOk result (TellsRow J.number_of J.note_of number stage.old.world
         (jobs stage.old.table stage.old.left.items) step.now (formatter_writer trace.old)
         (formatter_writer trace.new) stage.new.world
         (jobs stage.new.table stage.new.left.items)) }

@@ -12,20 +12,14 @@ mod drawing;
 mod help;
 mod stressing;
 
-ghost use Rattle.std.specs.Prelude.{◌≡◌, ◌<◌, ◌+◌};
-
 use clap::error::ErrorKind;
 use clap::{ArgMatches, Command, Error};
-use ref_queue::{Action, Job};
 use ref_script::strength_text;
-use refrun::{FromReader, TextFault, ToWriter, run_script};
+use refrun::{FromReader, TextFault, ToWriter, plain_jobs, run_script_with};
 use std::alloc::Global;
 use std::io::IsTerminal;
 use std::process::ExitCode;
 use std::{env, io};
-
-/// How many jobs a script has.
-const JOBS: u64 = 64;
 
 /// The status of a wrong command line.
 const WRONG_COMMAND_LINE: u8 = 2;
@@ -93,23 +87,13 @@ fn run<R: Input + Print + Eprint + AllocGlobal>(rt: &R) -> ExitCode {
     status(rt, run_with_jobs(rt))
 }
 
-/// Runs the script on standard input with its jobs: job a has number a, and its action answers a + 1000.
+/// Runs the script on standard input with the program's jobs.
 fn run_with_jobs<R: Input + Print + AllocGlobal>(rt: &R) -> Result<(), TextFault> {
     let alloc = rt.alloc();
-    let mut jobs = Vec::new(alloc);
-    for number in 0..JOBS {
-        let action: Action = Box::new(
-            alloc,
-            |number: u64| -> u64
-                requires { number < 64 }
-                ensures { result ≡ number + 1000 }
-            { number + 1000 },
-        )?;
-        jobs.push(Job::new(number, number + 1000, action))?;
-    }
+    let jobs = plain_jobs(alloc)?;
     let mut reader = FromReader::new(rt.reader());
     let mut writer = ToWriter::new(io::writer(rt));
-    run_script(alloc, &mut reader, &mut writer, jobs)
+    run_script_with(alloc, &mut reader, &mut writer, jobs)
 }
 
 /// Prints the strengths of the graph on standard input.

@@ -10,6 +10,8 @@ pub enum Task {
     Run,
     /// A script is run with its 64 jobs.
     RunWithJobs,
+    /// A script is run with 64 jobs that are two numbers each.
+    RunWithPlainJobs,
     /// The strengths of a graph's objects are listed.
     List,
 }

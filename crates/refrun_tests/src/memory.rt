@@ -135,14 +135,20 @@ fn number_of(row: &[u8]) -> Option<&[u8]> {
 
 /// Runs a text with so many requests for memory met. Where one was refused the same text is answered as ever once there
 /// is memory.
-fn come(rt: &impl Abort, memory: &Rationed<Global>, alloc: Global, case: &Case, met: u64) -> Came {
+fn come(
+    rt: &impl Abort,
+    memory: &Rationed<Global>,
+    alloc: Global,
+    (task, case): (Task, &Case),
+    met: u64,
+) -> Came {
     memory.ration(met);
-    let (answer, output) = printed(case.task, memory, alloc, case.text);
+    let (answer, output) = printed(task, memory, alloc, case.text);
     if !memory.lift() {
         agree(rt, alloc, case, answer, output.as_slice());
         return Came::Whole;
     }
-    let (again, all) = printed(case.task, memory, alloc, case.text);
+    let (again, all) = printed(task, memory, alloc, case.text);
     agree(rt, alloc, case, again, all.as_slice());
     if let Err(fault) = answer {
         assert_eq!(rt; fault, TextFault::NoMemory, "{}: {met}", case.name);
@@ -162,17 +168,18 @@ fn come(rt: &impl Abort, memory: &Rationed<Global>, alloc: Global, case: &Case, 
 fn call_of(task: Task) -> &'static str {
     match task {
         Task::Run | Task::RunWithJobs => "run_script",
+        Task::RunWithPlainJobs => "run_script_with",
         Task::List => "strength_text",
     }
 }
 
 /// Each request for memory of a text is refused in turn. Of what it may then print, each comes in its turn.
-fn refuse_each(rt: &impl Abort, alloc: Global, case: &Case) {
+fn refuse_each(rt: &impl Abort, alloc: Global, task: Task, case: &Case) {
     let memory = Rationed::new(alloc);
     let name = case.name;
     let mut stage = 0;
     for met in 0..MOST {
-        match come(rt, &memory, alloc, case, met) {
+        match come(rt, &memory, alloc, (task, case), met) {
             Came::Nothing => {}
             Came::Partly(place) => {
                 let next = place.saturating_add(1);
@@ -186,7 +193,7 @@ fn refuse_each(rt: &impl Abort, alloc: Global, case: &Case) {
             }
         }
     }
-    let call = call_of(case.task);
+    let call = call_of(task);
     assert!(rt; false, "{name}: {call} makes more requests than {MOST}");
 }
 
@@ -194,7 +201,10 @@ fn refuse_each(rt: &impl Abort, alloc: Global, case: &Case) {
 fn a_text_is_answered_whole_or_memory_ran_out(rt: HostRuntime) {
     for cases in [CASES.as_slice(), SCARCE.as_slice()] {
         for case in cases {
-            refuse_each(&rt, rt.alloc(), case);
+            refuse_each(&rt, rt.alloc(), case.task, case);
+            if let Task::RunWithJobs = case.task {
+                refuse_each(&rt, rt.alloc(), Task::RunWithPlainJobs, case);
+            }
         }
     }
 }

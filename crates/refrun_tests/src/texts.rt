@@ -3,7 +3,10 @@
 use crate::cases::{CASES, Case, Task};
 use crate::jobs::script_jobs;
 use ref_script::strength_text;
-use refrun::{FromReader, LineFault, TextFault, TextSink, TextSource, ToWriter, run_script};
+use refrun::{
+    FromReader, LineFault, TextFault, TextSink, TextSource, ToWriter, plain_jobs, run_script,
+    run_script_with,
+};
 use std::alloc::{AllocError, Allocator, Global};
 use std::process::Abort;
 
@@ -28,6 +31,10 @@ pub fn answer<R: TextSource, W: TextSink, A: Allocator + Copy>(
         Task::RunWithJobs => {
             let jobs = script_jobs(memory, alloc)?;
             run_script(memory, reader, writer, jobs)
+        }
+        Task::RunWithPlainJobs => {
+            let jobs = plain_jobs(memory)?;
+            run_script_with(memory, reader, writer, jobs)
         }
         Task::List => strength_text(memory, reader, writer),
     }
@@ -91,6 +98,11 @@ fn each_text_prints_what_it_must_or_its_fault(rt: HostRuntime) {
     for case in &CASES {
         let (answer, output) = printed(case.task, alloc, alloc, case.text);
         agree(&rt, alloc, case, answer, output.as_slice());
+        // Jobs that are two numbers each, and no action, print the same.
+        if let Task::RunWithJobs = case.task {
+            let (answer, output) = printed(Task::RunWithPlainJobs, alloc, alloc, case.text);
+            agree(&rt, alloc, case, answer, output.as_slice());
+        }
     }
 }
 

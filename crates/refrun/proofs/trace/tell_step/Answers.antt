@@ -1,4 +1,4 @@
-use Rattle.refrun.proofs.Common.{job_number, note_of, jobs}
+use Rattle.refrun.proofs.Common.{jobs}
 use Rattle.std.proofs.lemmas.Result.{on_ok_weaker}
 use Rattle.ref_base.specs.declared.step.Step.TheVariants as steps
 use Rattle.ref_script.proofs.Printing.{if_done}
@@ -12,7 +12,7 @@ returns-in-Some-clause-row g c =
     rw is
     (on_ok_weaker c.say_line.result
     (λ line.
-    tells_world job_number note_of c.args.number c.args.stage.now.world c.ask.new.self
+    tells_world g.J.ScriptJob.number_of g.J.ScriptJob.note_of c.args.number c.args.stage.now.world c.ask.new.self
     (jobs c.args.stage.now.table c.args.stage.now.left.items) (steps.Plain c.in-Some.plain) c.ask.result
     c.reply.result _ _ c.ask.ensures.row c.reply.ensures line.0) (rw is at line))
 

@@ -1,4 +1,4 @@
-use Rattle.refrun.proofs.Common.{refl, job_number}
+use Rattle.refrun.proofs.Common.{refl}
 use Rattle.refrun.proofs.JobLemmas.{registers_job, refuses_job}
 use Rattle.refrun.proofs.jobs.Stage.register.Goals as goal
 
@@ -8,11 +8,12 @@ returns-in_default-clause-answer g c = (rw (c.as_slice.ensures.value, c.from.ens
 pub returns-in-Ok-clause-answer : goal.returns-in-Ok-clause-answer
 returns-in-Ok-clause-answer g c =
     let found = rw (c.as_slice.ensures.value, c.from.ensures) at c.in-Some.ensures in
-    registers_job job_number c.args.object c.args.number _ _ _ _ _ _ found.0 found.1 c.swap_remove-job.ensures.value
-    c.swap_remove-job.ensures.items c.in-Ok.ensures
+    registers_job g.J.ScriptJob.number_of c.args.object c.args.number _ _ _ _ _ _ found.0 found.1
+    c.swap_remove-job.ensures.value c.swap_remove-job.ensures.items c.in-Ok.ensures
 
 pub returns-in-Err-clause-answer : goal.returns-in-Err-clause-answer
 returns-in-Err-clause-answer g c =
     let found = rw (c.as_slice.ensures.value, c.from.ensures) at c.in-Some.ensures in
-    refuses_job job_number c.args.object c.args.number _ _ _ _ _ _ found.0 found.1 c.swap_remove-job.ensures.value
-    c.swap_remove-job.ensures.items _ _ _ _ c.push_reserved.ensures.items c.in-Err.ensures
+    refuses_job g.J.ScriptJob.number_of c.args.object c.args.number _ _ _ _ _ _ found.0 found.1
+    c.swap_remove-job.ensures.value c.swap_remove-job.ensures.items _ _ _ _ c.push_reserved.ensures.items
+    c.in-Err.ensures
