@@ -1,6 +1,7 @@
 //! Shared heaps, queues and cleaners whose memory runs out: each request for it is refused in turn, until a call meets
 //! no refusal.
 
+ghost use Rattle.ref_share.specs.CleanSeats.{IsCleanSeat};
 ghost use Rattle.ref_share.specs.HeapSeats.{IsHeapSeat};
 ghost use Rattle.ref_share.specs.QueueSeats.{IsQueueSeat};
 
@@ -12,7 +13,9 @@ use super::{CONFIG, DEATH, M, Q, STARTS, Seats, make_calls, new_batch, start};
 use rationed::Rationed;
 use ref_base::{Fault, SlotNo};
 use ref_queue::Job;
-use ref_share::{Queues, SharedCleaner, SharedHeap, SharedQueue, end_queue, run_jobs_left};
+use ref_share::{
+    CleanSeat, HeapSeat, Queues, SharedCleaner, SharedHeap, SharedQueue, end_queue, run_jobs_left,
+};
 use std::alloc::{Allocator, Global};
 use std::process::Abort;
 use std::sync::Wait;
@@ -291,8 +294,70 @@ fn where_memory_ends_in_the_middle_what_came_before_stands(rt: HostRuntime) {
     );
 }
 
-/// What a register, or a register apart, is told on a new heap with object 1 in slot 0 and a new cleaner, with `met`
-/// requests for memory met, and whether a request was refused.
+/// A new heap with object 1 in slot 0.
+fn heap_with_object<'a, R: Wait + Abort>(
+    rt: &R,
+    memory: &'a Rationed<Global>,
+) -> (
+    SharedHeap<&'a Rationed<Global>>,
+    HeapSeat<&'a Rationed<Global>>,
+)
+    ensures { IsHeapSeat result.0 result.1 }
+{
+    let Ok((heap, mut seat)) = SharedHeap::new(memory, CONFIG, 0) else {
+        panic!(rt; "there is no heap");
+    };
+    let _object = heap.ask(rt, &mut seat, new(0));
+    (heap, seat)
+}
+
+/// A new cleaner.
+fn new_cleaner<'a>(
+    rt: &impl Abort,
+    memory: &'a Rationed<Global>,
+) -> (
+    SharedCleaner<Job, &'a Rationed<Global>>,
+    CleanSeat<Job, &'a Rationed<Global>>,
+)
+    ensures { IsCleanSeat result.0 result.1 }
+{
+    match SharedCleaner::new(memory, Q) {
+        Ok(made) => made,
+        Err(_) => panic!(rt; "there is no cleaner"),
+    }
+}
+
+/// What a register of the object in slot 0 is told by a new cleaner, and whether a request for memory was refused. The
+/// trial is whether it registers apart, and how many requests are met.
+fn registered_on<'a, R: Wait + Abort>(
+    rt: &R,
+    memory: &'a Rationed<Global>,
+    heap: &SharedHeap<&'a Rationed<Global>>,
+    heap_seat: &mut HeapSeat<&'a Rationed<Global>>,
+    trial: (bool, u64),
+    job: Job,
+) -> (Told, bool)
+    requires { IsHeapSeat heap.now heap_seat.old }
+{
+    let (is_apart, met) = trial;
+    let (cleaner, mut seat) = new_cleaner(rt, memory);
+    let (from, to) = (SlotNo(0), SlotNo(1));
+    memory.ration(met);
+    let answer = if is_apart {
+        cleaner.register_apart(rt, &mut seat, heap, heap_seat, M, from, to, job)
+    } else {
+        cleaner.register(rt, &mut seat, heap, heap_seat, M, from, to, job)
+    };
+    let was_refused = memory.lift();
+    let told = match answer {
+        Ok(cleanable) => counted(Word::Registered, u64::from(cleanable.obj.0)),
+        Err((fault, job)) => refusal(rt, heap, heap_seat, fault).with_job(job.number()),
+    };
+    run_jobs_left(cleaner.finish(seat), &());
+    (told, was_refused)
+}
+
+/// What it is told on a new heap.
 fn register_with<R: Wait + Abort>(
     rt: &R,
     memory: &Rationed<Global>,
@@ -300,27 +365,8 @@ fn register_with<R: Wait + Abort>(
     met: u64,
     job: Job,
 ) -> (Told, bool) {
-    let Ok((heap, mut heap_seat)) = SharedHeap::new(memory, CONFIG, 0) else {
-        panic!(rt; "there is no heap");
-    };
-    let Ok((cleaner, mut seat)) = SharedCleaner::new(memory, Q) else {
-        panic!(rt; "there is no cleaner");
-    };
-    let _object = heap.ask(rt, &mut heap_seat, new(0));
-    let (from, to) = (SlotNo(0), SlotNo(1));
-    memory.ration(met);
-    let answer = if is_apart {
-        cleaner.register_apart(rt, &mut seat, &heap, &mut heap_seat, M, from, to, job)
-    } else {
-        cleaner.register(rt, &mut seat, &heap, &mut heap_seat, M, from, to, job)
-    };
-    let was_refused = memory.lift();
-    let told = match answer {
-        Ok(cleanable) => counted(Word::Registered, u64::from(cleanable.obj.0)),
-        Err((fault, job)) => refusal(rt, &heap, &mut heap_seat, fault).with_job(job.number()),
-    };
-    run_jobs_left(cleaner.finish(seat), &());
-    (told, was_refused)
+    let (heap, mut heap_seat) = heap_with_object(rt, memory);
+    registered_on(rt, memory, &heap, &mut heap_seat, (is_apart, met), job)
 }
 
 /// Registers job 1 with each request refused in turn: each time it comes back. Then it is registered. Answers how many

@@ -19,7 +19,7 @@ use crate::shares::cleaners::hearing::Hearing;
 use crate::shares::cleaners::{adding, left_in};
 use crate::shares::rows::new;
 use crate::shares::{CONFIG, M, Q, STARTS, Seats, Starts, make_calls, new_batch, start};
-use ref_base::{Fault, ObjNo, PlainStep, Reply, SlotNo, Urgency};
+use ref_base::{Fault, ObjNo, PlainStep, SlotNo, Urgency};
 use ref_queue::Job;
 use ref_share::{
     CleanSeat, Cleanable, CleanedHeap, Gate, HeapSeat, ShareFault, SharedCleaner, SharedHeap,
@@ -155,18 +155,38 @@ fn asked_and_apart<R: Wait>(
     (asked, apart, is_empty)
 }
 
+/// Both of a new cleaner on this heap, and how many jobs are left.
+fn asked_on<R: Wait>(
+    rt: &R,
+    alloc: Global,
+    heap: &SharedHeap,
+    heap_seat: &mut HeapSeat,
+    job: Job,
+) -> Result<((Option<bool>, Option<Cleanable>, bool), Option<u64>), Fault>
+    requires { IsHeapSeat heap.now heap_seat.old }
+    ensures { IsHeapSeat heap.now heap_seat.new }
+{
+    let (cleaner, mut seat) = SharedCleaner::new(alloc, Q)?;
+    let told = asked_and_apart(rt, &cleaner, &mut seat, heap, heap_seat, job);
+    Ok((told, left_in(cleaner.finish(seat))))
+}
+
+/// Both on a new heap with object 1 in slot 0.
+fn asked_anew<R: Wait>(
+    rt: &R,
+    alloc: Global,
+    job: Job,
+) -> Result<((Option<bool>, Option<Cleanable>, bool), Option<u64>), Fault> {
+    let (heap, mut heap_seat) = SharedHeap::new(alloc, CONFIG, 0)?;
+    let _object = heap.ask(rt, &mut heap_seat, new(0));
+    asked_on(rt, alloc, &heap, &mut heap_seat, job)
+}
+
 #[test]
 fn a_table_is_asked_and_a_slot_is_emptied(rt: HostRuntime) -> Result<(), Fail> {
-    let (heap, mut heap_seat) = SharedHeap::new(rt.alloc(), CONFIG, 0)?;
-    let (cleaner, mut seat) = SharedCleaner::new(rt.alloc(), Q)?;
-    let made = heap.ask(&rt, &mut heap_seat, new(0));
-    let told = match adding(rt.alloc(), 1) {
-        Ok(job) => asked_and_apart(&rt, &cleaner, &mut seat, &heap, &mut heap_seat, job),
-        Err(_) => (None, None, false),
-    };
-    let left = left_in(cleaner.finish(seat));
-    assert!(rt; made == Ok(Reply::Object(ObjNo(1))) && left == Some(1));
+    let (told, left) = asked_anew(&rt, rt.alloc(), adding(rt.alloc(), 1)?)?;
     assert!(rt; told == (Some(true), Some(Cleanable { obj: ObjNo(2) }), true));
+    assert!(rt; left == Some(1));
     Ok(())
 }
 

@@ -59,8 +59,52 @@ fn cycled<R: Wait + Abort>(
     answer
 }
 
-/// An object is made, gets the job, and is let go; a cycle finds it dead, and its job is run. Whether the register made
-/// its turns, how many jobs were run before the object was let go and after that, and whether the queue was open.
+/// An object is made, gets the job, and a cycle finds it alive: whether the register made its turns, and how many jobs
+/// were run.
+fn lives<R: Wait + Abort>(
+    rt: &R,
+    alloc: Global,
+    cleaner: &QueuedCleaner,
+    seat: &mut QueuedSeat,
+    heap: &SharedHeap,
+    heap_seat: &mut HeapSeat,
+    job: Job,
+    hearing: &Hearing,
+) -> Result<(Option<bool>, u64), ShareFault>
+    requires { IsQueuedSeat cleaner.now seat.old × IsHeapSeat heap.now heap_seat.old }
+    ensures { IsQueuedSeat cleaner.now seat.new × IsHeapSeat heap.now heap_seat.new }
+{
+    heap.perform(rt, heap_seat, new(0))?;
+    let three = registers_in_three_turns(rt, cleaner, seat, heap, heap_seat, job);
+    cycled(rt, alloc, cleaner, seat, heap, heap_seat)?;
+    let count = cleaner.clean_some(rt, seat, heap, heap_seat, hearing)?;
+    Ok((three, count))
+}
+
+/// The object is let go, and a cycle finds it dead: how many jobs were run, and whether the queue was open.
+fn dies<R: Wait + Abort>(
+    rt: &R,
+    alloc: Global,
+    cleaner: &QueuedCleaner,
+    seat: &mut QueuedSeat,
+    heap: &SharedHeap,
+    heap_seat: &mut HeapSeat,
+    hearing: &Hearing,
+) -> Result<(u64, bool), ShareFault>
+    requires { IsQueuedSeat cleaner.now seat.old × IsHeapSeat heap.now heap_seat.old }
+    ensures { IsQueuedSeat cleaner.now seat.new × IsHeapSeat heap.now heap_seat.new }
+{
+    let (mutator, slot) = (M, SlotNo(0));
+    heap.perform(rt, heap_seat, PlainStep::Drop { mutator, slot })?;
+    cycled(rt, alloc, cleaner, seat, heap, heap_seat)?;
+    let count = cleaner.clean_some(rt, seat, heap, heap_seat, hearing)?;
+    let (delivered, left) = cleaner.deliver_all(rt, seat, heap, heap_seat, W, new_batch(rt, alloc));
+    end_batch(left);
+    delivered?;
+    Ok((count, cleaner.close(rt, seat)?))
+}
+
+/// An object gets its job, lives through a cycle, and dies in the next.
 fn lives_and_dies<R: Wait + Abort>(
     rt: &R,
     alloc: Global,
@@ -74,22 +118,33 @@ fn lives_and_dies<R: Wait + Abort>(
     requires { IsQueuedSeat cleaner.now seat.old × IsHeapSeat heap.now heap_seat.old }
     ensures { IsQueuedSeat cleaner.now seat.new × IsHeapSeat heap.now heap_seat.new }
 {
-    heap.perform(rt, heap_seat, new(0))?;
-    let three = registers_in_three_turns(rt, cleaner, seat, heap, heap_seat, job);
-    cycled(rt, alloc, cleaner, seat, heap, heap_seat)?;
-    let living = cleaner.clean_some(rt, seat, heap, heap_seat, hearing)?;
-    let (mutator, slot) = (M, SlotNo(0));
-    heap.perform(rt, heap_seat, PlainStep::Drop { mutator, slot })?;
-    cycled(rt, alloc, cleaner, seat, heap, heap_seat)?;
-    let dead = cleaner.clean_some(rt, seat, heap, heap_seat, hearing)?;
-    let (delivered, left) = cleaner.deliver_all(rt, seat, heap, heap_seat, W, new_batch(rt, alloc));
-    end_batch(left);
-    delivered?;
-    let is_open = cleaner.close(rt, seat)?;
+    let (three, living) = lives(rt, alloc, cleaner, seat, heap, heap_seat, job, hearing)?;
+    let (dead, is_open) = dies(rt, alloc, cleaner, seat, heap, heap_seat, hearing)?;
     Ok((three, living, dead, is_open))
 }
 
-/// Cleans on a new heap by a new cleaner, with a second seat that is taken in, and how many notices are left.
+/// Cleans on a heap by a new cleaner, with a second seat that is taken in, and how many notices are left.
+fn cleaned_on<R: Wait + Abort>(
+    rt: &R,
+    alloc: Global,
+    heap: &SharedHeap,
+    heap_seat: &mut HeapSeat,
+    job: Job,
+    hearing: &Hearing,
+) -> Result<(Result<(Option<bool>, u64, u64, bool), ShareFault>, usize), Fault>
+    requires { IsHeapSeat heap.now heap_seat.old }
+    ensures { IsHeapSeat heap.now heap_seat.new }
+{
+    let (cleaner, mut seat) = QueuedCleaner::new(alloc)?;
+    let mut other = cleaner.split(&mut seat);
+    let told = lives_and_dies(
+        rt, alloc, &cleaner, &mut other, heap, heap_seat, job, hearing,
+    );
+    cleaner.join(&mut seat, other);
+    Ok((told, cleaner.end(seat, &())))
+}
+
+/// Cleans on a new heap.
 fn anew<R: Wait + Abort>(
     rt: &R,
     alloc: Global,
@@ -97,20 +152,7 @@ fn anew<R: Wait + Abort>(
     hearing: &Hearing,
 ) -> Result<(Option<bool>, u64, u64, bool, usize), Fault> {
     let (heap, mut heap_seat) = SharedHeap::new(alloc, CONFIG, 0)?;
-    let (cleaner, mut seat) = QueuedCleaner::new(alloc)?;
-    let mut other = cleaner.split(&mut seat);
-    let told = lives_and_dies(
-        rt,
-        alloc,
-        &cleaner,
-        &mut other,
-        &heap,
-        &mut heap_seat,
-        job,
-        hearing,
-    );
-    cleaner.join(&mut seat, other);
-    let notices = cleaner.end(seat, &());
+    let (told, notices) = cleaned_on(rt, alloc, &heap, &mut heap_seat, job, hearing)?;
     match told {
         Ok((three, living, dead, is_open)) => Ok((three, living, dead, is_open, notices)),
         Err(fault) => Err(fault.into_fault()),
