@@ -1,0 +1,14 @@
+//! The tests of the reference processor, against answers that were worked out by hand.
+//!
+//! A story is a text of rows, each a call and its answer, apart by a colon. One runner (`bench`) makes a story's calls
+//! in turn, and a failure prints the row.
+#![tactic(auto)]
+
+#[cfg(test)]
+mod bench;
+#[cfg(test)]
+mod cycles;
+#[cfg(test)]
+mod memory;
+#[cfg(test)]
+mod told;

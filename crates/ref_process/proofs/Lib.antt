@@ -1,0 +1,15 @@
+pub mod VacantPlaces
+pub mod PlaceRounds
+pub mod RowChanges
+pub mod RunNotices
+pub mod RunKeys
+pub mod RunOrder
+pub mod MarkedPaths
+pub mod Readings
+pub mod KnownKeys
+pub mod ListedKeys
+pub mod RunDeaths
+pub mod ProcessExamples
+pub mod ListCounts
+pub mod RunEnds
+pub mod CycleNotices
