@@ -1,12 +1,16 @@
 //! A processor with two finders, and the runner of stories.
 //!
 //! A reference is told by its number, as `r0` is the first that was made. `-` is none. `mark 21 22` has the marker mark
-//! these objects alone, and `spend` spends the first notice that is held.
+//! these objects alone, and `spend` spends the first notice that is held. `queues` has the calls of its two queues.
+
+mod queues;
 
 use crate::told::{MOST_ROOTS, Told};
 use rationed::Rationed;
 use ref_base::{QueueNo, Strength, Urgency, WorkerNo};
-use ref_process::{Finder, Handed, Handle, Key, Looked, Marks, Notice, ProcessFault, Processor};
+use ref_process::{
+    Finder, Handed, Handle, Key, Looked, Marks, Notice, NoticeQueue, ProcessFault, Processor,
+};
 use std::alloc::{Allocator, Global};
 use std::collections::VecDeque;
 use std::process::Abort;
@@ -48,6 +52,8 @@ pub struct Bench<A: Allocator> {
     processor: Processor<A>,
     first: Finder<A>,
     second: Finder<A>,
+    queue_0: NoticeQueue<A>,
+    queue_1: NoticeQueue<A>,
     keys: Vec<Key>,
     notices: VecDeque<Notice>,
     marked: Flags,
@@ -62,6 +68,8 @@ impl<A: Allocator + Copy + Drop> Bench<A> {
             processor: Processor::new(alloc, span),
             first: Finder::new(alloc, WorkerNo(0)),
             second: Finder::new(alloc, WorkerNo(1)),
+            queue_0: NoticeQueue::new(alloc, QueueNo(0)),
+            queue_1: NoticeQueue::new(alloc, QueueNo(1)),
             keys: Vec::new(own),
             notices: VecDeque::new(own),
             marked: Flags {
@@ -87,6 +95,7 @@ impl<A: Allocator + Copy + Drop> Bench<A> {
             "spend" => self.spend(),
             "roots" => self.roots(),
             "take_made" | "look" | "hand" => self.of_finder(name, rest == "0"),
+            "put" | "poll" | "close" | "end" => self.of_queue(name, rest == "0"),
             _ => self.of_key(rt, name, rest),
         }
     }

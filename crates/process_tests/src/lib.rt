@@ -11,4 +11,6 @@ mod cycles;
 #[cfg(test)]
 mod memory;
 #[cfg(test)]
+mod queues;
+#[cfg(test)]
 mod told;

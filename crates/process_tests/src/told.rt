@@ -26,6 +26,12 @@ pub enum Told {
     Skipped(usize),
     Already(usize),
     Notice(usize, QueueNo, Cause),
+    /// The position of a notice that was put in.
+    Position(u64),
+    Empty,
+    Closed,
+    /// How many stood in a queue as it ended.
+    Stood(u64),
     Roots([u64; MOST_ROOTS], usize),
 }
 
@@ -56,6 +62,10 @@ impl fmt::Display for Told {
             Told::Notice(number, queue, Cause::Cycle(cycle, worker)) => {
                 write!(f, "notice r{number} {queue} cycle {cycle} {worker}")
             }
+            Told::Position(position) => write!(f, "added {position}"),
+            Told::Empty => f.write_str("empty"),
+            Told::Closed => f.write_str("closed"),
+            Told::Stood(count) => write!(f, "stood {count}"),
             Told::Roots(roots, count) => say_roots(f, roots, *count),
         }
     }

@@ -13,3 +13,6 @@ pub mod ProcessExamples
 pub mod ListCounts
 pub mod RunEnds
 pub mod CycleNotices
+pub mod NoticeRuns
+pub mod NoticeExamples
+pub mod BatchRows

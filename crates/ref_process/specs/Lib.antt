@@ -6,3 +6,6 @@ pub mod DeskRows
 pub mod RowTallies
 pub mod Promises
 pub mod CycleRows
+pub mod NoticeQueues
+pub mod NoticeRows
+pub mod HandBatches

@@ -13,7 +13,9 @@ pub enum ProcessFault {
     ClockBack,
     /// The clearing can't end while something that was found or made in the mark was not looked at.
     ClearingLeft,
-    /// No place, cycle number or count is left.
+    /// The notice is for another queue.
+    WrongQueue,
+    /// No place, cycle number, count or position is left.
     NumbersSpent,
     /// A growth was refused.
     NoMemory,

@@ -1,4 +1,8 @@
-//! What holds of each run of a processor.
+//! What holds of each run of a processor; `queues` says what does of a queue of notices, `batches` of those that are
+//! handed on at once.
+
+pub mod batches;
+pub mod queues;
 
 ghost use Rattle.std.specs.Prelude.{◌≡◌, ◌≤◌, ◌++◌, ℕ, Bool, true, false, not, List, Option, Some, None};
 ghost use Rattle.ref_base.specs.DoomedSets.{MayDoom};

@@ -5,7 +5,8 @@
 //! as long as it lives, and nothing afterwards. In a mark, the runtime's marker tells which references it came upon; a
 //! **finder** keeps them, one for each worker. From the mark's end on, what isn't marked reads as null, for all
 //! references at that instant. Then the workers look at what they found: a reference whose referent isn't marked is
-//! cleared, and its **notice** is handed on for its queue.
+//! cleared, and its **notice** is handed on for its queue. A **queue of notices** gives out what was put in, first in,
+//! first out.
 //!
 //! What the runtime promises of its marks is `MarksKept` of the specs. The laws say what holds with this promise, and
 //! what holds without it.
@@ -21,6 +22,7 @@ pub mod laws;
 mod looked;
 mod marks;
 mod notice;
+mod notice_queue;
 mod phase;
 mod place;
 mod places;
@@ -35,6 +37,7 @@ pub use key::Key;
 pub use looked::Looked;
 pub use marks::Marks;
 pub use notice::Notice;
+pub use notice_queue::{NoticePolled, NoticePut, NoticeQueue};
 pub use phase::Phase;
 pub use place::{Place, Reference};
 pub use processor::Processor;

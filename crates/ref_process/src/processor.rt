@@ -1,5 +1,6 @@
 //! The processor.
 
+mod batches;
 mod clearing;
 mod finding;
 mod making;
