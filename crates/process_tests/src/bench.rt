@@ -1,10 +1,13 @@
 //! A processor with two finders, and the runner of stories.
 //!
 //! A reference is told by its number, as `r0` is the first that was made. `-` is none. `mark 21 22` has the marker mark
-//! these objects alone, and `spend` spends the first notice that is held. `queues` has the calls of its two queues.
+//! these objects alone, `relocate 21>31` tells that object 21 is 31 now, and `spend` spends the first notice that is
+//! held. `queues` has the calls of its two queues, and `batches` those of what is handed on at once.
 
+mod batches;
 mod queues;
 
+use crate::moved::Forwards;
 use crate::told::{MOST_ROOTS, Told};
 use rationed::Rationed;
 use ref_base::{QueueNo, Strength, Urgency, WorkerNo};
@@ -16,7 +19,7 @@ use std::collections::VecDeque;
 use std::process::Abort;
 
 /// Objects below this may be marked.
-const OBJECTS: usize = 64;
+pub const OBJECTS: usize = 64;
 
 /// More requests than any call makes.
 const MOST_REQUESTS: u64 = 100;
@@ -94,8 +97,11 @@ impl<A: Allocator + Copy + Drop> Bench<A> {
             "end_clear" => done(self.processor.end_clear()),
             "spend" => self.spend(),
             "roots" => self.roots(),
+            "relocate" => self.relocate(rt, rest),
             "take_made" | "look" | "hand" => self.of_finder(name, rest == "0"),
             "put" | "poll" | "close" | "end" => self.of_queue(name, rest == "0"),
+            "next_queue" => self.next_queue(rest == "0"),
+            "hand_batch" => self.hand_batch(rt, rest),
             _ => self.of_key(rt, name, rest),
         }
     }
@@ -177,6 +183,10 @@ impl<A: Allocator + Copy + Drop> Bench<A> {
             }
             Err(fault) => Told::Refused(fault),
         }
+    }
+
+    fn relocate(&mut self, rt: &impl Abort, rest: &str) -> Told {
+        done(self.processor.relocate(&Forwards::of(rt, rest)))
     }
 
     fn of_finder(&mut self, name: &str, is_first: bool) -> Told {
@@ -324,7 +334,8 @@ fn done(answer: Result<(), ProcessFault>) -> Told {
     }
 }
 
-fn number(rt: &impl Abort, text: &str) -> u64 {
+/// The number that the text is.
+pub fn number(rt: &impl Abort, text: &str) -> u64 {
     match text.parse::<u64>() {
         Ok(number) => number,
         Err(_) => panic!(rt; "no number: {text}"),

@@ -5,11 +5,17 @@
 #![tactic(auto)]
 
 #[cfg(test)]
+mod batches;
+#[cfg(test)]
 mod bench;
 #[cfg(test)]
 mod cycles;
 #[cfg(test)]
 mod memory;
+#[cfg(test)]
+mod moved;
+#[cfg(test)]
+mod moves;
 #[cfg(test)]
 mod queues;
 #[cfg(test)]

@@ -95,7 +95,7 @@ fn a_queue_that_ends_gives_what_stands(rt: HostRuntime) {
     assert!(rt; NoticeQueue::new(rt.alloc(), QueueNo(7)).queue() == QueueNo(7));
 }
 
-// Where a put is refused for want of memory, its notice comes back, and the queue is as it was.
+// A put makes one request at most. Where that is refused its notice comes back, and the queue is as it was.
 #[test]
 fn a_put_that_is_refused_memory_changes_nothing(rt: HostRuntime) {
     let memory = Rationed::new(rt.alloc());
@@ -112,7 +112,7 @@ fn a_put_that_is_refused_memory_changes_nothing(rt: HostRuntime) {
         &mut bench,
         "put 0 : NoMemory; put 0 : NoMemory; poll 0 : empty; put 1 : WrongQueue",
     );
-    assert!(rt; memory.lift(), "no request");
+    assert!(rt; memory.lift(), "NoticeQueue::put");
     agree(&rt, &mut bench, "put 0 : added 0; close 1 : yes");
     // A closed queue wants no memory, and neither does a poll.
     memory.ration(0);
@@ -121,5 +121,5 @@ fn a_put_that_is_refused_memory_changes_nothing(rt: HostRuntime) {
         &mut bench,
         "put 1 : closed; poll 0 : notice r0 q0 own; poll 0 : empty",
     );
-    assert!(rt; !memory.lift(), "a request");
+    assert!(rt; !memory.lift(), "a closed queue asked");
 }

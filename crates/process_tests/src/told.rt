@@ -32,6 +32,9 @@ pub enum Told {
     Closed,
     /// How many stood in a queue as it ended.
     Stood(u64),
+    Queue(Option<QueueNo>),
+    /// How many notices are in a batch.
+    Batch(u64),
     Roots([u64; MOST_ROOTS], usize),
 }
 
@@ -66,6 +69,9 @@ impl fmt::Display for Told {
             Told::Empty => f.write_str("empty"),
             Told::Closed => f.write_str("closed"),
             Told::Stood(count) => write!(f, "stood {count}"),
+            Told::Queue(Some(queue)) => write!(f, "{queue}"),
+            Told::Queue(None) => f.write_str("no queue"),
+            Told::Batch(count) => write!(f, "batch {count}"),
             Told::Roots(roots, count) => say_roots(f, roots, *count),
         }
     }

@@ -17,7 +17,8 @@ use Rattle.ref_process.proofs.RunOrder.{changed_lists, other_lists, finding_pend
 use Rattle.ref_process.specs.CycleRows.{new_crew, IsOfTheDead, is_notice_of, hands_notice, was_noticed}
 use Rattle.ref_process.specs.CycleRows.{clears_key, is_clear_of}
 use Rattle.ref_process.specs.DeskRows.{Crew, DeskRow, Adds, Begins, Finds, EndsMarking, TakesMade, Looks, EndsClearing}
-use Rattle.ref_process.specs.DeskRows.{Gets, Clears, Enqueues, Hands, Spends, Buries, IsAnswered, after_row, IsRowBy}
+use Rattle.ref_process.specs.DeskRows.{Gets, Clears, Enqueues, Hands, Spends, Buries, Relocates, IsAnswered, after_row}
+use Rattle.ref_process.specs.DeskRows.{IsRowBy}
 use Rattle.ref_process.specs.DeskRows.{lists_at, at_desk, with_finder, IsRunBy, IsDeskRun}
 use Rattle.ref_process.specs.Desks.{Desk, FinderLists, new_lists, is_marking, is_clearing, is_resting, lists_finding}
 use Rattle.ref_process.specs.Desks.{lists_taking, made_reference, after_finding, mark_end_refusal}
@@ -128,6 +129,7 @@ module _ (Q : Pending → Type 0) (marked : ℕ → Bool) (c : Crew) (all : AllP
       (hand_each Q (lists_at c j) (lists_at c j).pending refl (all j))
   after_each (Spends k) is new = all
   after_each (Buries k) is new = all
+  after_each (Relocates to) is new = all
 
 pub row_each : (Q : Pending → Type 0) (marked : ℕ → Bool) (c : Crew) (row : DeskRow) (e : Crew) → AllPending Q c
     → IsRowBy marked c row e → FitsNew Q marked c row → AllPending Q e
@@ -191,6 +193,7 @@ module _ (marked : ℕ → Bool) (c : Crew) where
   after_before (Spends k) y before =
       steady_before c (after_row marked c (Spends k)) (spend_steady marked c.desk k (at_desk c k)) y before
   after_before (Buries k) y before = before
+  after_before (Relocates to) y before = before
 
 pub look_clearing : (marked : ℕ → Bool) (c : Crew) (phase : Phase) → c.desk.phase ≡ phase → (row : DeskRow)
     → IsAnswered marked c row → (i : ℕ) (l : Looked) (q : Option ℕ) → row ≡ Looks i l q → phase ≡ Clearing
@@ -368,6 +371,7 @@ module _ (marked : ℕ → Bool) (c : Crew) (rests : is_resting c.desk.phase ≡
       ap is_resting (hand_steady marked c.desk (lists_at c i).pending).phase ∙ rests
   after_rests (Spends k) is within = ap is_resting (spend_steady marked c.desk k (at_desk c k)).phase ∙ rests
   after_rests (Buries k) is within = rests
+  after_rests (Relocates to) is within = rests
 
 pub ended_after : (marked : ℕ → Bool) (c z : Crew) (row : DeskRow) (y : Crew) → HasEnded c z → IsRowBy marked z row y
     → HasEnded c y

@@ -3,7 +3,7 @@ use Rattle.std.proofs.Common.{arith, ◌≡◌, ◌∷◌, ◌++◌, [], refl, a
 use Rattle.std.proofs.Common.{Option, Some, None, is_some, nat_lt, ◌==◌, ◌&&◌, ◌||◌}
 use Rattle.std.proofs.lemmas.Bool.{cases_eq, eqb-true, eq-eqb}
 use Rattle.std.proofs.lemmas.Bool.Decides.{nat_tests}
-use Rattle.ref_process.proofs.PlaceRounds.{Onward, same, changed, dead, made, EachOnward, new_here, under_held}
+use Rattle.ref_process.proofs.PlaceRounds.{Onward, same, changed, dead, made, moved, EachOnward, new_here, under_held}
 use Rattle.ref_process.proofs.PlaceRounds.{under_round}
 use Rattle.ref_process.specs.Places.{place_at, reference_under, is_new_key, with_new}
 use Rattle.ref_process.specs.RowTallies.{same_key}
@@ -18,15 +18,21 @@ known_in p round = nat_lt round p.round || ((p.round == round) && is_some p.held
 abbrev pub is_known : List Place → Key → Bool
 is_known ps k = known_in (place_at ps k.place) k.round
 
-pub known_onward : (p q : Place) → Onward p q → (round : ℕ) → known_in p round ≡ true → known_in q round ≡ true
-known_onward p q (same is) round known = grind (arith, is)
-known_onward p q (changed r s was is rounds goes) round known = grind (arith, nat_tests, cases_eq, was, is, rounds)
-known_onward p q (dead empty rounds) round known = grind (arith, nat_tests, cases_eq, rounds)
-known_onward p q (made s was is rounds untold) round known = grind (arith, nat_tests, cases_eq, was, is, rounds)
+pub known_onward : (still : Bool) (p q : Place) → Onward still p q → (round : ℕ) → known_in p round ≡ true
+    → known_in q round ≡ true
+known_onward still p q (same is) round known = grind (arith, is)
+known_onward still p q (changed r s was is rounds goes) round known =
+    grind (arith, nat_tests, cases_eq, was, is, rounds)
+known_onward still p q (dead empty rounds) round known = grind (arith, nat_tests, cases_eq, rounds)
+known_onward still p q (made s was is rounds untold) round known =
+    grind (arith, nat_tests, cases_eq, was, is, rounds)
+known_onward still p q (moved r s was is rounds queue told moves) round known =
+    grind (arith, nat_tests, cases_eq, was, is, rounds)
 
-pub each_known : (ps qs : List Place) → EachOnward ps qs → (k : Key) → is_known ps k ≡ true → is_known qs k ≡ true
-each_known ps qs onward k known =
-    known_onward (place_at ps k.place) (place_at qs k.place) (onward k.place) k.round known
+pub each_known : (still : Bool) (ps qs : List Place) → EachOnward still ps qs → (k : Key) → is_known ps k ≡ true
+    → is_known qs k ≡ true
+each_known still ps qs onward k known =
+    known_onward still (place_at ps k.place) (place_at qs k.place) (onward k.place) k.round known
 
 pub there_known : (ps : List Place) (k : Key) (o : Option Reference) → reference_under ps k ≡ o → is_some o ≡ true
     → is_known ps k ≡ true

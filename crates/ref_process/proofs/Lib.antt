@@ -1,5 +1,6 @@
 pub mod VacantPlaces
 pub mod PlaceRounds
+pub mod MovedPlaces
 pub mod RowChanges
 pub mod RunNotices
 pub mod RunKeys
@@ -10,9 +11,14 @@ pub mod KnownKeys
 pub mod ListedKeys
 pub mod RunDeaths
 pub mod ProcessExamples
+pub mod RelocationExamples
 pub mod ListCounts
 pub mod RunEnds
 pub mod CycleNotices
 pub mod NoticeRuns
 pub mod NoticeExamples
 pub mod BatchRows
+pub mod BatchExamples
+pub mod NoticeCounts
+pub mod PlaceExamples
+pub mod RenamedRows

@@ -7,7 +7,7 @@ use Rattle.std.proofs.lemmas.List.Sums.{sum_by-set}
 use Rattle.std.specs.Prelude.{sum_by, slice_index_or, slice_set}
 use Rattle.ref_process.proofs.ListedKeys.{look_at_found, hand_found}
 use Rattle.ref_process.specs.DeskRows.{Crew, DeskRow, Adds, Begins, Finds, EndsMarking, TakesMade, Looks, EndsClearing}
-use Rattle.ref_process.specs.DeskRows.{Gets, Clears, Enqueues, Hands, Spends, Buries, IsAnswered, after_row}
+use Rattle.ref_process.specs.DeskRows.{Gets, Clears, Enqueues, Hands, Spends, Buries, Relocates, IsAnswered, after_row}
 use Rattle.ref_process.specs.DeskRows.{lists_at, at_desk, IsDeskRun, IsRowBy}
 use Rattle.ref_process.specs.Desks.{Desk, FinderLists, new_lists, lists_finding, after_finding, lists_taking}
 use Rattle.ref_process.specs.Desks.{with_made_key, made_reference}
@@ -153,6 +153,7 @@ module _ (marked : ℕ → Bool) (c : Crew) (counted : IsCounted c) where
       (hand_found (lists_at c i) (lists_at c i).pending)
   after_counted (Spends k) is = spend_counts c.desk k (at_desk c k) ∙ counted
   after_counted (Buries k) is = counted
+  after_counted (Relocates to) is = counted
 
 pub row_counted : (marked : ℕ → Bool) (c : Crew) (row : DeskRow) (e : Crew) → IsRowBy marked c row e → IsCounted c
     → IsCounted e

@@ -8,10 +8,10 @@ use Rattle.std.specs.Prelude.{slice_index_or}
 use Rattle.ref_base.specs.Paths.{is_soft}
 use Rattle.ref_process.proofs.KnownKeys.{is_known, each_known, there_known, new_known, all_keys, all_both, all_more}
 use Rattle.ref_process.proofs.KnownKeys.{all_rest}
-use Rattle.ref_process.proofs.RowChanges.{after_onward, made_key_places}
+use Rattle.ref_process.proofs.RowChanges.{stands, after_onward, made_key_places}
 use Rattle.ref_process.proofs.RunOrder.{changed_lists, other_lists}
 use Rattle.ref_process.specs.DeskRows.{Crew, DeskRow, Adds, Begins, Finds, EndsMarking, TakesMade, Looks, EndsClearing}
-use Rattle.ref_process.specs.DeskRows.{Gets, Clears, Enqueues, Hands, Spends, Buries, IsAnswered, after_row}
+use Rattle.ref_process.specs.DeskRows.{Gets, Clears, Enqueues, Hands, Spends, Buries, Relocates, IsAnswered, after_row}
 use Rattle.ref_process.specs.DeskRows.{lists_at, at_desk, with_finder, IsDeskRun}
 use Rattle.ref_process.specs.CycleRows.{new_crew}
 use Rattle.ref_process.specs.Desks.{Desk, FinderLists, lists_finding, lists_taking, with_made_key, made_reference}
@@ -198,6 +198,7 @@ module _ (test : Key → Bool) (marked : ℕ → Bool) (c : Crew) (all : AllList
   after_listed (Spends k) is new =
       listed_same (after_spend c.desk k (at_desk c k)) (spend_steady marked c.desk k (at_desk c k)).made
   after_listed (Buries k) is new = listed_same (after_row marked c (Buries k)).desk refl
+  after_listed (Relocates to) is new = listed_same (after_row marked c (Relocates to)).desk refl
 
 -- ---- what is listed was given
 
@@ -233,7 +234,7 @@ module _ (marked : ℕ → Bool) (c : Crew) where
   newly_known (Begins now u n) is = refl
   newly_known (Finds i k x) is =
       if_listed_all (is_known (after_row marked c (Finds i k x)).desk.places) k x
-      (each_known c.desk.places (after_row marked c (Finds i k x)).desk.places
+      (each_known true c.desk.places (after_row marked c (Finds i k x)).desk.places
       (after_onward marked c (Finds i k x) is) k
       (there_known c.desk.places k (at_desk c k) refl (found_there c.desk k (at_desk c k) refl is.1)))
   newly_known EndsMarking is = refl
@@ -246,12 +247,14 @@ module _ (marked : ℕ → Bool) (c : Crew) where
   newly_known (Hands i x) is = refl
   newly_known (Spends k) is = refl
   newly_known (Buries k) is = refl
+  newly_known (Relocates to) is = refl
 
   pub after_known : AreKnown c → (row : DeskRow) → IsAnswered marked c row → AreKnown (after_row marked c row)
   after_known known row is =
       after_listed (is_known (after_row marked c row).desk.places) marked c
       (more_listed (is_known c.desk.places) (is_known (after_row marked c row).desk.places)
-      (each_known c.desk.places (after_row marked c row).desk.places (after_onward marked c row is)) c known)
+      (each_known (stands row) c.desk.places (after_row marked c row).desk.places (after_onward marked c row is)) c
+      known)
       row is (newly_known row is)
 
 pub run_known : (rows : List DeskRow) (c e : Crew) → IsDeskRun c rows e → AreKnown c → AreKnown e

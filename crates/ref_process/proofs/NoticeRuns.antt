@@ -37,7 +37,7 @@ poll_stands : (q : QueuedNotices) (xs : List Notice) → q.stands ≡ xs
 poll_stands q [] is = grind (arith, none_taken q.closed)
 poll_stands q (x ∷ xs) is = sym is
 
-row_in_order : (q : QueuedNotices) (row : NoticeRow) → IsAnsweredBy q row
+pub row_in_order : (q : QueuedNotices) (row : NoticeRow) → IsAnsweredBy q row
     → taken_by_row row ++ (after_notice_row q row).stands ≡ q.stands ++ added_by_row row
 row_in_order q (PutsNotice x answer) is = grind (arith, put_stands q x q.closed, is)
 row_in_order q (PollsNotice answer) is = grind (arith, append-nil, poll_stands q q.stands refl, is)

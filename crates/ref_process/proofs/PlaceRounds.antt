@@ -1,5 +1,5 @@
 -- How places change: the reference of a key goes on, or is dead for good.
-use Rattle.std.proofs.Common.{arith, ◌≡◌, ◌<◌, ◌≤◌, ◌+◌, ◌∷◌, ◌++◌, [], refl, ℕ, true, false, List, Some}
+use Rattle.std.proofs.Common.{arith, ◌≡◌, ◌<◌, ◌≤◌, ◌+◌, ◌∷◌, ◌++◌, [], refl, ℕ, Bool, true, false, List, Some}
 use Rattle.std.proofs.Common.{subst, sym, None, length, inl, inr}
 use Rattle.std.proofs.lemmas.Bool.{cases_eq, eqb-true}
 use Rattle.std.proofs.lemmas.Bool.Decides.{nat_tests}
@@ -18,17 +18,22 @@ pub record GoesOn (r s : Reference) : Type 0 where
   pub told : r.is_told ≡ true → s.is_told ≡ true
   pub refers : (h : ℕ) → s.referent ≡ Some h → r.referent ≡ Some h
 
--- what may become of a place
-pub data Onward (p q : Place) : Type 0 where
-  same : q ≡ p → Onward p q
-  changed : (r s : Reference) → p.held ≡ Some r → q.held ≡ Some s → q.round ≡ p.round → GoesOn r s → Onward p q
-  dead : q.held ≡ None → q.round ≡ p.round + 1 → Onward p q
-  made : (s : Reference) → p.held ≡ None → q.held ≡ Some s → q.round ≡ p.round → s.is_told ≡ false → Onward p q
+-- what may become of a place. While all is still, no object moves.
+pub data Onward (still : Bool) (p q : Place) : Type 0 where
+  same : q ≡ p → Onward still p q
+  changed :
+      (r s : Reference) → p.held ≡ Some r → q.held ≡ Some s → q.round ≡ p.round → GoesOn r s → Onward still p q
+  dead : q.held ≡ None → q.round ≡ p.round + 1 → Onward still p q
+  made :
+      (s : Reference) → p.held ≡ None → q.held ≡ Some s → q.round ≡ p.round → s.is_told ≡ false → Onward still p q
+  moved :
+      (r s : Reference) → p.held ≡ Some r → q.held ≡ Some s → q.round ≡ p.round → s.queue ≡ r.queue
+      → s.is_told ≡ r.is_told → still ≡ false → Onward still p q
 
-abbrev pub EachOnward : List Place → List Place → Type 0
-EachOnward ps qs = (n : ℕ) → Onward (place_at ps n) (place_at qs n)
+abbrev pub EachOnward : Bool → List Place → List Place → Type 0
+EachOnward still ps qs = (n : ℕ) → Onward still (place_at ps n) (place_at qs n)
 
-pub each_same : (ps : List Place) → EachOnward ps ps
+pub each_same : (ps : List Place) → EachOnward true ps ps
 each_same ps n = same refl
 
 -- ---- a key that has a reference
@@ -48,7 +53,7 @@ module _ (ps : List Place) (k : Key) (r : Reference) (is : reference_under ps k 
   pub put_here : (s : Reference) → place_at (put_at ps k s) k.place ≡ record { round = k.round; held = Some s }
   put_here s = get_or-set_same ps k.place (record { round = k.round; held = Some s }) new_place (under_there ps k r is)
 
-  pub put_onward : (s : Reference) → GoesOn r s → EachOnward ps (put_at ps k s)
+  pub put_onward : (s : Reference) → GoesOn r s → EachOnward true ps (put_at ps k s)
   put_onward s goes n =
       elim (cases_eq n k.place) [
         | inl here ↦
@@ -61,7 +66,7 @@ module _ (ps : List Place) (k : Key) (r : Reference) (is : reference_under ps k 
   bury_here =
       get_or-set_same ps k.place (record { round = k.round + 1; held = None }) new_place (under_there ps k r is)
 
-  pub bury_onward : EachOnward ps (buried ps k)
+  pub bury_onward : EachOnward true ps (buried ps k)
   bury_onward n =
       elim (cases_eq n k.place) [
         | inl here ↦
@@ -75,9 +80,9 @@ pub data Touches (ps qs : List Place) : Type 0 where
   touched :
       (k : Key) (r s : Reference) → reference_under ps k ≡ Some r → GoesOn r s → qs ≡ put_at ps k s → Touches ps qs
 
-pub touch_onward : (ps qs : List Place) → Touches ps qs → EachOnward ps qs
-touch_onward ps qs (untouched is) = subst (EachOnward ps) (sym is) (each_same ps)
-touch_onward ps qs (touched k r s was goes is) = subst (EachOnward ps) (sym is) (put_onward ps k r was s goes)
+pub touch_onward : (ps qs : List Place) → Touches ps qs → EachOnward true ps qs
+touch_onward ps qs (untouched is) = subst (EachOnward true ps) (sym is) (each_same ps)
+touch_onward ps qs (touched k r s was goes is) = subst (EachOnward true ps) (sym is) (put_onward ps k r was s goes)
 
 -- ---- a new key
 
@@ -114,7 +119,7 @@ module _ (ps : List Place) (k : Key) (new : is_new_key ps k ≡ true) where
         length_push ps (record { round = k.round; held = Some s }),
       )
 
-  pub new_onward : (s : Reference) → s.is_told ≡ false → EachOnward ps (with_new ps k s)
+  pub new_onward : (s : Reference) → s.is_told ≡ false → EachOnward true ps (with_new ps k s)
   new_onward s untold n =
       elim (cases_eq n k.place) [
         | inl here ↦
@@ -125,11 +130,12 @@ module _ (ps : List Place) (k : Key) (new : is_new_key ps k ≡ true) where
 
 -- ---- what follows of a place
 
-pub rounds_rise : (p q : Place) → Onward p q → p.round ≤ q.round
-rounds_rise p q (same is) = grind (arith, is)
-rounds_rise p q (changed r s was is round goes) = grind (arith, round)
-rounds_rise p q (dead empty round) = grind (arith, round)
-rounds_rise p q (made s was is round untold) = grind (arith, round)
+pub rounds_rise : (still : Bool) (p q : Place) → Onward still p q → p.round ≤ q.round
+rounds_rise still p q (same is) = grind (arith, is)
+rounds_rise still p q (changed r s was is round goes) = grind (arith, round)
+rounds_rise still p q (dead empty round) = grind (arith, round)
+rounds_rise still p q (made s was is round untold) = grind (arith, round)
+rounds_rise still p q (moved r s was is round queue told moves) = grind (arith, round)
 
 -- a key that is past has no reference
 pub past_none : (ps : List Place) (k : Key) → IsBygone ps k → reference_under ps k ≡ None

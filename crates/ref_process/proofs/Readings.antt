@@ -7,7 +7,8 @@ use Rattle.ref_base.specs.Paths.{is_soft}
 use Rattle.ref_process.proofs.PlaceRounds.{put_here, under_held, under_round, bury_here, new_here, new_other, new_empty}
 use Rattle.ref_process.specs.CycleRows.{may_change, RefersUnmarked}
 use Rattle.ref_process.specs.DeskRows.{Crew, DeskRow, Adds, Begins, Finds, EndsMarking, TakesMade, Looks, EndsClearing}
-use Rattle.ref_process.specs.DeskRows.{Gets, Clears, Enqueues, Hands, Spends, Buries, IsAnswered, after_row, IsRowBy}
+use Rattle.ref_process.specs.DeskRows.{Gets, Clears, Enqueues, Hands, Spends, Buries, Relocates, IsAnswered, after_row}
+use Rattle.ref_process.specs.DeskRows.{IsRowBy}
 use Rattle.ref_process.specs.DeskRows.{lists_at, at_desk}
 use Rattle.ref_process.specs.Desks.{Desk, after_finding, with_made_key, made_reference, look_refusal, cycle_refusal}
 use Rattle.ref_process.specs.Desks.{death_refusal}
@@ -231,6 +232,7 @@ module _ (marked : ℕ → Bool) (c : Crew) (k : Key) where
   after_reads (Hands i x) is other = hand_first_reads marked c.desk (lists_at c i).pending k
   after_reads (Spends j) is other = spend_reads marked c.desk j (at_desk c j) refl k
   after_reads (Buries j) is other = bury_reads marked c.desk j (at_desk c j) refl is k other
+  after_reads (Relocates to) is other = absurd (grind (arith, other))
 
   pub row_reads : (row : DeskRow) (e : Crew) → IsRowBy marked c row e → may_change k row ≡ false
       → reads marked e.desk (at_desk e k) ≡ reads marked c.desk (at_desk c k)

@@ -3,10 +3,12 @@ use Rattle.std.proofs.Common.{arith, ◌≡◌, ◌-◌, ◌∷◌, [], refl, su
 use Rattle.std.proofs.Common.{Option, Some, None, is_some, if◌then◌else◌, ◌&&◌}
 use Rattle.std.proofs.lemmas.Bool.{cases_eq}
 use Rattle.ref_base.specs.Paths.{is_soft}
+use Rattle.ref_process.proofs.MovedPlaces.{moved_onward}
 use Rattle.ref_process.proofs.PlaceRounds.{Touches, untouched, touched, touch_onward, EachOnward, GoesOn, each_same}
 use Rattle.ref_process.proofs.PlaceRounds.{bury_onward, new_onward}
 use Rattle.ref_process.specs.DeskRows.{Crew, DeskRow, Adds, Begins, Finds, EndsMarking, TakesMade, Looks, EndsClearing}
-use Rattle.ref_process.specs.DeskRows.{Gets, Clears, Enqueues, Hands, Spends, Buries, IsRowBy, IsAnswered, after_row}
+use Rattle.ref_process.specs.DeskRows.{Gets, Clears, Enqueues, Hands, Spends, Buries, Relocates, IsRowBy, IsAnswered}
+use Rattle.ref_process.specs.DeskRows.{after_row}
 use Rattle.ref_process.specs.DeskRows.{lists_at, at_desk}
 use Rattle.ref_process.specs.Desks.{Desk, with_made_key, made_reference, after_finding, death_refusal}
 use Rattle.ref_process.specs.Looks.{reads_in, is_dying, cut_in, after_get, after_clear, after_look, after_look_at}
@@ -107,7 +109,7 @@ look_touches marked d (k ∷ ks) =
     look_at_touches marked (record d { listed = d.listed - 1 }) k (reference_under d.places k) refl
 
 pub buries_onward : (d : Desk) (k : Key) (o : Option Reference) → reference_under d.places k ≡ o
-    → death_refusal d k ≡ None → EachOnward d.places (buried d.places k)
+    → death_refusal d k ≡ None → EachOnward true d.places (buried d.places k)
 buries_onward d k None is allowed = grind (arith, cases_eq)
 buries_onward d k (Some r) is allowed = bury_onward d.places k r is
 
@@ -123,11 +125,16 @@ finding_places d Nothing = refl
 
 -- ---- and by each row
 
+-- whether all objects stay where they are
+abbrev pub stands : DeskRow → Bool
+stands (Relocates to) = false
+stands row = true
+
 module _ (marked : ℕ → Bool) (c : Crew) where
   pub after_onward : (row : DeskRow) → IsAnswered marked c row
-      → EachOnward c.desk.places (after_row marked c row).desk.places
+      → EachOnward (stands row) c.desk.places (after_row marked c row).desk.places
   after_onward (Adds k owner strength referent queue x) is =
-      subst (EachOnward c.desk.places)
+      subst (EachOnward true c.desk.places)
       (sym (made_key_places
       (record c.desk {
         places = with_new c.desk.places k (made_reference c.desk owner strength referent queue);
@@ -135,7 +142,7 @@ module _ (marked : ℕ → Bool) (c : Crew) where
       (new_onward c.desk.places k is.1 (made_reference c.desk owner strength referent queue) refl)
   after_onward (Begins now _ n) is = each_same c.desk.places
   after_onward (Finds i k x) is =
-      subst (EachOnward c.desk.places) (sym (finding_places c.desk x)) (each_same c.desk.places)
+      subst (EachOnward true c.desk.places) (sym (finding_places c.desk x)) (each_same c.desk.places)
   after_onward EndsMarking is = each_same c.desk.places
   after_onward (TakesMade i) is = each_same c.desk.places
   after_onward (Looks i l q) is =
@@ -158,7 +165,10 @@ module _ (marked : ℕ → Bool) (c : Crew) where
       touch_onward c.desk.places (after_row marked c (Spends k)).desk.places
       (spend_touches c.desk k (at_desk c k) refl)
   after_onward (Buries k) is = buries_onward c.desk k (reference_under c.desk.places k) refl is
+  after_onward (Relocates to) is = moved_onward to c.desk.places
 
-  pub row_onward : (row : DeskRow) (e : Crew) → IsRowBy marked c row e → EachOnward c.desk.places e.desk.places
+  pub row_onward : (row : DeskRow) (e : Crew) → IsRowBy marked c row e
+      → EachOnward (stands row) c.desk.places e.desk.places
   row_onward row e leads =
-      subst (λ (x : Crew). EachOnward c.desk.places x.desk.places) (sym leads.1) (after_onward row leads.0)
+      subst (λ (x : Crew). EachOnward (stands row) c.desk.places x.desk.places) (sym leads.1)
+      (after_onward row leads.0)

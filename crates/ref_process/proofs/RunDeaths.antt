@@ -1,7 +1,7 @@
 -- What a cycle clears was dead at its mark's end.
 use Rattle.std.proofs.Common.{arith, ◌≡◌, ◌≤◌, ◌∷◌, [], refl, subst, sym, ap, ◌∙◌, ℕ, Bool, true, false, List}
 use Rattle.std.proofs.Common.{Option, Some, None, inl, inr}
-use Rattle.std.proofs.lemmas.Bool.{cases_eq, or_cases, false≢true}
+use Rattle.std.proofs.lemmas.Bool.{cases_eq, or_cases, false≢true, true≢false}
 use Rattle.std.proofs.lemmas.Bool.Decides.{nat_tests}
 use Rattle.ref_base.specs.Graphs.{Graph}
 use Rattle.ref_base.specs.KeptPaths.{IsKept}
@@ -11,13 +11,14 @@ use Rattle.ref_process.proofs.ListedKeys.{AllListed, AreKnown, after_listed, new
 use Rattle.ref_process.proofs.ListedKeys.{enqueue_steady, look_steady, hand_steady, spend_steady, run_known}
 use Rattle.ref_process.proofs.ListedKeys.{new_are_known}
 use Rattle.ref_process.proofs.MarkedPaths.{kept_is_marked}
-use Rattle.ref_process.proofs.PlaceRounds.{Onward, same, changed, dead, made, EachOnward}
-use Rattle.ref_process.proofs.Readings.{first_unmarked}
-use Rattle.ref_process.proofs.RowChanges.{row_onward}
+use Rattle.ref_process.proofs.PlaceRounds.{Onward, same, changed, dead, made, moved, EachOnward}
+use Rattle.ref_process.proofs.Readings.{first_unmarked, clearing_by}
+use Rattle.ref_process.proofs.RowChanges.{stands, row_onward}
 use Rattle.ref_process.proofs.RunOrder.{at_key}
 use Rattle.ref_process.specs.CycleRows.{new_crew, clears_key, was_cleared_by, RefersUnmarked, IsOfTheDead}
 use Rattle.ref_process.specs.DeskRows.{Crew, DeskRow, Adds, Begins, Finds, EndsMarking, TakesMade, Looks, EndsClearing}
-use Rattle.ref_process.specs.DeskRows.{Gets, Clears, Enqueues, Hands, Spends, Buries, IsAnswered, after_row, IsRowBy}
+use Rattle.ref_process.specs.DeskRows.{Gets, Clears, Enqueues, Hands, Spends, Buries, Relocates, IsAnswered, after_row}
+use Rattle.ref_process.specs.DeskRows.{IsRowBy}
 use Rattle.ref_process.specs.DeskRows.{lists_at, at_desk, looked_key, IsRunBy, IsDeskRun}
 use Rattle.ref_process.specs.Desks.{Desk, is_marking, is_clearing, made_reference, after_finding}
 use Rattle.ref_process.specs.Desks.{with_made_key}
@@ -72,6 +73,7 @@ module _ (marked : ℕ → Bool) (c : Crew) where
   after_cycle (Hands i x) = grind (arith, (hand_steady marked c.desk (lists_at c i).pending).cycle)
   after_cycle (Spends k) = grind (arith, (spend_steady marked c.desk k (at_desk c k)).cycle)
   after_cycle (Buries k) = grind arith
+  after_cycle (Relocates to) = grind arith
 
   -- once a mark has ended, there is none until the next cycle begins
   pub after_late : (row : DeskRow) → IsAnswered marked c row → is_marking c.desk.phase ≡ false
@@ -96,8 +98,44 @@ module _ (marked : ℕ → Bool) (c : Crew) where
       ap is_marking (hand_steady marked c.desk (lists_at c i).pending).phase ∙ late
   after_late (Spends k) is late within = ap is_marking (spend_steady marked c.desk k (at_desk c k)).phase ∙ late
   after_late (Buries k) is late within = late
+  after_late (Relocates to) is late within = late
 
-  -- and nothing is listed anew
+  -- a clearing was one before, once the mark has ended
+  pub after_clears : (row : DeskRow) → IsAnswered marked c row → is_marking c.desk.phase ≡ false
+      → is_clearing (after_row marked c row).desk.phase ≡ true → is_clearing c.desk.phase ≡ true
+  after_clears (Adds k owner strength referent queue x) is late clears =
+      sym
+      (ap is_clearing
+      (made_key_phase
+      (record c.desk { places = with_new c.desk.places k (made_reference c.desk owner strength referent queue) }) k x))
+      ∙ clears
+  after_clears (Begins now u n) is late clears = absurd (true≢false (sym clears))
+  after_clears (Finds i k x) is late clears = absurd (grind (arith, cases_eq, late, is.1))
+  after_clears EndsMarking is late clears = absurd (grind (arith, cases_eq, late, is))
+  after_clears (TakesMade i) is late clears = clears
+  after_clears (Looks i l q) is late clears =
+      sym (ap is_clearing (look_steady marked c.desk (lists_at c i).found).phase) ∙ clears
+  after_clears EndsClearing is late clears = absurd (true≢false (sym clears))
+  after_clears (Gets k got) is late clears =
+      sym (ap is_clearing (get_steady marked c.desk k (at_desk c k)).phase) ∙ clears
+  after_clears (Clears k) is late clears =
+      sym (ap is_clearing (clear_steady marked c.desk k (at_desk c k)).phase) ∙ clears
+  after_clears (Enqueues k x) is late clears =
+      sym (ap is_clearing (enqueue_steady marked c.desk k (at_desk c k)).phase) ∙ clears
+  after_clears (Hands i x) is late clears =
+      sym (ap is_clearing (hand_steady marked c.desk (lists_at c i).pending).phase) ∙ clears
+  after_clears (Spends k) is late clears =
+      sym (ap is_clearing (spend_steady marked c.desk k (at_desk c k)).phase) ∙ clears
+  after_clears (Buries k) is late clears = clears
+  after_clears (Relocates to) is late clears = clears
+
+  -- no object moves in a clearing
+  pub clearing_stands : (row : DeskRow) → IsAnswered marked c row → is_clearing c.desk.phase ≡ true
+      → stands row ≡ true
+  clearing_stands (Relocates to) is clears = absurd (grind (arith, cases_eq, clears, is))
+  clearing_stands row is clears = grind arith
+
+  -- once a mark has ended, nothing is listed anew
   pub late_lists_none : (row : DeskRow) → IsAnswered marked c row → is_marking c.desk.phase ≡ false
       → newly_listed row ≡ []
   late_lists_none (Adds k owner strength referent queue x) is late =
@@ -114,13 +152,14 @@ module _ (marked : ℕ → Bool) (c : Crew) where
   late_lists_none (Hands i x) is late = refl
   late_lists_none (Spends k) is late = refl
   late_lists_none (Buries k) is late = refl
+  late_lists_none (Relocates to) is late = refl
 
 -- ---- what a reference refers to it referred to before
 
 abbrev pub RefersIn : Place → ℕ → ℕ → Type 0
 RefersIn p round h = (r : Reference) × (held_by p round ≡ Some r) × (r.referent ≡ Some h)
 
-pub place_before : (p q : Place) → Onward p q → (round h : ℕ) (t : Reference) → known_in p round ≡ true
+pub place_before : (p q : Place) → Onward true p q → (round h : ℕ) (t : Reference) → known_in p round ≡ true
     → held_by q round ≡ Some t → t.referent ≡ Some h → RefersIn p round h
 place_before p q (same is) round h t known held refers = (t, grind (arith, is, held), refers)
 place_before p q (changed r s was is rounds goes) round h t known held refers =
@@ -132,6 +171,7 @@ place_before p q (changed r s was is rounds goes) round h t known held refers =
 place_before p q (dead empty rounds) round h t known held refers = absurd (grind (arith, cases_eq, empty, held))
 place_before p q (made s was is rounds untold) round h t known held refers =
     absurd (grind (arith, nat_tests, cases_eq, was, rounds, held, known))
+place_before p q (moved r s was is rounds queue told moves) round h t known held refers = absurd (true≢false moves)
 
 -- ---- since a mark's end
 
@@ -140,22 +180,29 @@ pub record IsSince (c z : Crew) : Type 0 where
   pub late : is_marking z.desk.phase ≡ false
   pub listed : AllListed (is_known c.desk.places) z
   pub known : (k : Key) → is_known c.desk.places k ≡ true → is_known z.desk.places k ≡ true
+  -- as long as it clears: afterwards objects may move
   pub refers :
-      (k : Key) (h : ℕ) (t : Reference) → is_known c.desk.places k ≡ true → at_desk z k ≡ Some t
-      → t.referent ≡ Some h → RefersIn (place_at c.desk.places k.place) k.round h
+      is_clearing z.desk.phase ≡ true → (k : Key) (h : ℕ) (t : Reference) → is_known c.desk.places k ≡ true
+      → at_desk z k ≡ Some t → t.referent ≡ Some h → RefersIn (place_at c.desk.places k.place) k.round h
 
 pub since_itself : (c : Crew) → is_marking c.desk.phase ≡ false → AreKnown c → IsSince c c
 since_itself c late known = record {
   late = late;
   listed = known;
   known = λ k is. is;
-  refers = λ k h t is at refers. (t, at, refers);
+  refers = λ clears k h t is at refers. (t, at, refers);
 }
+
+pub row_clears : (marked : ℕ → Bool) (c : Crew) (row : DeskRow) (e : Crew) → IsRowBy marked c row e
+    → is_marking c.desk.phase ≡ false → is_clearing e.desk.phase ≡ true → is_clearing c.desk.phase ≡ true
+row_clears marked c row e leads late clears =
+    after_clears marked c row leads.0 late
+    (subst (λ (x : Crew). is_clearing x.desk.phase ≡ true) leads.1 clears)
 
 pub since_after : (marked : ℕ → Bool) (c z y : Crew) (row : DeskRow) → IsSince c z → IsRowBy marked z row y
     → y.desk.cycle ≤ z.desk.cycle → IsSince c y
 since_after marked c z y row since leads within =
-    let onward : EachOnward z.desk.places y.desk.places = row_onward marked z row y leads in
+    let onward : EachOnward (stands row) z.desk.places y.desk.places = row_onward marked z row y leads in
     record {
       late =
           subst (λ (x : Crew). is_marking x.desk.phase ≡ false) (sym leads.1)
@@ -165,11 +212,15 @@ since_after marked c z y row since leads within =
           subst (AllListed (is_known c.desk.places)) (sym leads.1)
           (after_listed (is_known c.desk.places) marked z since.listed row leads.0
           (ap (all_keys (is_known c.desk.places)) (late_lists_none marked z row leads.0 since.late)));
-      known = λ k is. each_known z.desk.places y.desk.places onward k (since.known k is);
-      refers = λ k h t is at refers.
+      known = λ k is. each_known (stands row) z.desk.places y.desk.places onward k (since.known k is);
+      refers = λ clears k h t is at refers.
+          let clearing : is_clearing z.desk.phase ≡ true = row_clears marked z row y leads since.late clears in
+          let still : EachOnward true z.desk.places y.desk.places =
+          subst (λ b. EachOnward b z.desk.places y.desk.places) (clearing_stands marked z row leads.0 clearing)
+          onward in
           let before : RefersIn (place_at z.desk.places k.place) k.round h =
-          place_before (place_at z.desk.places k.place) (place_at y.desk.places k.place) (onward k.place) k.round h t
-          (since.known k is) at refers in since.refers k h before.0 is before.1 before.2;
+          place_before (place_at z.desk.places k.place) (place_at y.desk.places k.place) (still k.place) k.round h t
+          (since.known k is) at refers in since.refers clearing k h before.0 is before.1 before.2;
     }
 
 pub row_cycle : (marked : ℕ → Bool) (c : Crew) (row : DeskRow) (e : Crew) → IsRowBy marked c row e
@@ -201,12 +252,12 @@ pub dead_of : (p : Policy) (g : Graph) (o : Option Reference) (r : Reference) (h
 dead_of p g o r h is refers kept_not = subst (IsOfTheDead p g) (sym is) (h, refers, kept_not)
 
 pub unmarked_dead : (p : Policy) (g : Graph) (marked : ℕ → Bool) → MarksKept p g marked → (c z : Crew) → IsSince c z
-    → (k : Key) (o : Option Reference) → at_desk z k ≡ o → is_known c.desk.places k ≡ true → RefersUnmarked marked o
-    → IsOfTheDead p g (at_desk c k)
-unmarked_dead p g marked promise c z since k None is known refers = absurd refers
-unmarked_dead p g marked promise c z since k (Some r) is known refers =
+    → is_clearing z.desk.phase ≡ true → (k : Key) (o : Option Reference) → at_desk z k ≡ o
+    → is_known c.desk.places k ≡ true → RefersUnmarked marked o → IsOfTheDead p g (at_desk c k)
+unmarked_dead p g marked promise c z since clears k None is known refers = absurd refers
+unmarked_dead p g marked promise c z since clears k (Some r) is known refers =
     let before : RefersIn (place_at c.desk.places k.place) k.round refers.0 =
-    since.refers k refers.0 r known is refers.1 in
+    since.refers clears k refers.0 r known is refers.1 in
     dead_of p g (at_desk c k) before.0 refers.0 before.1 before.2
     (λ kept. false≢true (sym refers.2 ∙ kept_is_marked p g marked promise refers.0 kept))
 
@@ -215,7 +266,8 @@ module _ (p : Policy) (g : Graph) (marked : ℕ → Bool) (promise : MarksKept p
       → clears_key k row ≡ true → IsOfTheDead p g (at_desk c k)
   row_dead z (Looks i (Cleared j) q) y since leads is =
       subst (λ x. IsOfTheDead p g (at_desk c x)) (sym (key_is k j is))
-      (unmarked_dead p g marked promise c z since j (at_desk z j) refl
+      (unmarked_dead p g marked promise c z since
+      (ap is_clearing (clearing_by z.desk.phase z.desk refl leads.0.1)) j (at_desk z j) refl
       (first_listed (is_known c.desk.places) marked z.desk.places (lists_at z i).found (Cleared j) leads.0.2
       (since.listed.found i))
       (first_unmarked marked z.desk.places (lists_at z i).found j leads.0.2))

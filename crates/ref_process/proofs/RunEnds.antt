@@ -8,7 +8,7 @@ use Rattle.std.specs.Prelude.{slice_index_or, slice_set}
 use Rattle.ref_process.proofs.KnownKeys.{key_is}
 use Rattle.ref_process.proofs.ListedKeys.{look_at_found, hand_found, look_steady, hand_steady, get_steady, clear_steady}
 use Rattle.ref_process.proofs.ListedKeys.{enqueue_steady, spend_steady}
-use Rattle.ref_process.proofs.RunDeaths.{after_late, row_cycle, run_cycle, clearing_late}
+use Rattle.ref_process.proofs.RunDeaths.{after_late, row_clears, row_cycle, run_cycle, clearing_late}
 use Rattle.ref_process.proofs.ListCounts.{all_found, IsCounted, row_counted, run_counted, none_counted}
 use Rattle.ref_process.proofs.PlaceRounds.{Touches, untouched, touched, GoesOn, bury_here, new_here}
 use Rattle.ref_process.proofs.Readings.{same_under, other_under, bury_under, new_under}
@@ -16,7 +16,8 @@ use Rattle.ref_process.proofs.RowChanges.{get_touches, clear_touches, enqueue_to
 use Rattle.ref_process.proofs.RowChanges.{spend_touches, made_key_places, finding_places}
 use Rattle.ref_process.specs.CycleRows.{has_key, any_lists, is_listed, AreReported, makes_marked, make_marked, new_crew}
 use Rattle.ref_process.specs.DeskRows.{Crew, DeskRow, Adds, Begins, Finds, EndsMarking, TakesMade, Looks, EndsClearing}
-use Rattle.ref_process.specs.DeskRows.{Gets, Clears, Enqueues, Hands, Spends, Buries, IsAnswered, after_row, IsRowBy}
+use Rattle.ref_process.specs.DeskRows.{Gets, Clears, Enqueues, Hands, Spends, Buries, Relocates, IsAnswered, after_row}
+use Rattle.ref_process.specs.DeskRows.{IsRowBy}
 use Rattle.ref_process.specs.DeskRows.{lists_at, at_desk, with_finder, IsRunBy, IsDeskRun}
 use Rattle.ref_process.specs.Desks.{Desk, FinderLists, new_lists, death_refusal, made_reference, lists_taking}
 use Rattle.ref_process.specs.Desks.{is_marking, is_clearing, clear_end_refusal, with_made_key}
@@ -104,40 +105,42 @@ death_backs d j (Some r) is allowed = bury_backs d.places j r is
 
 module _ (marked : ℕ → Bool) (c : Crew) where
   -- what a row makes refers to what is marked, and else a reference refers to nothing new
-  pub after_backs : (row : DeskRow) → IsAnswered marked c row → makes_marked marked row ≡ true → (k : Key) (h : ℕ)
-      → marked h ≡ false → HasReferent (after_row marked c row).desk.places k h → HasReferent c.desk.places k h
-  after_backs (Adds j owner strength referent queue x) is makes k h white has =
+  pub after_backs : (row : DeskRow) → IsAnswered marked c row → is_clearing c.desk.phase ≡ true
+      → makes_marked marked row ≡ true → (k : Key) (h : ℕ) → marked h ≡ false
+      → HasReferent (after_row marked c row).desk.places k h → HasReferent c.desk.places k h
+  after_backs (Adds j owner strength referent queue x) is clears makes k h white has =
       new_backs marked c.desk.places j is.1 (made_reference c.desk owner strength referent queue) referent refl makes k
       h white
       (subst (λ ps. HasReferent ps k h)
       (made_key_places
       (record c.desk { places = with_new c.desk.places j (made_reference c.desk owner strength referent queue) }) j x)
       has)
-  after_backs (Begins now u n) is makes k h white has = has
-  after_backs (Finds i j x) is makes k h white has =
+  after_backs (Begins now u n) is clears makes k h white has = has
+  after_backs (Finds i j x) is clears makes k h white has =
       subst (λ ps. HasReferent ps k h) (finding_places c.desk x) has
-  after_backs EndsMarking is makes k h white has = has
-  after_backs (TakesMade i) is makes k h white has = has
-  after_backs (Looks i l q) is makes k h white has =
+  after_backs EndsMarking is clears makes k h white has = has
+  after_backs (TakesMade i) is clears makes k h white has = has
+  after_backs (Looks i l q) is clears makes k h white has =
       touch_backs c.desk.places (after_row marked c (Looks i l q)).desk.places
       (look_touches marked c.desk (lists_at c i).found) k h has
-  after_backs EndsClearing is makes k h white has = has
-  after_backs (Gets j got) is makes k h white has =
+  after_backs EndsClearing is clears makes k h white has = has
+  after_backs (Gets j got) is clears makes k h white has =
       touch_backs c.desk.places (after_row marked c (Gets j got)).desk.places
       (get_touches marked c.desk j (at_desk c j) refl) k h has
-  after_backs (Clears j) is makes k h white has =
+  after_backs (Clears j) is clears makes k h white has =
       touch_backs c.desk.places (after_row marked c (Clears j)).desk.places
       (clear_touches marked c.desk j (at_desk c j) refl) k h has
-  after_backs (Enqueues j x) is makes k h white has =
+  after_backs (Enqueues j x) is clears makes k h white has =
       touch_backs c.desk.places (after_row marked c (Enqueues j x)).desk.places
       (enqueue_touches marked c.desk j (at_desk c j) refl) k h has
-  after_backs (Hands i x) is makes k h white has =
+  after_backs (Hands i x) is clears makes k h white has =
       touch_backs c.desk.places (after_row marked c (Hands i x)).desk.places
       (hand_touches c.desk (lists_at c i).pending) k h has
-  after_backs (Spends j) is makes k h white has =
+  after_backs (Spends j) is clears makes k h white has =
       touch_backs c.desk.places (after_row marked c (Spends j)).desk.places
       (spend_touches c.desk j (at_desk c j) refl) k h has
-  after_backs (Buries j) is makes k h white has = death_backs c.desk j (at_desk c j) refl is k h has
+  after_backs (Buries j) is clears makes k h white has = death_backs c.desk j (at_desk c j) refl is k h has
+  after_backs (Relocates to) is clears makes k h white has = absurd (grind (arith, cases_eq, clears, is))
 
 -- ---- what is to be looked at
 
@@ -293,15 +296,16 @@ module _ (marked : ℕ → Bool) (c : Crew) (late : is_marking c.desk.phase ≡ 
       same_listed marked c k (after_spend c.desk j (at_desk c j)) (spend_steady marked c.desk j (at_desk c j)).made
       listed
   after_lists (Buries j) is has listed = listed
+  after_lists (Relocates to) is has listed = listed
 
 pub row_reported : (marked : ℕ → Bool) (c : Crew) (row : DeskRow) (e : Crew) → IsRowBy marked c row e
-    → is_marking c.desk.phase ≡ false → makes_marked marked row ≡ true → AreReported marked c → AreReported marked e
-row_reported marked c row e leads late makes reported =
+    → is_clearing c.desk.phase ≡ true → makes_marked marked row ≡ true → AreReported marked c → AreReported marked e
+row_reported marked c row e leads clears makes reported =
     subst (AreReported marked) (sym leads.1)
     (λ k r h is refers white.
     let before : HasReferent c.desk.places k h =
-    after_backs marked c row leads.0 makes k h white (r, is, refers) in
-    after_lists marked c late k h white row leads.0 (r, is, refers)
+    after_backs marked c row leads.0 clears makes k h white (r, is, refers) in
+    after_lists marked c (clearing_late c.desk.phase clears) k h white row leads.0 (r, is, refers)
     (reported k before.0 h before.1 before.2 white))
 
 -- ---- along the rows of a clearing
@@ -312,18 +316,32 @@ row_late marked c row e leads late within =
     subst (λ (x : Crew). is_marking x.desk.phase ≡ false) (sym leads.1)
     (after_late marked c row leads.0 late (subst (λ (x : Crew). x.desk.cycle ≤ c.desk.cycle) leads.1 within))
 
+-- what clears at its end cleared from the first
+pub run_clears : (marked : ℕ → Bool) (rows : List DeskRow) (c e : Crew) → IsRunBy marked c rows e
+    → is_marking c.desk.phase ≡ false → e.desk.cycle ≤ c.desk.cycle → is_clearing e.desk.phase ≡ true
+    → is_clearing c.desk.phase ≡ true
+run_clears marked [] c e run late within clears =
+    subst (λ (x : Crew). is_clearing x.desk.phase ≡ true) run clears
+run_clears marked (row ∷ rest) c e run late within clears =
+    let later : run.0.desk.cycle ≤ e.desk.cycle = run_cycle marked rest run.0 e run.2 in
+    let first : c.desk.cycle ≤ run.0.desk.cycle = row_cycle marked c row run.0 run.1 in
+    row_clears marked c row run.0 run.1 late
+    (run_clears marked rest run.0 e run.2
+    (row_late marked c row run.0 run.1 late (omega (arith, later, within))) (omega (arith, first, within)) clears)
+
 pub run_reported : (marked : ℕ → Bool) (rows : List DeskRow) (c e : Crew) → IsRunBy marked c rows e
-    → is_marking c.desk.phase ≡ false → e.desk.cycle ≤ c.desk.cycle → make_marked marked rows ≡ true
-    → AreReported marked c → IsCounted c → AreReported marked e × IsCounted e
-run_reported marked [] c e run late within makes reported counted =
+    → is_marking c.desk.phase ≡ false → e.desk.cycle ≤ c.desk.cycle → is_clearing e.desk.phase ≡ true
+    → make_marked marked rows ≡ true → AreReported marked c → IsCounted c → AreReported marked e × IsCounted e
+run_reported marked [] c e run late within clears makes reported counted =
     (subst (AreReported marked) (sym run) reported, subst IsCounted (sym run) counted)
-run_reported marked (row ∷ rest) c e run late within makes reported counted =
+run_reported marked (row ∷ rest) c e run late within clears makes reported counted =
     let later : run.0.desk.cycle ≤ e.desk.cycle = run_cycle marked rest run.0 e run.2 in
     let first : c.desk.cycle ≤ run.0.desk.cycle = row_cycle marked c row run.0 run.1 in
     run_reported marked rest run.0 e run.2
-    (row_late marked c row run.0 run.1 late (omega (arith, later, within))) (omega (arith, first, within))
+    (row_late marked c row run.0 run.1 late (omega (arith, later, within))) (omega (arith, first, within)) clears
     (grind (arith, cases_eq, makes))
-    (row_reported marked c row run.0 run.1 late (grind (arith, cases_eq, makes)) reported)
+    (row_reported marked c row run.0 run.1 (run_clears marked (row ∷ rest) c e run late within clears)
+    (grind (arith, cases_eq, makes)) reported)
     (row_counted marked c row run.0 run.1 counted)
 
 -- ---- at its end
@@ -331,6 +349,9 @@ run_reported marked (row ∷ rest) c e run late within makes reported counted =
 pub ended_none : (d : Desk) → clear_end_refusal d ≡ None → (d.listed ≡ 0) × (length d.made ≡ 0)
 ended_none d allowed =
     (grind (arith, nat_tests, cases_eq, eqb-true), grind (arith, nat_tests, cases_eq, eqb-true))
+
+pub ended_clears : (d : Desk) → clear_end_refusal d ≡ None → is_clearing d.phase ≡ true
+ended_clears d allowed = grind (arith, cases_eq)
 
 pub none_listed : (e : Crew) → IsCounted e → clear_end_refusal e.desk ≡ None → (k : Key) → is_listed e k ≡ false
 none_listed e counted allowed k =
@@ -355,7 +376,8 @@ pub ends_marked : (marked : ℕ → Bool) (span : ℕ) (workers : List ℕ) (bef
     → at_desk f k ≡ Some r → r.referent ≡ Some h → marked h ≡ true
 ends_marked marked span workers before c history clearing reported rows e run within makes f ends k r h is refers =
     let later : AreReported marked e × IsCounted e =
-    run_reported marked rows c e run (clearing_late c.desk.phase clearing) (omega (arith, within)) makes reported
+    run_reported marked rows c e run (clearing_late c.desk.phase clearing) (omega (arith, within))
+    (ended_clears e.desk ends.0) makes reported
     (run_counted before (new_crew span workers) c history (none_counted workers)) in
     white_absurd marked e later.0 later.1 ends.0 k r h
     (subst (λ (x : Crew). at_desk x k ≡ Some r) ends.1 is) refers

@@ -1,10 +1,10 @@
 -- What stays of a key: it is past for good, and its queue stays.
-use Rattle.std.proofs.Common.{arith, ◌≡◌, ◌<◌, ◌∷◌, [], refl, subst, sym, ℕ, List, Option}
+use Rattle.std.proofs.Common.{arith, ◌≡◌, ◌<◌, ◌∷◌, [], refl, subst, sym, ℕ, Bool, List, Option}
 use Rattle.std.proofs.Common.{Some, None, ◌⊎◌, inl, inr}
 use Rattle.std.proofs.lemmas.Bool.{cases_eq, eqb-true}
-use Rattle.ref_process.proofs.PlaceRounds.{Onward, same, changed, dead, made, EachOnward, rounds_rise, past_none}
-use Rattle.ref_process.proofs.PlaceRounds.{bury_here}
-use Rattle.ref_process.proofs.RowChanges.{row_onward}
+use Rattle.ref_process.proofs.PlaceRounds.{Onward, same, changed, dead, made, moved, EachOnward, rounds_rise}
+use Rattle.ref_process.proofs.PlaceRounds.{past_none, bury_here}
+use Rattle.ref_process.proofs.RowChanges.{stands, row_onward}
 use Rattle.ref_process.specs.DeskRows.{Crew, DeskRow, IsDeskRow, IsDeskRun, Buries, at_desk}
 use Rattle.ref_process.specs.Desks.{Desk, death_refusal}
 use Rattle.ref_process.specs.Places.{place_at, reference_under, held_by, buried}
@@ -13,26 +13,29 @@ use Rattle.ref_process.specs.declared.key.Key.{Key}
 use Rattle.ref_process.specs.declared.place.Place.{Place}
 use Rattle.ref_process.specs.declared.place.Reference.{Reference}
 
-pub past_stays : (ps qs : List Place) → EachOnward ps qs → (k : Key) → IsBygone ps k → IsBygone qs k
-past_stays ps qs onward k past =
-    grind (arith, rounds_rise (place_at ps k.place) (place_at qs k.place) (onward k.place))
+pub past_stays : (still : Bool) (ps qs : List Place) → EachOnward still ps qs → (k : Key) → IsBygone ps k
+    → IsBygone qs k
+past_stays still ps qs onward k past =
+    grind (arith, rounds_rise still (place_at ps k.place) (place_at qs k.place) (onward k.place))
 
 -- a reference is there later with its queue, or its key is past
 abbrev pub StaysOrPast : Place → ℕ → Reference → Type 0
 StaysOrPast q round r = ((s : Reference) × (held_by q round ≡ Some s) × (s.queue ≡ r.queue)) ⊎ (round < q.round)
 
-pub place_stays : (p q : Place) → Onward p q → (round : ℕ) (r : Reference) → held_by p round ≡ Some r
-    → StaysOrPast q round r
-place_stays p q (same is) round r held = inl (r, grind (arith, is), refl)
-place_stays p q (changed t s was is rounds goes) round r held =
+pub place_stays : (still : Bool) (p q : Place) → Onward still p q → (round : ℕ) (r : Reference)
+    → held_by p round ≡ Some r → StaysOrPast q round r
+place_stays still p q (same is) round r held = inl (r, grind (arith, is), refl)
+place_stays still p q (changed t s was is rounds goes) round r held =
     inl (s, grind (arith, cases_eq, eqb-true), grind (arith, cases_eq, goes.queue))
-place_stays p q (dead empty rounds) round r held = inr (grind (arith, cases_eq, eqb-true))
-place_stays p q (made s was is rounds untold) round r held = absurd (grind (arith, cases_eq))
+place_stays still p q (dead empty rounds) round r held = inr (grind (arith, cases_eq, eqb-true))
+place_stays still p q (made s was is rounds untold) round r held = absurd (grind (arith, cases_eq))
+place_stays still p q (moved t s was is rounds queue told moves) round r held =
+    inl (s, grind (arith, cases_eq, eqb-true), grind (arith, cases_eq, queue))
 
 pub row_stays : (c : Crew) (row : DeskRow) (e : Crew) → IsDeskRow c row e → (k : Key) (r : Reference)
     → at_desk c k ≡ Some r → StaysOrPast (place_at e.desk.places k.place) k.round r
 row_stays c row e leads k r is =
-    place_stays (place_at c.desk.places k.place) (place_at e.desk.places k.place)
+    place_stays (stands row) (place_at c.desk.places k.place) (place_at e.desk.places k.place)
     (row_onward leads.0 c row e leads.1 k.place) k.round r is
 
 pub run_past : (rows : List DeskRow) (c e : Crew) → IsDeskRun c rows e → (k : Key) → IsBygone c.desk.places k
@@ -40,7 +43,7 @@ pub run_past : (rows : List DeskRow) (c e : Crew) → IsDeskRun c rows e → (k 
 run_past [] c e run k past = subst (λ (x : Crew). IsBygone x.desk.places k) (sym run) past
 run_past (row ∷ rest) c e run k past =
     run_past rest run.0 e run.2 k
-    (past_stays c.desk.places run.0.desk.places (row_onward run.1.0 c row run.0 run.1.1) k past)
+    (past_stays (stands row) c.desk.places run.0.desk.places (row_onward run.1.0 c row run.0 run.1.1) k past)
 
 -- ---- the queue
 

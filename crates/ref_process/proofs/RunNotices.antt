@@ -4,11 +4,13 @@ use Rattle.std.proofs.Common.{Some, None, if◌then◌else◌, nat_lt, ◌==◌}
 use Rattle.std.proofs.lemmas.Bool.{cases_eq, eqb-true}
 use Rattle.std.proofs.lemmas.Bool.Decides.{nat_tests}
 use Rattle.ref_base.specs.declared.cause.Cause.TheVariants.{Own}
-use Rattle.ref_process.proofs.PlaceRounds.{Onward, same, changed, dead, made, EachOnward, GoesOn, put_onward, put_here}
+use Rattle.ref_process.proofs.PlaceRounds.{Onward, same, changed, dead, made, moved, EachOnward, GoesOn, put_onward}
+use Rattle.ref_process.proofs.PlaceRounds.{put_here}
 use Rattle.ref_process.proofs.PlaceRounds.{under_held, under_round}
-use Rattle.ref_process.proofs.RowChanges.{after_onward, cut_on, told_on, on_trans}
+use Rattle.ref_process.proofs.RowChanges.{stands, after_onward, cut_on, told_on, on_trans}
 use Rattle.ref_process.specs.DeskRows.{Crew, DeskRow, Adds, Begins, Finds, EndsMarking, TakesMade, Looks, EndsClearing}
-use Rattle.ref_process.specs.DeskRows.{Gets, Clears, Enqueues, Hands, Spends, Buries, IsAnswered, after_row, IsDeskRow}
+use Rattle.ref_process.specs.DeskRows.{Gets, Clears, Enqueues, Hands, Spends, Buries, Relocates, IsAnswered, after_row}
+use Rattle.ref_process.specs.DeskRows.{IsDeskRow}
 use Rattle.ref_process.specs.DeskRows.{lists_at, at_desk, IsDeskRun}
 use Rattle.ref_process.specs.Desks.{Desk}
 use Rattle.ref_process.specs.Looks.{cut_in}
@@ -33,16 +35,20 @@ abbrev pub left_untold : List Place → Key → ℕ
 left_untold ps k = untold (place_at ps k.place) k.round
 
 -- the number never rises
-pub untold_falls : (p q : Place) → Onward p q → (round : ℕ) → untold q round ≤ untold p round
-untold_falls p q (same is) round = grind (arith, is)
-untold_falls p q (changed r s was is rounds goes) round =
+pub untold_falls : (still : Bool) (p q : Place) → Onward still p q → (round : ℕ) → untold q round ≤ untold p round
+untold_falls still p q (same is) round = grind (arith, is)
+untold_falls still p q (changed r s was is rounds goes) round =
     grind (arith, nat_tests, cases_eq, was, is, rounds, goes.told)
-untold_falls p q (dead empty rounds) round = grind (arith, nat_tests, cases_eq, empty, rounds)
-untold_falls p q (made s was is rounds untold_yet) round =
+untold_falls still p q (dead empty rounds) round = grind (arith, nat_tests, cases_eq, empty, rounds)
+untold_falls still p q (made s was is rounds untold_yet) round =
     grind (arith, nat_tests, cases_eq, was, is, rounds, untold_yet)
+untold_falls still p q (moved r s was is rounds queue told moves) round =
+    grind (arith, nat_tests, cases_eq, was, is, rounds, told)
 
-pub each_falls : (ps qs : List Place) → EachOnward ps qs → (k : Key) → left_untold qs k ≤ left_untold ps k
-each_falls ps qs onward k = untold_falls (place_at ps k.place) (place_at qs k.place) (onward k.place) k.round
+pub each_falls : (still : Bool) (ps qs : List Place) → EachOnward still ps qs → (k : Key)
+    → left_untold qs k ≤ left_untold ps k
+each_falls still ps qs onward k =
+    untold_falls still (place_at ps k.place) (place_at qs k.place) (onward k.place) k.round
 
 pub in_most : (o : Option Reference) → untold_in o ≤ 1
 in_most None = grind arith
@@ -70,13 +76,13 @@ module _ (ps : List Place) (j : Key) (r : Reference) (is : reference_under ps j 
       grind (
         arith,
         cases_eq,
-        each_falls ps (put_at ps j s) (put_onward ps j r is s goes) k,
+        each_falls true ps (put_at ps j s) (put_onward ps j r is s goes) k,
         was_untold,
         is_told_then s,
       )
 
   pub tells_none : (s : Reference) → GoesOn r s → 0 + left_untold (put_at ps j s) k ≤ left_untold ps k
-  tells_none s goes = grind (arith, each_falls ps (put_at ps j s) (put_onward ps j r is s goes) k)
+  tells_none s goes = grind (arith, each_falls true ps (put_at ps j s) (put_onward ps j r is s goes) k)
 
 pub enqueue_with : (marked : ℕ → Bool) (d : Desk) (j : Key) (r : Reference) → reference_under d.places j ≡ Some r
     → (k : Key) (m : Option ℕ) → notice_queue r ≡ m
@@ -130,7 +136,7 @@ module _ (marked : ℕ → Bool) (c : Crew) (k : Key) where
   quiet row is =
       grind (
         arith,
-        each_falls c.desk.places (after_row marked c row).desk.places (after_onward marked c row is) k,
+        each_falls (stands row) c.desk.places (after_row marked c row).desk.places (after_onward marked c row is) k,
       )
 
   pub after_tells : (row : DeskRow) → IsAnswered marked c row
@@ -155,6 +161,7 @@ module _ (marked : ℕ → Bool) (c : Crew) (k : Key) where
       (sym is.1) (hand_tells c.desk (lists_at c i).worker (lists_at c i).pending k)
   after_tells (Spends j) is = quiet (Spends j) is
   after_tells (Buries j) is = quiet (Buries j) is
+  after_tells (Relocates to) is = quiet (Relocates to) is
 
 pub row_tells : (c : Crew) (row : DeskRow) (e : Crew) → IsDeskRow c row e → (k : Key)
     → told_by k row + left_untold e.desk.places k ≤ left_untold c.desk.places k

@@ -4,7 +4,8 @@ use Rattle.std.proofs.Common.{List, Option, Some, None, length, is_some, if◌th
 use Rattle.std.proofs.lemmas.Bool.{cases_eq, eq-eqb, eqb-true, ne_eqb}
 use Rattle.std.proofs.lemmas.List.{append-nil, map-append, get_or-set_same, get_or-set_other}
 use Rattle.ref_process.specs.DeskRows.{Crew, DeskRow, Adds, Begins, Finds, EndsMarking, TakesMade, Looks, EndsClearing}
-use Rattle.ref_process.specs.DeskRows.{Gets, Clears, Enqueues, Hands, Spends, Buries, IsAnswered, after_row, IsDeskRow}
+use Rattle.ref_process.specs.DeskRows.{Gets, Clears, Enqueues, Hands, Spends, Buries, Relocates, IsAnswered, after_row}
+use Rattle.ref_process.specs.DeskRows.{IsDeskRow}
 use Rattle.ref_process.specs.DeskRows.{lists_at, IsDeskRun, queue_under, looked_key, with_finder}
 use Rattle.ref_process.specs.Desks.{Desk, FinderLists, new_lists, lists_finding}
 use Rattle.ref_process.specs.Looks.{is_dying, look_through, look_at, look_first, lists_look, lists_look_at}
@@ -177,6 +178,7 @@ module _ (marked : ℕ → Bool) (c : Crew) (i : ℕ) where
       ]
   in_order (Spends j) is = grind (arith, append-nil)
   in_order (Buries j) is = grind (arith, append-nil)
+  in_order (Relocates to) is = grind (arith, append-nil)
 
 pub row_order : (c : Crew) (row : DeskRow) (e : Crew) → IsDeskRow c row e → (i : ℕ)
     → passed_by i row ++ pending_keys (lists_at e i).pending ≡ pending_keys (lists_at c i).pending ++ queued_by i row

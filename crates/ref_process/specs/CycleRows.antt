@@ -6,7 +6,7 @@ use Rattle.ref_base.specs.declared.cause.Cause.{Cause}
 use Rattle.ref_base.specs.declared.cause.Cause.TheVariants.{Own, Cycle}
 use Rattle.ref_base.specs.declared.policy.Policy.{Policy}
 use Rattle.ref_process.specs.DeskRows.{Crew, DeskRow, Adds, Begins, Finds, EndsMarking, TakesMade, Looks, EndsClearing}
-use Rattle.ref_process.specs.DeskRows.{Gets, Clears, Enqueues, Hands, Spends, Buries, at_desk}
+use Rattle.ref_process.specs.DeskRows.{Gets, Clears, Enqueues, Hands, Spends, Buries, Relocates, at_desk}
 use Rattle.ref_process.specs.Desks.{FinderLists, new_desk, new_lists}
 use Rattle.ref_process.specs.RowTallies.{same_key}
 use Rattle.ref_process.specs.declared.handed.Handed.{Handed}
@@ -20,7 +20,7 @@ use Rattle.ref_process.specs.declared.place.Reference.{Reference}
 abbrev pub new_crew : ℕ → List ℕ → Crew
 new_crew span workers = record { desk = new_desk span; finders = map new_lists workers }
 
--- the rows that may change what the key's reference reads as: ends of marks and of clearings, and its own
+-- the rows that may change what the key's reference reads as: ends of marks and of clearings, moves, and its own
 abbrev pub may_change : Key → DeskRow → Bool
 may_change k (Adds j owner strength referent queue x) = same_key k j
 may_change k (Begins _ _ n) = false
@@ -35,6 +35,7 @@ may_change k (Enqueues j x) = same_key k j
 may_change k (Hands i x) = false
 may_change k (Spends j) = false
 may_change k (Buries j) = same_key k j
+may_change k (Relocates to) = true
 
 abbrev pub is_clear_of : Key → Looked → Bool
 is_clear_of k (Cleared j) = same_key k j

@@ -12,6 +12,7 @@ use Rattle.ref_process.specs.Desks.{after_begin, after_mark, after_taking, lists
 use Rattle.ref_process.specs.Looks.{got_of, after_get, after_clear, look_first, after_look, lists_look}
 use Rattle.ref_process.specs.Notices.{enqueued_of, after_enqueue, handed_first, after_hand, lists_hand, after_spend}
 use Rattle.ref_process.specs.Places.{reference_under, is_new_key}
+use Rattle.ref_process.specs.Relocations.{relocation_refusal, after_relocation}
 use Rattle.ref_process.specs.declared.found.Found.{Found}
 use Rattle.ref_process.specs.declared.handed.Handed.{Handed}
 use Rattle.ref_process.specs.declared.key.Key.{Key}
@@ -46,6 +47,8 @@ pub data DeskRow : Type 0 where
   Hands : ℕ → Handed → DeskRow
   Spends : Key → DeskRow
   Buries : Key → DeskRow
+  -- where the object of each handle is now
+  Relocates : (ℕ → ℕ) → DeskRow
 
 abbrev pub queue_under : Option Reference → Option ℕ
 queue_under None = None
@@ -89,6 +92,7 @@ module _ (marked : ℕ → Bool) where
       (i < length c.finders) × (x ≡ handed_first c.desk.places (lists_at c i).worker (lists_at c i).pending)
   IsAnswered c (Spends k) = is_some (at_desk c k) ≡ true
   IsAnswered c (Buries k) = death_refusal c.desk k ≡ None
+  IsAnswered c (Relocates to) = relocation_refusal c.desk ≡ None
 
   -- what the call leaves
   abbrev pub after_row : Crew → DeskRow → Crew
@@ -109,6 +113,7 @@ module _ (marked : ℕ → Bool) where
       with_finder c (after_hand c.desk (lists_at c i).pending) i (lists_hand (lists_at c i) (lists_at c i).pending)
   after_row c (Spends k) = with_desk c (after_spend c.desk k (at_desk c k))
   after_row c (Buries k) = with_desk c (after_death c.desk k)
+  after_row c (Relocates to) = with_desk c (after_relocation to c.desk)
 
   -- the row leads from the one to the other
   abbrev pub IsRowBy : Crew → DeskRow → Crew → Type 0

@@ -1,5 +1,6 @@
 pub mod Places
 pub mod Desks
+pub mod Relocations
 pub mod Looks
 pub mod Notices
 pub mod DeskRows
@@ -9,3 +10,5 @@ pub mod CycleRows
 pub mod NoticeQueues
 pub mod NoticeRows
 pub mod HandBatches
+pub mod NoticePlaces
+pub mod Renamings

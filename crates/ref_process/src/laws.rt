@@ -1,22 +1,25 @@
-//! What holds of each run of a processor; `queues` says what does of a queue of notices, `batches` of those that are
-//! handed on at once.
+//! What holds of each run of a processor. `queues` is about a queue of notices, `batches` about what is handed on at
+//! once, and `places` about where notices are.
 
 pub mod batches;
+pub mod places;
 pub mod queues;
 
-ghost use Rattle.std.specs.Prelude.{◌≡◌, ◌≤◌, ◌++◌, ℕ, Bool, true, false, not, List, Option, Some, None};
+ghost use Rattle.std.specs.Prelude.{◌≡◌, ◌≤◌, ◌++◌, ℕ, Bool, true, false, not, List, map, Option, Some, None};
 ghost use Rattle.ref_base.specs.DoomedSets.{MayDoom};
 ghost use Rattle.ref_base.specs.Graphs.{Graph};
 ghost use Rattle.ref_base.specs.KeptPaths.{IsKept};
 ghost use Rattle.ref_base.specs.Members.{has};
 ghost use Rattle.ref_base.specs.declared.policy.Policy.{Policy};
 ghost use Rattle.ref_process.specs.DeskRows.{Crew, DeskRow, IsDeskRow, IsDeskRun, Buries, at_desk, lists_at};
-ghost use Rattle.ref_process.specs.DeskRows.{IsRowBy, IsRunBy, Looks, EndsMarking, EndsClearing};
+ghost use Rattle.ref_process.specs.DeskRows.{IsRowBy, IsRunBy, Looks, EndsMarking, EndsClearing, Relocates};
 ghost use Rattle.ref_process.specs.CycleRows.{AreReported, make_marked, was_noticed};
 ghost use Rattle.ref_process.specs.CycleRows.{may_change, RefersUnmarked, new_crew, was_cleared_by, IsOfTheDead};
-ghost use Rattle.ref_process.specs.Desks.{is_clearing};
-ghost use Rattle.ref_process.specs.Looks.{reads};
+ghost use Rattle.ref_process.specs.Desks.{is_clearing, owner_of, owed_owners};
+ghost use Rattle.ref_process.specs.Looks.{reads, refers_to};
 ghost use Rattle.ref_process.specs.Promises.{MarksKept};
+ghost use Rattle.ref_process.specs.Relocations.{relocated_handle, relocated_held};
+ghost use Rattle.ref_process.specs.Renamings.{renamed_crew, renamed_rows};
 ghost use Rattle.ref_process.specs.RowTallies.{times_told, passed_on, queued_clears, pending_keys};
 ghost use Rattle.ref_process.specs.declared.key.Key.{Key};
 ghost use Rattle.ref_process.specs.declared.looked.Looked.TheVariants.{Cleared};
@@ -60,13 +63,51 @@ pub fn what_a_look_clears_is_not_marked()
 {}
 
 /// Where the marker answers one thing all along: what references read as changes at the ends of marks, for all of them
-/// at once, and at the ends of clearings. Else it changes by a reference's own making, `clear`, `enqueue` and death
-/// alone. No look and no handing on changes it.
+/// at once, at the ends of clearings, and where objects have moved. Else it changes by a reference's own making,
+/// `clear`, `enqueue` and death alone. No look and no handing on changes it.
 // promise: Processor::clear_next, Processor::hand, Processor::get: what a reference reads as changes at one instant
 pub fn what_a_reference_reads_as_changes_at_one_instant()
     ensures { (marked : ℕ → Bool) (c : Crew) (row : DeskRow) (e : Crew) → IsRowBy marked c row e
         → (k : Key) → may_change k row ≡ false
         → reads marked e.desk (at_desk e k) ≡ reads marked c.desk (at_desk c k) }
+{}
+
+/// Where objects have moved, each key has the reference that it had, whose owner and referent are where they are now.
+/// What it reads as is where that object is now. Nothing else of a reference changes, and no key is made or ends.
+// promise: Processor::relocate: owners and referents of all references follow what moves, and nothing else changes
+pub fn references_follow_what_moves()
+    ensures references { (marked : ℕ → Bool) (c : Crew) (to : ℕ → ℕ) (e : Crew) → IsRowBy marked c (Relocates to) e
+        → (k : Key) → at_desk e k ≡ relocated_held to (at_desk c k) }
+    ensures readings { (marked : ℕ → Bool) (c : Crew) (to : ℕ → ℕ) (e : Crew) → IsRowBy marked c (Relocates to) e
+        → (k : Key) → reads marked e.desk (at_desk e k) ≡ relocated_handle to (reads marked c.desk (at_desk c k)) }
+{}
+
+/// A run is the same by other handles, if no two objects have one: the calls are answered the same, and leave the same,
+/// but for the handles. What `relocate` leaves is the processor by other handles, so what comes later goes on as if
+/// nothing had moved.
+// promise: Processor::relocate, Processor::add, Processor::found, Processor::get: no answer hangs on a handle's number
+pub fn a_run_is_the_same_by_other_handles()
+    ensures by_one_marker { (to from : ℕ → ℕ) → ((h : ℕ) → from (to h) ≡ h)
+        → (marked : ℕ → Bool) (c : Crew) (rows : List DeskRow) (e : Crew) → IsRunBy marked c rows e
+        → IsRunBy (λ h. marked (from h)) (renamed_crew to c) (renamed_rows to from rows) (renamed_crew to e) }
+    ensures by_any { (to from : ℕ → ℕ) → ((h : ℕ) → from (to h) ≡ h)
+        → (c : Crew) (rows : List DeskRow) (e : Crew) → IsDeskRun c rows e
+        → IsDeskRun (renamed_crew to c) (renamed_rows to from rows) (renamed_crew to e) }
+{}
+
+/// What is only asked is the same by other handles too: whether a reference refers to an object, which its owner is,
+/// and which owners are roots.
+// promise: Processor::refers_to, Processor::owner, Processor::roots: no answer hangs on a handle's number
+pub fn what_is_asked_is_the_same_by_other_handles()
+    ensures refers { (to from : ℕ → ℕ) → ((h : ℕ) → from (to h) ≡ h)
+        → (marked : ℕ → Bool) (c : Crew) (k : Key) (h : Option ℕ)
+        → refers_to (λ g. marked (from g)) (renamed_crew to c).desk (at_desk (renamed_crew to c) k)
+        (relocated_handle to h)
+        ≡ refers_to marked c.desk (at_desk c k) h }
+    ensures owner { (to : ℕ → ℕ) (c : Crew) (k : Key)
+        → owner_of (at_desk (renamed_crew to c) k) ≡ relocated_handle to (owner_of (at_desk c k)) }
+    ensures roots { (to : ℕ → ℕ) (c : Crew)
+        → owed_owners (renamed_crew to c).desk.places ≡ map to (owed_owners c.desk.places) }
 {}
 
 /// With the promise, what a kept path reaches is marked.

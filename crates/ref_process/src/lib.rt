@@ -1,5 +1,5 @@
 //! A reference processor for a runtime that has a heap and a marker of its own. The runtime's objects are handles, with
-//! which nothing is done but to ask whether they are marked, and to give them back.
+//! which nothing is done but to ask whether they are marked, or where they have moved, and to give them back.
 //!
 //! A **processor** has a record for each reference: its referent, its queue, how strong it is. Its **key** names it for
 //! as long as it lives, and nothing afterwards. In a mark, the runtime's marker tells which references it came upon; a
@@ -21,6 +21,7 @@ mod key;
 pub mod laws;
 mod looked;
 mod marks;
+mod moves;
 mod notice;
 mod notice_queue;
 mod phase;
@@ -36,6 +37,7 @@ pub use handle::Handle;
 pub use key::Key;
 pub use looked::Looked;
 pub use marks::Marks;
+pub use moves::Moves;
 pub use notice::Notice;
 pub use notice_queue::{NoticePolled, NoticePut, NoticeQueue};
 pub use phase::Phase;

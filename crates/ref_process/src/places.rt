@@ -2,8 +2,10 @@
 
 ghost use Rattle.std.specs.Prelude.{◌≡◌, ◌<◌, ◌||◌, [], true, not, nat_lt, is_some, length, IfOk, OnErr};
 ghost use Rattle.ref_process.specs.Places.{reference_under, is_new_key, any_vacancy, put_at, with_new, buried};
+ghost use Rattle.ref_process.specs.Relocations.{relocated_handle, relocated_reference, relocated_place};
+ghost use Rattle.ref_process.specs.Relocations.{relocated_places};
 
-use crate::{Key, Place, Reference};
+use crate::{Handle, Key, Moves, Place, Reference};
 use std::alloc::{AllocError, Allocator, Global};
 use std::marker::Model;
 
@@ -116,4 +118,50 @@ impl<A: Allocator + Copy> Places<A> {
             self.free.push_reserved(key.place);
         }
     }
+
+    /// Objects have moved: each owner and each referent is where this says. Takes no memory. In time of the places.
+    pub(crate) fn relocate<M: Moves>(&mut self, moves: &M)
+        ensures { self.new ≡ relocated_places (M.moved_to moves.now) self.old }
+    {
+        relocate_all(&mut self.places, moves);
+    }
+}
+
+// The references of these places have moved.
+fn relocate_all<M: Moves>(places: &mut [Place], moves: &M)
+    ensures { places.new ≡ relocated_places (M.moved_to moves.now) places.old }
+{
+    for place in places.iter_mut() {
+        *place = relocated_place(*place, moves);
+    }
+}
+
+// The place, whose reference has moved.
+fn relocated_place<M: Moves>(place: Place, moves: &M) -> Place
+    ensures { result ≡ relocated_place (M.moved_to moves.now) place }
+{
+    Place {
+        round: place.round,
+        held: place
+            .held
+            .map(|reference| relocated_reference(reference, moves)),
+    }
+}
+
+// The reference with its owner and its referent where they are now.
+fn relocated_reference<M: Moves>(reference: Reference, moves: &M) -> Reference
+    ensures { result ≡ relocated_reference (M.moved_to moves.now) reference }
+{
+    Reference {
+        owner: relocated_handle(reference.owner, moves),
+        referent: relocated_handle(reference.referent, moves),
+        ..reference
+    }
+}
+
+// The handle that the object has now, if there is one.
+fn relocated_handle<M: Moves>(handle: Option<Handle>, moves: &M) -> Option<Handle>
+    ensures { result ≡ relocated_handle (M.moved_to moves.now) handle }
+{
+    handle.map(|handle| moves.moved_to(handle))
 }

@@ -4,6 +4,7 @@ mod batches;
 mod clearing;
 mod finding;
 mod making;
+mod moving;
 mod reading;
 
 ghost use Rattle.std.specs.Prelude.{◌≡◌, ◌+◌, IfOk, IfErr, OnOk, OnErr, Some, None};

@@ -11,8 +11,8 @@ use std::alloc::Allocator;
 use std::collections::VecDeque;
 
 impl<A: Allocator + Copy> Processor<A> {
-    /// The queue of the first reference that this worker cleared and has not handed on. None where nothing is pending.
-    /// In constant time.
+    /// The queue of the first reference that this worker cleared and has not handed on. None where nothing is pending,
+    /// or the first is of no reference that is here, or of one without a queue. In constant time.
     pub fn next_queue(&self, finder: &Finder<A>) -> Option<QueueNo>
         ensures { result ≡ next_queue self.now.places finder.now.pending }
     {
