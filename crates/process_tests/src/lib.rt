@@ -11,6 +11,8 @@ mod bench;
 #[cfg(test)]
 mod cycles;
 #[cfg(test)]
+mod faults;
+#[cfg(test)]
 mod memory;
 #[cfg(test)]
 mod moved;
